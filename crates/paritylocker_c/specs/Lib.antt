@@ -1,0 +1,2 @@
+-- What the functions of the C interface answer.
+pub mod Answers

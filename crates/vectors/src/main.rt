@@ -1,0 +1,8 @@
+// Runs every worked value of the documents and prints a line for each, with what was expected. The lines are held to the file
+// `stdout`.
+mod arithmetic;
+mod report;
+
+fn main() {
+    arithmetic::run();
+}
