@@ -1,0 +1,4 @@
+-- What a stripe means: its equations, tables of equations, and that any k shards determine the rest.
+pub mod Sum
+pub mod Stripe
+pub mod Table
