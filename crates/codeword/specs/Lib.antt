@@ -2,3 +2,9 @@
 pub mod Sum
 pub mod Stripe
 pub mod Table
+pub mod Unit
+pub mod Chosen
+pub mod Minors
+pub mod Unique
+pub mod Liars
+pub mod Mend

@@ -8,6 +8,7 @@ use native.Mathlib.Nat.{eq-or-lt-of-le, le-of-suc-le-suc, add-zero, add-suc}
 use native.Mathlib.Omega.{arith}
 use lib.Dec.{lit<, eqb}
 use lib.Bits.{bitXor}
+use borrow.Author.Tests.{eq-eqb, ne-eqb, eqb-false}
 use Rattle.algebra.specs.Ring.{_⊕_, _⊗_}
 use Rattle.algebra.specs.Field.{X, Y, Z, P}
 use Rattle.field.specs.Field.{mulOf}
@@ -69,6 +70,48 @@ total-split n (suc m) f =
     ∙ ap (λ (x : ℕ). bitXor x (f (n + m))) (total-split n m f)
     ∙ bytes .add-assoc (total n f) (total m (λ i. f (n + i))) (f (n + m))
 
--- the term at a by itself
+-- f, but 0 at a
 unfoldable pub except : ℕ → (ℕ → ℕ) → ℕ → ℕ
 except a f i = cond (eqb i a) 0 (f i)
+
+pub except-at : (a : ℕ) (f : ℕ → ℕ) → except a f a ≡ 0
+unfolding except
+except-at a f = ap (λ (b : Bool). cond b 0 (f a)) (eq-eqb a a refl)
+
+pub except-off : (a i : ℕ) (f : ℕ → ℕ) → i ≢ a → except a f i ≡ f i
+unfolding except
+except-off a i f n = ap (λ (b : Bool). cond b 0 (f i)) (ne-eqb i a n)
+
+pub except-byte : (a : ℕ) (f : ℕ → ℕ) → ((i : ℕ) → f i < 256) → (i : ℕ) → except a f i < 256
+unfolding except
+except-byte a f h i = go (eqb i a)
+  where
+    go : (b : Bool) → cond b 0 (f i) < 256
+    go true = lit< tt
+    go false = h i
+
+-- two functions that agree but at a
+pub except-ext : (a : ℕ) (f g : ℕ → ℕ) (i : ℕ) → (i ≢ a → f i ≡ g i) → except a f i ≡ except a g i
+unfolding except
+except-ext a f g i h = go (eqb i a) refl
+  where
+    go : (b : Bool) → eqb i a ≡ b → cond b 0 (f i) ≡ cond b 0 (g i)
+    go true e = refl
+    go false e = h (eqb-false i a e)
+
+-- the term at a by itself, and the others
+pub total-except : (n a : ℕ) (f : ℕ → ℕ) → a < n → total n f ≡ bitXor (f a) (total n (except a f))
+unfolding total
+total-except zero a f h = absurd (omega arith)
+total-except (suc n) a f h = go (eq-or-lt-of-le (le-of-suc-le-suc h)) (λ l. total-except n a f l)
+  where
+    go : (a ≡ n) ⊎ (a < n) → (a < n → total n f ≡ bitXor (f a) (total n (except a f)))
+        → bitXor (total n f) (f n) ≡ bitXor (f a) (bitXor (total n (except a f)) (except a f n))
+    go (inl e) ih =
+        ap₂ bitXor (total-ext n f (except a f) (λ i l. sym (except-off a i f (λ q. omega arith)))) (ap f (sym e))
+        ∙ bytes .add-comm (total n (except a f)) (f a)
+        ∙ ap (bitXor (f a))
+        (sym (ap (bitXor (total n (except a f))) (ap (except a f) (sym e) ∙ except-at a f) ∙ bytes .add-zero (total n (except a f))))
+    go (inr l) ih =
+        ap₂ bitXor (ih l) (sym (except-off a n f (λ q. omega arith)))
+        ∙ bytes .add-assoc (f a) (total n (except a f)) (except a f n)

@@ -2,7 +2,9 @@
 // `stdout`.
 mod arithmetic;
 mod report;
+mod stripe;
 
 fn main() {
     arithmetic::run();
+    stripe::run();
 }

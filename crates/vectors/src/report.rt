@@ -44,3 +44,27 @@ pub fn count(name: &[u8], computed: u64, expected: u64) {
     io::print_decimal(STDOUT_FILENO, expected);
     verdict(computed == expected);
 }
+
+fn wide(x: u8) -> u64 {
+    x as u64
+}
+
+fn hex_all(bytes: &[u8]) {
+    let mut i = 0;
+    while i < bytes.len() {
+        text(b" ");
+        io::print_hex(STDOUT_FILENO, wide(bytes[i]), 2);
+        i += 1;
+    }
+}
+
+// Bytes in hexadecimal.
+pub fn bytes(name: &[u8], computed: &[u8], expected: &[u8]) {
+    text(b"  ");
+    text(name);
+    text(b" =");
+    hex_all(computed);
+    text(b", expected");
+    hex_all(expected);
+    verdict(check::same(computed, expected));
+}

@@ -1,0 +1,72 @@
+-- What encode, rebuild, scrub and repair do to a stripe, in the words of document 01, sections 2 to 4. Assumes nothing.
+use mathlib.Core.Path.{_≡_}
+use mathlib.Core.Bool.{Bool, true, false}
+use mathlib.Core.List.{List, [], _∷_}
+use mathlib.Core.Logic.{_≢_}
+use Prim.Native.Nat.{ℕ, _+_, _*_, _≤_, _<_}
+use lib.ListN.{length, getD}
+use Rattle.field.specs.declared.Answer.{Answer}
+use Rattle.field.specs.declared.Answer.the-variants.{Done, Refused}
+use Rattle.field.specs.declared.Refusal.{Refusal}
+use Rattle.field.specs.declared.Refusal.the-variants.{BadShape}
+use Rattle.codeword.specs.Stripe.{byteAt, Sound, has, AgreeOff, Agree}
+use Rattle.codeword.specs.Unique.{AllBytes}
+use Rattle.codeword.specs.Mend.{Mended}
+use Rattle.code.specs.Shape.{shapedOf, encodeAnswer, rebuildAnswer}
+use Rattle.code.specs.declared.Verdict.{Verdict}
+use Rattle.code.specs.declared.Verdict.the-variants as verdict
+
+-- encode: the data shards stay, and the stripe is sound
+pub record Encoded (k m len : ℕ) (answer : Answer) (before after : List ℕ) : Type 0 where
+  pub answers : answer ≡ encodeAnswer k m len (length before)
+  pub same : length after ≡ length before
+  pub refused : (x : Refusal) → answer ≡ Refused x → after ≡ before
+  pub kept : answer ≡ Done → (r : ℕ) → r < k → (p : ℕ) → p < len → byteAt len after p r ≡ byteAt len before p r
+  pub sound : answer ≡ Done → Sound k m len after
+
+-- rebuild, where the survivors contradict each other: it goes by k of them, the surviving data shards and as many surviving parity
+-- shards as are wanted. The others, `spare j`, it doesn't look at: a sound stripe that has the k shards has the shards filled in
+pub record GoesBy (k m len : ℕ) (missing before after : List ℕ) : Type 0 where
+  pub spare : ℕ → ℕ
+  pub parity : (j : ℕ) → length missing ≤ j → j < m → (k ≤ spare j) × (spare j < k + m)
+  pub distinct : (i j : ℕ) → length missing ≤ i → i < m → length missing ≤ j → j < m → spare i ≡ spare j → i ≡ j
+  pub survives : (j : ℕ) → length missing ≤ j → j < m → (c : ℕ) → c < length missing → spare j ≢ getD missing c 0
+  pub fixed : (o : List ℕ) → AllBytes o → Sound k m len o
+      → ((r : ℕ) → r < k + m → has missing r ≡ false → ((j : ℕ) → length missing ≤ j → j < m → r ≢ spare j) → (p : ℕ) → p < len
+      → byteAt len before p r ≡ byteAt len o p r)
+      → (c : ℕ) → c < length missing → (p : ℕ) → p < len → byteAt len after p (getD missing c 0) ≡ byteAt len o p (getD missing c 0)
+
+-- rebuild: the survivors stay, and every sound stripe that has these survivors is the result. With m missing the result is sound,
+-- whatever the survivors are
+pub record Rebuilt (k m len : ℕ) (missing : List ℕ) (answer : Answer) (before after : List ℕ) : Type 0 where
+  pub answers : answer ≡ rebuildAnswer k m len (length before) missing
+  pub same : length after ≡ length before
+  pub refused : (x : Refusal) → answer ≡ Refused x → after ≡ before
+  pub survivors : answer ≡ Done → AgreeOff (k + m) len missing after before
+  pub rebuilt : answer ≡ Done → (o : List ℕ) → AllBytes o → Sound k m len o → AgreeOff (k + m) len missing before o → Agree (k + m) len after o
+  pub sound : answer ≡ Done → length missing ≡ m → Sound k m len after
+  pub goes-by : answer ≡ Done → GoesBy k m len missing before after
+
+-- there is a content for shard r, a byte for each position, with which all equations hold
+abbrev pub Accuses : ℕ → ℕ → ℕ → List ℕ → ℕ → Type 0
+Accuses k m len s r = (r < k + m) × ((p : ℕ) → p < len → Mended k m (byteAt len s p) r)
+
+-- scrub: sound; or not, and a shard is accused; or not, and none is
+abbrev pub Says : ℕ → ℕ → ℕ → List ℕ → Verdict → Type 0
+Says k m len s (verdict.Refused x) = (shapedOf k m len (length s) ≡ false) × (x ≡ BadShape)
+Says k m len s verdict.Sound = (shapedOf k m len (length s) ≡ true) × Sound k m len s
+Says k m len s (verdict.Accused r) = (shapedOf k m len (length s) ≡ true) × (Sound k m len s → ⊥) × (2 ≤ m) × Accuses k m len s r
+Says k m len s verdict.Unsound =
+    (shapedOf k m len (length s) ≡ true) × (Sound k m len s → ⊥) × (2 ≤ m → (r : ℕ) → Accuses k m len s r → ⊥)
+
+-- repair: what scrub says of the stripe as it was; an accused shard, and nothing else, gets the content that makes the stripe sound
+abbrev pub Mends : ℕ → ℕ → ℕ → Verdict → List ℕ → List ℕ → Type 0
+Mends k m len (verdict.Refused x) before after = after ≡ before
+Mends k m len verdict.Sound before after = after ≡ before
+Mends k m len verdict.Unsound before after = after ≡ before
+Mends k m len (verdict.Accused r) before after =
+    (length after ≡ length before) × AgreeOff (k + m) len (r ∷ []) before after × Sound k m len after
+
+pub record Repaired (k m len : ℕ) (v : Verdict) (before after : List ℕ) : Type 0 where
+  pub says : Says k m len before v
+  pub mends : Mends k m len v before after
