@@ -29,6 +29,48 @@ uint32_t pl_mul(uint8_t a, uint8_t b);
 /* The quotient, 0 to 255; 256 + PL_ZERO where b is 0. */
 uint32_t pl_div(uint8_t a, uint8_t b);
 
+/* ---- one stripe: k data shards and m parity shards of len bytes, one behind the other; shard r begins at r * len.
+ * 2 <= k <= 16, 1 <= m <= 3, 1 <= len <= 4096, and stripe_len is exactly (k + m) * len; else PL_BAD_SHAPE. A refusal changes no
+ * byte. Nothing but the stripe is ever written. */
+
+#define PL_SOUND 256u   /* all equations hold */
+#define PL_ACCUSED 512u /* + r: they would with another content of shard r alone (m >= 2) */
+#define PL_UNSOUND 768u /* they don't hold, and no shard is accused: m = 1, or more than one is wrong */
+
+/* The parity shards become those of the data shards, which stay. 0, or PL_BAD_SHAPE. */
+uint32_t pl_encode(size_t k, size_t m, size_t len, uint8_t *stripe, size_t stripe_len);
+
+/* Fills in the missing shards, `count` numbers of one byte each, from the others, which are read and never written; what stands in
+ * the place of a missing shard doesn't matter. 0; PL_BAD_SHAPE; PL_TOO_MANY where count is more than m; PL_BAD_SHARD where a number
+ * is k + m or more, or named twice. An empty list succeeds and changes nothing. Survivors that contradict each other are not
+ * noticed: the result then goes by the surviving data shards and as many surviving parity shards as are wanted, the first ones
+ * where the list ascends. */
+uint32_t pl_rebuild(size_t k, size_t m, size_t len, const uint8_t *missing, size_t count, uint8_t *stripe, size_t stripe_len);
+
+/* PL_SOUND, PL_ACCUSED + r, PL_UNSOUND, or PL_BAD_SHAPE. Writes nothing. */
+uint32_t pl_scrub(size_t k, size_t m, size_t len, const uint8_t *stripe, size_t stripe_len);
+
+/* Answers as pl_scrub; after PL_ACCUSED + r shard r has the one content that makes the stripe sound. Otherwise nothing changes. */
+uint32_t pl_repair(size_t k, size_t m, size_t len, uint8_t *stripe, size_t stripe_len);
+
+/* ---- checksums and labels */
+
+#define PL_BAD_IMAGE 10u /* a number out of range, or a size that isn't right */
+#define PL_NO_LABEL 11u  /* no valid label */
+
+/* CRC-32C: reflected, polynomial 0x82f63b78, start and final exclusive or 0xffffffff. */
+uint32_t pl_crc32c(const uint8_t *bytes, size_t len);
+
+/* Writes the label of these numbers, with its checksum, to a sector of 512 bytes. rebuilding is the slot being rebuilt, or 255.
+ * 0; PL_BAD_IMAGE where a number is out of range or sector_len isn't 512, and nothing changes. */
+uint32_t pl_label_encode(uint8_t k, uint8_t m, uint8_t slot, uint8_t c, uint32_t sectors, uint64_t shelf, uint64_t generation, uint32_t out,
+                         uint8_t rebuilding, uint32_t mark, uint8_t *sector, size_t sector_len);
+
+/* Reads a label of that slot from the sector that stands in that place (0 or 1). 0, with k, m, c, S, shelf, generation, out,
+ * rebuilding, mark in fields[0 .. 9); PL_BAD_IMAGE where sector_len isn't 512 or count isn't 9; PL_NO_LABEL where it is no valid
+ * label there. Where it isn't 0 nothing changes. */
+uint32_t pl_label_decode(uint8_t slot, uint8_t place, const uint8_t *sector, size_t sector_len, uint64_t *fields, size_t count);
+
 #ifdef __cplusplus
 }
 #endif

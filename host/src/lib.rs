@@ -6,15 +6,69 @@ mod c {
     extern "C" {
         pub fn pl_mul(a: u8, b: u8) -> u32;
         pub fn pl_div(a: u8, b: u8) -> u32;
+        pub fn pl_encode(k: usize, m: usize, len: usize, stripe: *mut u8, stripe_len: usize)
+            -> u32;
+        pub fn pl_rebuild(
+            k: usize,
+            m: usize,
+            len: usize,
+            missing: *const u8,
+            count: usize,
+            stripe: *mut u8,
+            stripe_len: usize,
+        ) -> u32;
+        pub fn pl_scrub(
+            k: usize,
+            m: usize,
+            len: usize,
+            stripe: *const u8,
+            stripe_len: usize,
+        ) -> u32;
+        pub fn pl_repair(k: usize, m: usize, len: usize, stripe: *mut u8, stripe_len: usize)
+            -> u32;
+        pub fn pl_crc32c(bytes: *const u8, len: usize) -> u32;
+        pub fn pl_label_encode(
+            k: u8,
+            m: u8,
+            slot: u8,
+            c: u8,
+            sectors: u32,
+            shelf: u64,
+            generation: u64,
+            out: u32,
+            rebuilding: u8,
+            mark: u32,
+            sector: *mut u8,
+            sector_len: usize,
+        ) -> u32;
+        pub fn pl_label_decode(
+            slot: u8,
+            place: u8,
+            sector: *const u8,
+            sector_len: usize,
+            fields: *mut u64,
+            count: usize,
+        ) -> u32;
     }
 }
 
-/// A refusal, by its fixed code.
+/// A refusal, by its fixed code. It changes no byte.
 #[derive(Clone, Copy, Debug, PartialEq, Eq)]
 pub struct Refusal(pub u32);
 
 impl Refusal {
+    /// k, m or a shard length out of range, or a buffer that isn't exactly as long as its shards.
+    pub const BAD_SHAPE: Refusal = Refusal(1);
+    /// More than m shards missing.
+    pub const TOO_MANY: Refusal = Refusal(2);
+    /// A shard number that is k + m or more, or named twice.
+    pub const BAD_SHARD: Refusal = Refusal(3);
+    /// A division by the field's zero.
     pub const ZERO: Refusal = Refusal(4);
+    /// A number of a label out of range, or a sector that isn't 512 bytes.
+    pub const BAD_IMAGE: Refusal = Refusal(10);
+    /// No valid label.
+    pub const NO_LABEL: Refusal = Refusal(11);
 }
 
 /// The field of 256 elements.
@@ -35,5 +89,164 @@ pub mod field {
             0..=255 => Ok(answer as u8),
             _ => Err(Refusal(answer - 256)),
         }
+    }
+}
+
+/// One stripe: k data shards and m parity shards of `len` bytes, one behind the other; shard r begins at r * len.
+/// 2 <= k <= 16, 1 <= m <= 3, 1 <= len <= 4096, and the stripe is exactly (k + m) * len bytes; else `BAD_SHAPE`.
+pub mod code {
+    use super::{c, Refusal};
+
+    /// What scrubbing finds.
+    #[derive(Clone, Copy, Debug, PartialEq, Eq)]
+    pub enum Verdict {
+        /// All equations hold.
+        Sound,
+        /// They don't, and would with another content of this shard alone (m >= 2).
+        Accused(usize),
+        /// They don't, and no shard is accused: m = 1, or more than one is wrong.
+        Unsound,
+    }
+
+    /// 0, or the refusal.
+    fn done(answer: u32) -> Result<(), Refusal> {
+        match answer {
+            0 => Ok(()),
+            _ => Err(Refusal(answer)),
+        }
+    }
+
+    /// 256 sound, 512 + r accused, 768 unsound, or the refusal.
+    fn verdict(answer: u32) -> Result<Verdict, Refusal> {
+        match answer {
+            256 => Ok(Verdict::Sound),
+            512..=767 => Ok(Verdict::Accused(answer as usize - 512)),
+            768 => Ok(Verdict::Unsound),
+            _ => Err(Refusal(answer)),
+        }
+    }
+
+    /// The parity shards become those of the data shards, which stay.
+    pub fn encode(k: usize, m: usize, len: usize, stripe: &mut [u8]) -> Result<(), Refusal> {
+        // SAFETY: the pointer and the length are one slice's, which is lent to this call alone.
+        done(unsafe { c::pl_encode(k, m, len, stripe.as_mut_ptr(), stripe.len()) })
+    }
+
+    /// Fills in the missing shards from the others, which stay; what stands in a missing shard's place doesn't matter. An empty
+    /// list succeeds and changes nothing. Survivors that contradict each other are not noticed: the result then goes by the
+    /// surviving data shards and as many surviving parity shards as are wanted.
+    pub fn rebuild(
+        k: usize,
+        m: usize,
+        len: usize,
+        missing: &[u8],
+        stripe: &mut [u8],
+    ) -> Result<(), Refusal> {
+        // SAFETY: each pointer and length are one slice's, and the stripe, lent to this call alone, overlaps no other slice.
+        done(unsafe {
+            c::pl_rebuild(
+                k,
+                m,
+                len,
+                missing.as_ptr(),
+                missing.len(),
+                stripe.as_mut_ptr(),
+                stripe.len(),
+            )
+        })
+    }
+
+    /// Whether the equations hold, and if not, which shard is accused.
+    pub fn scrub(k: usize, m: usize, len: usize, stripe: &[u8]) -> Result<Verdict, Refusal> {
+        // SAFETY: the pointer and the length are one slice's, which is only read.
+        verdict(unsafe { c::pl_scrub(k, m, len, stripe.as_ptr(), stripe.len()) })
+    }
+
+    /// Answers as `scrub`; an accused shard then has the one content that makes the stripe sound. Otherwise nothing changes.
+    pub fn repair(k: usize, m: usize, len: usize, stripe: &mut [u8]) -> Result<Verdict, Refusal> {
+        // SAFETY: the pointer and the length are one slice's, which is lent to this call alone.
+        verdict(unsafe { c::pl_repair(k, m, len, stripe.as_mut_ptr(), stripe.len()) })
+    }
+}
+
+/// Checksums, and the label of a disk.
+pub mod label {
+    use super::{c, Refusal};
+
+    /// A label's numbers; `sectors` is S, and `rebuilding` the slot being rebuilt or 255.
+    #[derive(Clone, Debug, PartialEq, Eq)]
+    pub struct Label {
+        pub k: u8,
+        pub m: u8,
+        pub slot: u8,
+        pub c: u8,
+        pub sectors: u32,
+        pub shelf: u64,
+        pub generation: u64,
+        pub out: u32,
+        pub rebuilding: u8,
+        pub mark: u32,
+    }
+
+    /// CRC-32C.
+    pub fn crc32c(bytes: &[u8]) -> u32 {
+        // SAFETY: the slice is whole, and only read.
+        unsafe { c::pl_crc32c(bytes.as_ptr(), bytes.len()) }
+    }
+
+    /// Writes a label to a sector of 512 bytes.
+    pub fn encode(l: &Label, sector: &mut [u8]) -> Result<(), Refusal> {
+        // SAFETY: the slice is whole, and lent to the call alone.
+        let answer = unsafe {
+            c::pl_label_encode(
+                l.k,
+                l.m,
+                l.slot,
+                l.c,
+                l.sectors,
+                l.shelf,
+                l.generation,
+                l.out,
+                l.rebuilding,
+                l.mark,
+                sector.as_mut_ptr(),
+                sector.len(),
+            )
+        };
+        match answer {
+            0 => Ok(()),
+            _ => Err(Refusal(answer)),
+        }
+    }
+
+    /// Reads the label of a slot from the sector that stands in that place, 0 or 1.
+    pub fn decode(slot: u8, place: u8, sector: &[u8]) -> Result<Label, Refusal> {
+        let mut f = [0u64; 9];
+        // SAFETY: both slices are whole, and `f` is lent to the call alone.
+        let answer = unsafe {
+            c::pl_label_decode(
+                slot,
+                place,
+                sector.as_ptr(),
+                sector.len(),
+                f.as_mut_ptr(),
+                f.len(),
+            )
+        };
+        if answer != 0 {
+            return Err(Refusal(answer));
+        }
+        Ok(Label {
+            k: f[0] as u8,
+            m: f[1] as u8,
+            slot,
+            c: f[2] as u8,
+            sectors: f[3] as u32,
+            shelf: f[4],
+            generation: f[5],
+            out: f[6] as u32,
+            rebuilding: f[7] as u8,
+            mark: f[8] as u32,
+        })
     }
 }

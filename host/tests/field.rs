@@ -4,7 +4,9 @@ use paritylocker::{field, Refusal};
 
 /// The product of polynomials over the integers modulo 2.
 fn carryless(a: u8, b: u8) -> u32 {
-    (0..8).filter(|i| b >> i & 1 == 1).fold(0, |sum, i| sum ^ (u32::from(a) << i))
+    (0..8)
+        .filter(|i| b >> i & 1 == 1)
+        .fold(0, |sum, i| sum ^ (u32::from(a) << i))
 }
 
 /// The remainder modulo x^8 + x^4 + x^3 + x^2 + 1.

@@ -72,11 +72,13 @@ pub blames-is : (k m len r : ℕ) (table stripe : List ℕ) (b : Bool) → 1 ≤
     → RowsZero 1 m (k + m) len table stripe b → Blamed k m len stripe r b
 blames-is k m len r table stripe true hm hr hb s z = (
   hr,
-  λ p hp. (
-    others (k + m) table 0 r (byteAt len stripe p),
-    others-byte (k + m) table 0 r (byteAt len stripe p),
-    mends k m r table s hm hr (byteAt len stripe p) (λ q. hb (q * len + p)) (λ j l h. z j l h p hp),
+  (
+    λ p. others (k + m) table 0 r (byteAt len stripe p),
+    λ p hp. (
+      others-byte (k + m) table 0 r (byteAt len stripe p),
+      mends k m r table s hm hr (byteAt len stripe p) (λ q. hb (q * len + p)) (λ j l h. z j l h p hp),
+    ),
   ),
 )
 blames-is k m len r table stripe false hm hr hb s z =
-    λ a. z .3 .2 (blamed k m r table s hm hr (byteAt len stripe (z .3 .0)) (λ q. hb (q * len + z .3 .0)) (a .1 (z .3 .0) (z .3 .1)) (z .0) (z .1) (z .2))
+    λ a. z .3 .2 (blamed k m r table s hm hr (byteAt len stripe (z .3 .0)) (λ q. hb (q * len + z .3 .0)) (a .1 .0 (z .3 .0), a .1 .1 (z .3 .0) (z .3 .1) .0, a .1 .1 (z .3 .0) (z .3 .1) .1) (z .0) (z .1) (z .2))

@@ -283,7 +283,7 @@ filled-mends k m len r before after hm bb ba a f = (f .same, λ q hq n p hp. sym
     row p j hp hj (inl q) = ap (λ (z : ℕ). rowSum (k + m) e z (byteAt len after p)) q ∙ f .rows 0 (lit< tt) p hp
     row p j hp hj (inr l) =
         same-row p j hp l hj
-        ∙ blamed k m r e (f .solved) hm (a .0) (byteAt len before p) (λ i. bb (i * len + p)) (a .1 p hp) j l hj
+        ∙ blamed k m r e (f .solved) hm (a .0) (byteAt len before p) (λ i. bb (i * len + p)) (a .1 .0 p, a .1 .1 p hp .0, a .1 .1 p hp .1) j l hj
 
     sound : Sound k m len after
     sound p hp = f .solved .same .back (byteAt len after p) (λ i. ba (i * len + p)) (λ j hj. row p j hp hj (eq-zero-or-pos j))

@@ -14,7 +14,7 @@ use borrow.Author.Tests.{eq-eqb, ne-eqb}
 use lib.Bits.{bitXor, xor-shifted, xor-comm, xor-zero-r}
 use Rattle.algebra.specs.Ring.{_⊗_}
 use Rattle.algebra.specs.Field.{X, Y, Z}
-use Rattle.field.specs.Xor.{bit-ind}
+use Rattle.bits.specs.Xor.{bit-ind}
 use Rattle.field.specs.Field.{mulOf, g, pick, reduction}
 use Rattle.field.specs.Power.{mul-g}
 use Rattle.field.specs.Bytes.{bytes}

@@ -16,3 +16,4 @@ pub mod Stripes
 pub mod Blame
 pub mod Filling
 pub mod Answering
+pub mod Exact

@@ -9,9 +9,9 @@ use Rattle.field.specs.declared.Answer.{Answer}
 use Rattle.field.specs.declared.Answer.the-variants.{Done, Refused}
 use Rattle.field.specs.declared.Refusal.{Refusal}
 use Rattle.field.specs.declared.Refusal.the-variants.{BadShape}
-use Rattle.codeword.specs.Stripe.{byteAt, Sound, has, AgreeOff, Agree}
+use Rattle.codeword.specs.Stripe.{byteAt, Holds, Sound, has, AgreeOff, Agree}
 use Rattle.codeword.specs.Unique.{AllBytes}
-use Rattle.codeword.specs.Mend.{Mended}
+use Rattle.codeword.specs.Mend.{put}
 use Rattle.code.specs.Shape.{shapedOf, encodeAnswer, rebuildAnswer}
 use Rattle.code.specs.declared.Verdict.{Verdict}
 use Rattle.code.specs.declared.Verdict.the-variants as verdict
@@ -47,9 +47,10 @@ pub record Rebuilt (k m len : ℕ) (missing : List ℕ) (answer : Answer) (befor
   pub sound : answer ≡ Done → length missing ≡ m → Sound k m len after
   pub goes-by : answer ≡ Done → GoesBy k m len missing before after
 
--- there is a content for shard r, a byte for each position, with which all equations hold
+-- there is a content v for shard r, a byte for each position, with which all equations hold
 abbrev pub Accuses : ℕ → ℕ → ℕ → List ℕ → ℕ → Type 0
-Accuses k m len s r = (r < k + m) × ((p : ℕ) → p < len → Mended k m (byteAt len s p) r)
+Accuses k m len s r =
+    (r < k + m) × ((v : ℕ → ℕ) × ((p : ℕ) → p < len → (v p < 256) × Holds k m (put r (v p) (byteAt len s p))))
 
 -- scrub: sound; or not, and a shard is accused; or not, and none is
 abbrev pub Says : ℕ → ℕ → ℕ → List ℕ → Verdict → Type 0

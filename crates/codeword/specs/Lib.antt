@@ -6,5 +6,6 @@ pub mod Unit
 pub mod Chosen
 pub mod Minors
 pub mod Unique
+pub mod Worked
 pub mod Liars
 pub mod Mend

@@ -9,7 +9,7 @@ use lib.Dec.{lit<}
 use lib.Bits.{bitXor, xor-comm, xor-self, xor-zero-r}
 use Rattle.algebra.specs.Ring.{Ring}
 use Rattle.algebra.specs.Field.{Field}
-use Rattle.field.specs.Xor.{xor-byte, xor-assoc}
+use Rattle.bits.specs.Xor.{xor-byte, xor-assoc}
 use Rattle.field.specs.Field.{mulOf, inverseOf, g, powerOf}
 use Rattle.field.specs.ByteField.{ByteField}
 use Rattle.field.specs.Product.{product-lt, product-comm, product-assoc, product-one, product-zero-left, product-add}

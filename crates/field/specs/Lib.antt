@@ -1,6 +1,4 @@
 -- The field of 256 elements.
-pub mod Xor
-pub mod Below
 pub mod Field
 pub mod Product
 pub mod Power

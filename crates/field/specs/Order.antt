@@ -6,7 +6,7 @@ use Prim.Native.Nat.{ℕ, zero, suc, _+_, _-_, _<_}
 use native.Mathlib.Nat.{eq-zero-or-pos, mod-eq-of-lt, add-zero, add-suc, suc-add}
 use native.Mathlib.Omega.{arith}
 use lib.Dec.{T, eqb, eqb-refl, T-not, lit<}
-use Rattle.field.specs.Below.{both, both-left, both-right}
+use Rattle.bits.specs.Below.{both, both-left, both-right}
 use Rattle.field.specs.Field.{doubleOf, mulOf, g, powerOf}
 use Rattle.field.specs.Product.{product-one}
 use Rattle.field.specs.Power.{mul-g, power-lt, power-add}

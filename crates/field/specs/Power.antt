@@ -8,7 +8,7 @@ use native.Mathlib.Nat.{div-add-mod', mod-eq-of-lt, suc-add, zero-add}
 use native.Mathlib.Omega.{arith}
 use lib.Dec.{T, eqb, eqb→eq, lit<}
 use lib.Bits.{xor-zero-r}
-use Rattle.field.specs.Below.{below, at}
+use Rattle.bits.specs.Below.{below, at}
 use Rattle.field.specs.Field.{doubleOf, mulOf, g, powerOf}
 use Rattle.field.specs.Product.{product-comm, product-assoc, one-product, product-lt, double-lt}
 

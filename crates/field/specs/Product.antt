@@ -8,8 +8,8 @@ use lib.Arith.{lt-one}
 use lib.Pow.{pow-pos, split}
 use lib.Dec.{T, eqb, eqb→eq, lit<}
 use lib.Bits.{bitXor, differ, xor-step, xor-self, xor-zero-r, xor-comm, xor-mod, xor-shr, xor-shifted}
-use Rattle.field.specs.Xor.{bit-ind, xor-half, xor-odd, xor-swap, xor-byte, xor-assoc}
-use Rattle.field.specs.Below.{below, at}
+use Rattle.bits.specs.Xor.{bit-ind, xor-half, xor-odd, xor-swap, xor-byte, xor-assoc}
+use Rattle.bits.specs.Below.{below, at}
 use Rattle.field.specs.Field.{reduction, pick, doubleOf, mulBits, mulOf}
 
 two : 0 < 2

@@ -8,7 +8,7 @@ use native.Mathlib.Omega.{arith}
 use lib.ListN.{length, getD, set, length-set}
 use lib.Seq.{getD-set-same, getD-set-other}
 use lib.Bits.{bitXor, xor-zero-r}
-use Rattle.field.specs.Xor.{bit-ind, xor-assoc}
+use Rattle.bits.specs.Xor.{bit-ind, xor-assoc}
 use Rattle.field.specs.Field.{reduction, pick, doubleOf, mulBits, mulOf, g, powerOf}
 use Rattle.field.specs.Each.{Each}
 use Rattle.field.specs.Bytes.{bytes}

@@ -1,2 +1,3 @@
 -- What the functions of the C interface answer.
 pub mod Answers
+pub mod Labels

@@ -1,0 +1,4 @@
+pub mod Fields
+pub mod Bytes
+pub mod Valid
+pub mod Newest

@@ -1,0 +1,370 @@
+-- The C6 shape along every history: `shaped` for each event, `shaped-always` for any sequence of them.
+use Prim.Native.Nat.{ℕ, suc, _+_, _-_, _≤_, _<_}
+use mathlib.Core.Path.{_≡_, refl, sym, ap, subst, _∙_}
+use mathlib.Core.Bool.{Bool, true, false, cond, not, _&&_, true≢false}
+use mathlib.Core.Logic.{_⊎_, ⊎-elim, inl, inr, _≢_}
+use mathlib.Core.List.{List, [], _∷_, _++_, List·Memᴰ, List·Memᴰ·head, List·Memᴰ·eq-of-singleton}
+use native.Mathlib.Omega.{arith}
+use native.Mathlib.Decide.{ℕ-discrete}
+use lib.Dec.{eqb}
+use borrow.Author.Tests.{eq-eqb, ne-eqb, eqb-true, eqb-false, leb-false}
+use Rattle.protocol.specs.World.{Place, label, log, strip, slot, Image, update, update-other, World, Action, run, after, Possible, Sane, Always, During, sane-after, sane-run, always-after, always-map, during-map, during-start, during-end, during-append, run-append}
+use Rattle.protocol.specs.Batch.{flushes, flushes-during, certain, Each, each-during, each-map, each-batch}
+use Rattle.protocol.specs.Slots.{from, in-from, of-from, of-slots, of-rows}
+use Rattle.protocol.specs.Log.{Write, RecordCodec, Belief}
+use Rattle.protocol.specs.Write.{log-write, store}
+use Rattle.protocol.specs.Label.{Label, Size, belief, Quorum, LabelCodec, round, prep}
+use Rattle.protocol.specs.Decide.{data-place, Touch, Looked, log-each, strips-each, startup}
+use Rattle.protocol.specs.Request.{outed}
+use Rattle.protocol.specs.Rebuild.{begun, raised, healed, wipe, wipe-batch, wiped-sectors, filled-sectors, flushed-at-begin, begin-flushes, beginning, fill, fill-batch}
+use Rattle.protocol.specs.Spare.{startup-spares, round-spares, present-in}
+use Rattle.protocol.specs.Restart.{restart}
+use Rattle.protocol.specs.Host.{Host, Code, read, rebuilt, writeOf}
+use Rattle.protocol.specs.Program.{Stamps, Medium, Verdict, clear, because, Own, Kind, creating, starting, logging, storing, labelling, Memory, nothing, idle, doing, Input, create, start, read-block, write, take-out, begin, rebuild-on, scrub-stripe, step, Reply, accepted, block, found, scrubbed, new-label, beyond, mask, flushed-first, created, started, told-to, back-in, filling, at-least-one, relabelled, asked-create, may-create, asked-start, may-start, asked-write, asked-out, asked-begin, asked-on, asked-heal, asked-raise, last-batch, may, answer, one-step, meanwhile, from-nothing, from-idle, from-doing, unseen, program}
+use Rattle.protocol.specs.Invariant.{Ready, Invariant}
+use Rattle.protocol.specs.Promise as Promise
+use Rattle.protocol.specs.Promise.{beyond-in, beyond-none, proper-without, proper-begun, proper-raised, proper-healed, proper-new, Zeros, zeros-same, create-tests, out-tests, begin-tests, on-tests}
+use Rattle.protocol.specs.Machine.{Machine, at, effect, Event, Outside, power-cut, program-dies, disk-swapped, Happens, from-outside, from-host, Runs, stays, goes, View, sure, open-write, kept-write}
+use Rattle.protocol.specs.Startup.{M}
+use Rattle.protocol.specs.Swap.{Swapped}
+use Rattle.protocol.specs.Shape.{Shape, Low, Top, Shapes, round-shape, prep-shape}
+use Rattle.protocol.specs.Tidy.{Has, has-low, labels-kept, shape-same, top-same, start-shape}
+
+module _ {X : Type 0} (z : Size) (W : Quorum (z .n)) (C : LabelCodec X) (K : RecordCodec X) (E : Code X (z .n) (K .c) W) (S : Stamps) (R : Medium z W C K E S) where
+  -- every present disk has the settled generation
+  abbrev pub Current : Own → Image X → Type 0
+  Current o f = Shapes C (z .n) f × ((d : ℕ) → d < z .n → o .absent d ≡ false → Has z W C K f d (o .now .generation))
+
+  -- actions that put data only
+  abbrev Data : Place → Type 0
+  Data k = data-place k ≡ true
+
+  abbrev Any : ℕ → Type 0
+  Any d = Unit {0}
+
+  data-keeps : (o : Own) (w : World X) (l : List (Action X)) → Sane w → Each Data Any l → Always w (Current o) → During w l (Current o)
+  data-keeps o w l sane e h =
+      each-during Data Any (Current o) (λ f k v t c. ((λ d i. shape-same z W C K f (update f k v) d (λ b. labels-kept z W C K f k v t d b) (c .0 d i)), λ d i a. let y = c .1 d i a in (y .0, y .1, top-same z W C K f (update f k v) d (y .0) (λ b. labels-kept z W C K f k v t d b) (y .2)))) w l sane h e
+
+  -- one round over disks that all have the generation before, after whatever came first
+  round-current : (o o' : Own) (ds : List ℕ) → o' .now .generation ≡ suc (o .now .generation) → C .Fits (o' .now) → ((d : ℕ) → d < z .n → o' .absent d ≡ false → List·Memᴰ d ds) → (w : World X) → Sane w → Always w (λ f. Shapes C (z .n) f × ((d : ℕ) → List·Memᴰ d ds → Low C f d (o .now .generation))) → During w (round C (o' .now) ds) (Shapes C (z .n)) × Always (run w (round C (o' .now) ds)) (Current o')
+  round-current o o' ds g fit all w sane h =
+      let P = Shapes C (z .n) in
+      let q = o .now .generation in
+      let r = round-shape C (z .n) (o' .now) q ds (λ f. Unit {0}) (λ f d b x m u. tt) g fit w sane (always-map (λ f. P f × ((d : ℕ) → List·Memᴰ d ds → Low C f d q)) (λ f. P f × ((d : ℕ) → List·Memᴰ d ds → Low C f d q) × Unit {0}) w (λ f c. (c .0, c .1, tt)) h) in (
+        during-map (λ f. P f × Unit {0}) P w (round C (o' .now) ds) (λ f c. c .0) (r .0),
+        always-map (λ f. P f × ((d : ℕ) → List·Memᴰ d ds → Top C f d q) × Unit {0}) (Current o') (run w (round C (o' .now) ds)) (λ f c. (c .0, λ d i a. (q, g, c .1 d (all d i a)))) (r .1),
+      )
+
+  fill-data : (Q : Label) (more : ℕ) (v : ℕ → ℕ → X) → Each Data Any (fill K Q more v)
+  unfolding fill-batch
+  fill-data Q more v = each-batch Data Any (fill-batch K Q more v) (λ k m. let y = of-rows (λ t j. strip (Q .rebuilding) t j) (filled-sectors K) (from (Q .mark) more) k m in rw (y .4)) (λ d m. tt)
+
+  wipe-data : (d : ℕ) → Each Data Any (wipe K d)
+  unfolding wipe-batch
+  wipe-data d = each-batch Data Any (wipe-batch K d) (λ k m. let y = of-rows log (wiped-sectors K) (d ∷ []) k m in rw (y .4)) (λ e m. tt)
+
+  -- told: those who are present after the change, among those that are in the shelf
+  told-in : (A : ℕ → Bool) (d : ℕ) → List·Memᴰ d (told-to z W C K E S R A) → (d < z .n) × (A d ≡ false)
+  unfolding told-to
+  told-in A d m = (of-slots (λ e. not (A e)) (z .n) d m .0, present-in z W C K A d m)
+
+  in-told : (A : ℕ → Bool) (d : ℕ) → d < z .n → A d ≡ false → List·Memᴰ d (told-to z W C K E S R A)
+  unfolding told-to
+  in-told A d i a = Promise.in-present z W C K E S R A d i a
+
+  -- a label change of present disks
+  change-shape : (o o' : Own) (l : List (Action X)) → o' .absent ≡ o .absent → o' .now .generation ≡ suc (o .now .generation) → C .Fits (o' .now) → (w : World X) → Sane w → Each Data Any l → Always w (Current o) → During w (l ++ round C (o' .now) (told-to z W C K E S R (o .absent))) (Shapes C (z .n)) × Always (run w (l ++ round C (o' .now) (told-to z W C K E S R (o .absent)))) (Current o')
+  change-shape o o' l same g fit w sane e h =
+      let ds = told-to z W C K E S R (o .absent) in
+      let a = data-keeps o w l sane e h in
+      let w1 = run w l in
+      let r = round-current o o' ds g fit (λ d i x. in-told (o .absent) d i (ap (λ (A : ℕ → Bool). A d) (sym same) ∙ x)) w1 (sane-run w l sane)
+      (always-map (Current o) (λ f. Shapes C (z .n) f × ((d : ℕ) → List·Memᴰ d ds → Low C f d (o .now .generation))) w1 (λ f c. (c .0, λ d m. let y = told-in (o .absent) d m in has-low z W C K f d (o .now .generation) (c .1 d (y .0) (y .1)))) (during-end (Current o) w l a)) in
+      (during-append (Shapes C (z .n)) w l (round C (o' .now) ds) (during-map (Current o) (Shapes C (z .n)) w l (λ f c. c .0) a) (r .0), rw run-append (r .1))
+
+  -- begin to rebuild d: it is flushed, so that what was read of its labels is certain; then prep, and the round
+  begin-shape : (o : Own) (d : ℕ) (seen : Image X) (w : World X) → d < z .n → (back : ℕ → Bool) → ((e : ℕ) → back e ≡ false → (e ≡ d) ⊎ (o .absent e ≡ false)) → ((b : Bool) → seen (label d b) ≡ w .cur (label d b)) → 0 < o .now .generation → C .Fits (o .now) → C .Fits (begun (o .now) d) → Sane w → Always w (Current o) → During w (beginning K C seen (o .now) d (told-to z W C K E S R back)) (Shapes C (z .n)) × Always (run w (beginning K C seen (o .now) d (told-to z W C K E S R back))) (Current (record { now = begun (o .now) d; absent = back; epoch = o .epoch; count = o .count }))
+  unfolding Always
+  begin-shape o d seen w i back members agree pos fits fit sane h =
+      let P = Shapes C (z .n) in
+      let q = o .now .generation in
+      let ds = told-to z W C K E S R back in
+      let o' : Own = record { now = begun (o .now) d; absent = back; epoch = o .epoch; count = o .count } in
+      let A0 : List (Action X) = flushes (flushed-at-begin K d) in
+      let w0 = run w A0 in
+      let s0 = sane-run w A0 sane in
+      let z0 = flushes-during (Current o) (w .cur) w (flushed-at-begin K d) h in
+      let Certain : Image X → Type 0 = λ f. (b : Bool) → f (label d b) ≡ seen (label d b) in
+      let h0 : Always w0 (λ f. Current o f × Certain f) = λ f p. (during-end (Current o) w A0 z0 f p, λ b. certain (w .cur) w (flushed-at-begin K d) f p (label d b) (begin-flushes K d) ∙ sym (agree b)) in
+      let A1 = wipe K d in
+      let a : During w0 A1 (λ f. Current o f × Certain f) = each-during Data Any (λ f. Current o f × Certain f) (λ f k v t c. (keep-data o f k v t (c .0), λ b. labels-kept z W C K f k v t d b ∙ c .1 b)) w0 A1 s0 h0 (wipe-data d) in
+      let w1 = run w0 A1 in
+      let s1 = sane-run w0 A1 s0 in
+      let A2 = prep C seen q (o .now) (d ∷ []) in
+      let Others : Image X → Type 0 = λ f. (e : ℕ) → e < z .n → o .absent e ≡ false → e ≢ d → Has z W C K f e q in
+      let r2 = prep-shape C (z .n) seen q (o .now) (d ∷ []) Others
+      (λ f e b x m c y j p n. let u = c y j p n in (u .0, u .1, top-same z W C K f (update f (label e b) x) y (u .0) (λ s. update-other f (label e b) x (label y s) (λ t. n (ap slot t ∙ List·Memᴰ·eq-of-singleton m))) (u .2)))
+      pos fits (λ e m. let t : e ≡ d = List·Memᴰ·eq-of-singleton m in omega arith) w1 s1
+      (always-map (λ f. Current o f × Certain f) (λ f. P f × ((e : ℕ) (b : Bool) → List·Memᴰ e (d ∷ []) → f (label e b) ≡ seen (label e b)) × Others f) w1
+      (λ f c. (c .0 .0, (λ e b m. let t : e ≡ d = List·Memᴰ·eq-of-singleton m in subst (λ (y : ℕ). f (label y b) ≡ seen (label y b)) (sym t) (c .1 b)), λ e j p n. c .0 .1 e j p)) (during-end (λ f. Current o f × Certain f) w0 A1 a)) in
+      let w2 = run w1 A2 in
+      let r3 = round-current o o' ds refl fit (λ e j x. in-told back e j x) w2 (sane-run w1 A2 s1)
+      (always-map (λ f. P f × ((e : ℕ) → List·Memᴰ e (d ∷ []) → Low C f e q) × Others f) (λ f. P f × ((e : ℕ) → List·Memᴰ e ds → Low C f e q)) w2
+      (λ f c. (c .0, λ e m. let y = told-in back e m in one f (c .1) (c .2) e (y .0) (members e (y .1)) (ℕ-discrete e d))) (r2 .1)) in
+      let A3 = round C (begun (o .now) d) ds in (
+        during-append P w A0 (A1 ++ (A2 ++ A3)) (during-map (Current o) P w A0 (λ f c. c .0) z0)
+            (during-append P w0 A1 (A2 ++ A3) (during-map (λ f. Current o f × Certain f) P w0 A1 (λ f c. c .0 .0) a)
+            (during-append P w1 A2 A3 (during-map (λ f. P f × Others f) P w1 A2 (λ f c. c .0) (r2 .0)) (r3 .0))),
+        rw (run-append w A0 (A1 ++ (A2 ++ A3)), run-append w0 A1 (A2 ++ A3), run-append w1 A2 A3) (r3 .1),
+      )
+    where
+      keep-data : (o : Own) (f : Image X) (k : Place) (v : X) → data-place k ≡ true → Current o f → Current o (update f k v)
+      keep-data o f k v t c = ((λ d i. shape-same z W C K f (update f k v) d (λ b. labels-kept z W C K f k v t d b) (c .0 d i)), λ d i a. let y = c .1 d i a in (y .0, y .1, top-same z W C K f (update f k v) d (y .0) (λ b. labels-kept z W C K f k v t d b) (y .2)))
+
+      one : (f : Image X) → ((e : ℕ) → List·Memᴰ e (d ∷ []) → Low C f e (o .now .generation)) → ((e : ℕ) → e < z .n → o .absent e ≡ false → e ≢ d → Has z W C K f e (o .now .generation)) → (e : ℕ) → e < z .n → (e ≡ d) ⊎ (o .absent e ≡ false) → Dec (e ≡ d) → Low C f e (o .now .generation)
+      one f a b e j x (yes t) = a e (List·Memᴰ·head t)
+      one f a b e j x (no t) = has-low z W C K f e (o .now .generation) (b e j (⊎-elim (λ y. absurd (t y)) (λ y. y) x) t)
+
+  -- THE SHAPE, in every state of the machine
+  abbrev pub Shaped : Machine X → Type 0
+  Shaped (at w nothing) = Always w (Shapes C (z .n))
+  Shaped (at w (idle o)) = Always w (Current o)
+  Shaped (at w (doing k l o o')) = During w l (Shapes C (z .n)) × Always (run w l) (Current o')
+
+  shaped-off : (w : World X) (m : Memory X) → Shaped (at w m) → Always w (Shapes C (z .n))
+  shaped-off w nothing h = h
+  shaped-off w (idle o) h = always-map (Current o) (Shapes C (z .n)) w (λ f c. c .0) h
+  shaped-off w (doing k l o o') h = during-start (Shapes C (z .n)) w l (h .0)
+
+  abbrev After : World X → Memory X × Reply X → Type 0
+  After w r = Shaped (at (effect w (r .1)) (r .0))
+
+  verdict : (w : World X) (m : Memory X) → Shaped (at w m) → (v : Verdict) (m' : Memory X) → (v ≡ clear → Shaped (at w m')) → After w (answer z W C K E S R m v m' accepted)
+  verdict w m h clear m' g = g refl
+  verdict w m h (because why) m' g = h
+
+  log-data : (B : Belief) (σ : ℕ) (wr : Write X) → Each Data Any (log-write K B σ wr)
+  unfolding Touch
+  log-data B σ wr = each-map (Touch B) Data (Looked B) Any (λ k t. t .0) (λ d t. tt) (log-write K B σ wr) (log-each K B σ wr)
+
+  store-data : (B : Belief) (t : ℕ) (ch : ℕ → Bool) (v : ℕ → ℕ → X) → Each Data Any (store K B t ch v)
+  unfolding Touch
+  store-data B t ch v = each-map (Touch B) Data (Looked B) Any (λ k t. t .0) (λ d t. tt) (store K B t ch v) (strips-each K B t ch v)
+
+  shaped-start : (w : World X) (A : ℕ → Bool) → Sane w → Always w (Shapes C (z .n)) → may-start z W C K E S R (beyond (z .n) A) (mask z W C K E S R (beyond (z .n) A) (w .cur)) ≡ clear → Shaped (at w (asked-start z W C K E S R (beyond (z .n) A) (mask z W C K E S R (beyond (z .n) A) (w .cur))))
+  shaped-start w A0 sane h e =
+      restart A (Shapes C (z .n)) (Current (started z W C K E S R A sn)) (flushed-first z W C K E S R A) (startup z C K A sn) (startup-spares z W C K A sn) (λ k a. Promise.in-flushed z W C K E S R A (slot k) (beyond-in (z .n) A0 (slot k) a) a) w sane h
+      (λ f a s.
+      let g : (k : Place) → A (slot k) ≡ false → sn k ≡ f k = λ k x. Promise.mask-present z W C K E S R A (w .cur) k x ∙ sym (a k x) in
+      let ok = Promise.accept-f z W C K E S R A sn e f g in
+      let r = start-shape z W C K A f ok s in
+      let lab = Promise.same-label z W C K E S R A sn e f g in
+      subst (λ (l : List (Action X)). During (after f) l (Shapes C (z .n)) × Always (run (after f) l) (Current (started z W C K E S R A sn))) (Promise.alike z W C K E S R A sn e f g)
+      (r .0, always-map (λ y. Shapes C (z .n) y × ((d : ℕ) → d < z .n → A d ≡ false → Top C y d (suc (M z C A f)))) (Current (started z W C K E S R A sn)) (run (after f) (startup z C K A f)) (λ y c. (c .0, λ d i x. (suc (M z C A f), ap (λ (l : Label). l .generation) (sym lab), c .1 d i x))) (r .1)))
+    where
+      A : ℕ → Bool
+      A = beyond (z .n) A0
+
+      sn : Image X
+      sn = mask z W C K E S R (beyond (z .n) A0) (w .cur)
+
+  shaped-create : (w : World X) → Sane w → Always w (Shapes C (z .n)) → may-create z W C K E S R (mask z W C K E S R (beyond (z .n) (λ d. false)) (w .cur)) ≡ clear → Shaped (at w (asked-create z W C K E S R))
+  shaped-create w sane h e =
+      let t = create-tests z W C K E S R (mask z W C K E S R A (w .cur)) e in
+      let zw : Zeros z W C K E S R (w .cur) = zeros-same z W C K E S R (mask z W C K E S R A (w .cur)) (w .cur) (λ k i. sym (Promise.mask-present z W C K E S R A (w .cur) k (beyond-none (z .n) (slot k) i))) (t .0) in
+      restart A (Shapes C (z .n)) (Current (created z W C K E S R)) (flushed-first z W C K E S R A) (round C l everyone) (round-spares z W C K A l everyone (λ d m. beyond-none (z .n) d (omega (arith, of-from (z .n) 0 d m)))) (λ k a. Promise.in-flushed z W C K E S R A (slot k) (beyond-in (z .n) (λ d. false) (slot k) a) a) w sane h
+      (λ f a s.
+      let zf : Zeros z W C K E S R f = zeros-same z W C K E S R (w .cur) f (λ k i. a k (beyond-none (z .n) (slot k) i)) zw in
+      let r = round-shape C (z .n) l 0 everyone (λ y. Unit {0}) (λ y d b x m u. tt) refl (R .fits l (proper-new z 1) (omega arith) (t .1)) (after f) (sane-after f)
+      (always-after (λ y. Shapes C (z .n) y × ((d : ℕ) → List·Memᴰ d everyone → Low C y d 0) × Unit {0}) f (s, (λ d m. inl (zf .labels d (C .side 0) (omega (arith, of-from (z .n) 0 d m)) ∙ sym (R .same-zeros))), tt)) in (
+        during-map (λ y. Shapes C (z .n) y × Unit {0}) (Shapes C (z .n)) (after f) (round C l everyone) (λ y c. c .0) (r .0),
+        always-map (λ y. Shapes C (z .n) y × ((d : ℕ) → List·Memᴰ d everyone → Top C y d 0) × Unit {0}) (Current (created z W C K E S R)) (run (after f) (round C l everyone)) (λ y c. (c .0, λ d i x. (0, refl, c .1 d (in-from (z .n) 0 d (omega arith) (omega arith))))) (r .1),
+      ))
+    where
+      A : ℕ → Bool
+      A = beyond (z .n) (λ d. false)
+
+      everyone : List ℕ
+      everyone = from 0 (z .n)
+
+      l : Label
+      l = new-label (z .n) 1
+
+  shaped-nothing : (w : World X) (i : Input X) → Sane w → Always w (Shapes C (z .n)) → After w (from-nothing z W C K E S R (mask z W C K E S R (unseen z W C K E S R nothing i) (w .cur)) i)
+  shaped-nothing w create sane h = verdict w nothing h (may-create z W C K E S R (mask z W C K E S R (beyond (z .n) (λ d. false)) (w .cur))) (asked-create z W C K E S R) (shaped-create w sane h)
+  shaped-nothing w (start A) sane h = verdict w nothing h (may-start z W C K E S R (beyond (z .n) A) (mask z W C K E S R (beyond (z .n) A) (w .cur))) (asked-start z W C K E S R (beyond (z .n) A) (mask z W C K E S R (beyond (z .n) A) (w .cur))) (shaped-start w A sane h)
+  shaped-nothing w (read-block t i) sane h = h
+  shaped-nothing w (write t ch) sane h = h
+  shaped-nothing w (take-out d) sane h = h
+  shaped-nothing w (begin d) sane h = h
+  shaped-nothing w (rebuild-on b) sane h = h
+  shaped-nothing w (scrub-stripe t) sane h = h
+  shaped-nothing w step sane h = h
+
+  shaped-idle : (w : World X) (o : Own) (i : Input X) (v : Host X) → Sane w → Ready z W C K E S R v w o → Always w (Current o) → After w (from-idle z W C K E S R o (mask z W C K E S R (unseen z W C K E S R (idle o) i) (w .cur)) i)
+  shaped-idle w o create v s r h = h
+  shaped-idle w o (start A) v s r h = h
+  shaped-idle w o (read-block t i) v s r h = read-kept (may z W C K E S R false o (read-block t i))
+    where
+      read-kept : (y : Verdict) → After w (answer z W C K E S R (idle o) y (idle o) (block (read z W K E (o .now) (mask z W C K E S R (o .absent) (w .cur)) t i)))
+      read-kept clear = h
+      read-kept (because why) = h
+  shaped-idle w o (write t ch) v s r h =
+      verdict w (idle o) h (may z W C K E S R false o (write t ch)) (asked-write z W C K E S R o (mask z W C K E S R (o .absent) (w .cur)) t ch)
+      (λ e.
+      let l = log-write K (belief z (o .now)) (suc (o .count)) (writeOf z W K E (o .now) (mask z W C K E S R (o .absent) (w .cur)) t ch) in
+      let a = data-keeps o w l s (log-data (belief z (o .now)) (suc (o .count)) (writeOf z W K E (o .now) (mask z W C K E S R (o .absent) (w .cur)) t ch)) h in
+      (during-map (Current o) (Shapes C (z .n)) w l (λ f c. c .0) a, during-end (Current o) w l a))
+  shaped-idle w o (take-out d) v s r h =
+      verdict w (idle o) h (may z W C K E S R false o (take-out d)) (asked-out z W C K E S R o d)
+      (λ e.
+      let t = out-tests z W C K E S R o d e in
+      let N = outed (z .n) (o .now) d in
+      change-shape o (relabelled z W C K E S R o N) [] refl refl (R .fits N (proper-without z (o .now) (λ x. eqb x d) (suc (o .now .generation)) (λ x j. ne-eqb x d (λ q. omega (arith, t .0))) (r .sound)) (omega arith) (t .2)) w s tt h)
+  shaped-idle w o (begin d) v s r h =
+      verdict w (idle o) h (may z W C K E S R false o (begin d)) (asked-begin z W C K E S R o (mask z W C K E S R (back-in z W C K E S R (o .absent) d) (w .cur)) d)
+      (λ e.
+      let t = begin-tests z W C K E S R o d e in
+      let back = back-in z W C K E S R (o .absent) d in
+      let N = begun (o .now) d in
+      begin-shape o d (mask z W C K E S R back (w .cur)) w (t .0) back (λ x y. split x (o .absent x) refl (eqb x d) refl y) (λ b. Promise.mask-present z W C K E S R back (w .cur) (label d b) (gone-d (o .absent d))) (omega (arith, r .born, r .epoch-now)) (R .fits (o .now) (r .sound) (omega (arith, r .born, r .epoch-now)) (r .most)) (R .fits N (proper-begun z (o .now) d (t .0) (t .1) (r .sound)) (omega arith) (t .2)) s h)
+    where
+      gone-d : (b : Bool) → (b && not (eqb d d)) ≡ false
+      gone-d true = rw (eq-eqb d d refl)
+      gone-d false = refl
+
+      split : (x : ℕ) (a : Bool) → o .absent x ≡ a → (c : Bool) → eqb x d ≡ c → (o .absent x && not (eqb x d)) ≡ false → (x ≡ d) ⊎ (o .absent x ≡ false)
+      split x true p true q y = inl (eqb-true x d q)
+      split x true p false q y = absurd (true≢false (sym (rw (p, q)) ∙ y))
+      split x false p c q y = inr p
+  shaped-idle w o (rebuild-on b) v s r h =
+      verdict w (idle o) h (may z W C K E S R false o (rebuild-on b)) (asked-on z W C K E S R o (mask z W C K E S R (o .absent) (w .cur)) b) (λ e. on b (on-tests z W C K E S R o b e .1) (last-batch z W C K E S R o b) refl)
+    where
+      on : (b : ℕ) → suc (o .now .generation) ≤ R .greatest → (y : Bool) → last-batch z W C K E S R o b ≡ y → Shaped (at w (cond y (asked-heal z W C K E S R o (mask z W C K E S R (o .absent) (w .cur))) (asked-raise z W C K E S R o (mask z W C K E S R (o .absent) (w .cur)) (at-least-one z W C K E S R b))))
+      on b room true e =
+          let N = healed (z .n) (o .now) in
+          change-shape o (relabelled z W C K E S R o N) (filling z W C K E S R o (mask z W C K E S R (o .absent) (w .cur)) (z .T - o .now .mark)) refl refl (R .fits N (proper-healed z (o .now) (r .sound)) (omega arith) room) w s (fill-data (o .now) (z .T - o .now .mark) (rebuilt z W K E (o .now) (mask z W C K E S R (o .absent) (w .cur)) (o .now .rebuilding))) h
+      on b room false e =
+          let more = at-least-one z W C K E S R b in
+          let N = raised (o .now) (o .now .mark + more) in
+          change-shape o (relabelled z W C K E S R o N) (filling z W C K E S R o (mask z W C K E S R (o .absent) (w .cur)) more) refl refl (R .fits N (proper-raised z (o .now) (o .now .mark + more) (omega (arith, leb-false (z .T) (o .now .mark + more) e)) (r .sound)) (omega arith) room) w s (fill-data (o .now) more (rebuilt z W K E (o .now) (mask z W C K E S R (o .absent) (w .cur)) (o .now .rebuilding))) h
+  shaped-idle w o (scrub-stripe t) v s r h = scrub-kept (may z W C K E S R false o (scrub-stripe t))
+    where
+      scrub-kept : (y : Verdict) → After w (answer z W C K E S R (idle o) y (idle o) (found (E .scrub t (λ d j. mask z W C K E S R (o .absent) (w .cur) (strip d t j)))))
+      scrub-kept clear = h
+      scrub-kept (because why) = h
+  shaped-idle w o step v s r h = h
+
+  shaped-step : (k : Kind X) (l : List (Action X)) (o o' : Own) (w : World X) → Sane w → Shaped (at w (doing k l o o')) → After w (one-step z W C K E S R k l o o')
+  shaped-step creating (a ∷ l) o o' w s h = (h .0 .1, h .1)
+  shaped-step starting (a ∷ l) o o' w s h = (h .0 .1, h .1)
+  shaped-step (logging wr) (a ∷ l) o o' w s h = (h .0 .1, h .1)
+  shaped-step (storing wr) (a ∷ l) o o' w s h = (h .0 .1, h .1)
+  shaped-step labelling (a ∷ l) o o' w s h = (h .0 .1, h .1)
+  shaped-step creating [] o o' w s h = h .1
+  shaped-step starting [] o o' w s h = h .1
+  shaped-step (logging wr) [] o o' w s h =
+      let l = store K (belief z (o .now)) (wr .stripe) (wr .changes) (wr .new) in
+      let a = data-keeps o' w l s (store-data (belief z (o .now)) (wr .stripe) (wr .changes) (wr .new)) (h .1) in
+      (during-map (Current o') (Shapes C (z .n)) w l (λ f c. c .0) a, during-end (Current o') w l a)
+  shaped-step (storing wr) [] o o' w s h = h .1
+  shaped-step labelling [] o o' w s h = h .1
+
+  read-kept : (k : Kind X) (l : List (Action X)) (o o' : Own) (w : World X) (f : Image X) (t i : ℕ) (y : Verdict) → Shaped (at w (doing k l o o')) → After w (doing k l o o', meanwhile z W C K E S R k o f t i y)
+  read-kept k l o o' w f t i (because why) h = h
+  read-kept creating l o o' w f t i clear h = h
+  read-kept starting l o o' w f t i clear h = h
+  read-kept (logging wr) l o o' w f t i clear h = h
+  read-kept (storing wr) l o o' w f t i clear h = h
+  read-kept labelling l o o' w f t i clear h = h
+
+  scrub-kept : (k : Kind X) (l : List (Action X)) (o o' : Own) (w : World X) (f : Image X) (t : ℕ) (y : Verdict) → Shaped (at w (doing k l o o')) → After w (doing k l o o', scrubbed z W C K E S R k o f t y)
+  scrub-kept k l o o' w f t (because why) h = h
+  scrub-kept creating l o o' w f t clear h = h
+  scrub-kept starting l o o' w f t clear h = h
+  scrub-kept (logging wr) l o o' w f t clear h = h
+  scrub-kept (storing wr) l o o' w f t clear h = h
+  scrub-kept labelling l o o' w f t clear h = h
+
+  shaped-doing : (k : Kind X) (l : List (Action X)) (o o' : Own) (w : World X) (f : Image X) (i : Input X) → Sane w → Shaped (at w (doing k l o o')) → After w (from-doing z W C K E S R k l o o' f i)
+  shaped-doing k l o o' w f create s h = h
+  shaped-doing k l o o' w f (start A) s h = h
+  shaped-doing k l o o' w f (read-block t i) s h = read-kept k l o o' w f t i (may z W C K E S R true o (read-block t i)) h
+  shaped-doing k l o o' w f (write t ch) s h = verdict w (doing k l o o') h (may z W C K E S R true o (write t ch)) (doing k l o o') (λ e. h)
+  shaped-doing k l o o' w f (take-out d) s h = verdict w (doing k l o o') h (may z W C K E S R true o (take-out d)) (doing k l o o') (λ e. h)
+  shaped-doing k l o o' w f (begin d) s h = verdict w (doing k l o o') h (may z W C K E S R true o (begin d)) (doing k l o o') (λ e. h)
+  shaped-doing k l o o' w f (rebuild-on b) s h = verdict w (doing k l o o') h (may z W C K E S R true o (rebuild-on b)) (doing k l o o') (λ e. h)
+  shaped-doing k l o o' w f (scrub-stripe t) s h = scrub-kept k l o o' w f t (may z W C K E S R true o (scrub-stripe t)) h
+  shaped-doing k l o o' w f step s h = shaped-step k l o o' w s h
+
+  shaped-host : (w : World X) (m : Memory X) (i : Input X) (p : View X) → Invariant z W C K E S R (at w m) p → Shaped (at w m) → After w (program z W C K E S R m (w .cur) i)
+  unfolding program
+  shaped-host w nothing i p inv h = shaped-nothing w i (inv .sane) h
+  shaped-host w (idle o) i (sure v) inv h = shaped-idle w o i v (inv .0) (inv .1) h
+  shaped-host w (idle o) i (open-write v v') inv h = absurd inv
+  shaped-host w (idle o) i (kept-write v') inv h = absurd inv
+  shaped-host w (doing k l o o') i p inv h = shaped-doing k l o o' w (mask z W C K E S R (o .absent) (w .cur)) i (inv .sane) h
+
+  -- a disk that is put in has the shape, and its slot is absent until its rebuild begins
+  abbrev pub NewShaped : {m m' : Machine X} {e : Event X} → Outside z W C K E S R m e m' → Type 0
+  NewShaped (power-cut f q) = Unit {0}
+  NewShaped program-dies = Unit {0}
+  NewShaped (disk-swapped {w' = w'} {o = o} d a s) = (o .absent d ≡ true) × Always w' (λ f. Shape C f d)
+
+  abbrev pub AllShaped : {m m' : Machine X} {e : Event X} → Happens z W C K E S R m e m' → Type 0
+  AllShaped (from-outside x) = NewShaped x
+  AllShaped (from-host i) = Unit {0}
+
+  shaped-swap : (w w' : World X) (o : Own) (d : ℕ) → o .absent d ≡ true → Swapped C d (o .now .generation) w w' → Sane w → Always w' (λ f. Shape C f d) → Always w (Current o) → Always w' (Current o)
+  unfolding Always Possible Sane
+  shaped-swap w w' o d a s sane n h f p =
+      ((λ e i. one e i (ℕ-discrete e d)), λ e i x. let y = c .1 e i x in (y .0, y .1, top-same z W C K g f e (y .0) (λ b. kept (label e b) (λ q. true≢false (sym a ∙ (ap (o .absent) (sym q) ∙ x)))) (y .2)))
+    where
+      g : Image X
+      g k = cond (eqb (slot k) d) (w .cur k) (f k)
+
+      kept : (k : Place) → slot k ≢ d → f k ≡ g k
+      kept k q = rw (ne-eqb (slot k) d q)
+
+      possible : (k : Place) → w .may k (g k)
+      possible k = go (eqb (slot k) d) refl
+        where
+          go : (b : Bool) → eqb (slot k) d ≡ b → w .may k (cond b (w .cur k) (f k))
+          go true e = sane k
+          go false e = s .others k (eqb-false (slot k) d e) (f k) (p k)
+
+      c : Current o g
+      c = h g possible
+
+      one : (e : ℕ) → e < z .n → Dec (e ≡ d) → Shape C f e
+      one e i (yes q) = subst (Shape C f) (sym q) (n f p)
+      one e i (no q) = shape-same z W C K g f e (λ b. kept (label e b) q) (c .0 e i)
+
+  shaped-outside : {m m' : Machine X} {e : Event X} (x : Outside z W C K E S R m e m') → NewShaped x → (p : View X) → Invariant z W C K E S R m p → Shaped m → Shaped m'
+  unfolding Always
+  shaped-outside (power-cut {w = w} {m = m} f q) u p inv h = always-after (Shapes C (z .n)) f (shaped-off w m h f q)
+  shaped-outside (program-dies {w = w} {m = m}) u p inv h = shaped-off w m h
+  shaped-outside (disk-swapped {w = w} {w' = w'} {o = o} d a s) u (sure v) inv h = shaped-swap w w' o d (u .0) s (inv .0) (u .1) h
+  shaped-outside (disk-swapped {w = w} {w' = w'} {o = o} d a s) u (open-write v v') inv h = absurd inv
+  shaped-outside (disk-swapped {w = w} {w' = w'} {o = o} d a s) u (kept-write v') inv h = absurd inv
+
+  -- EACH EVENT keeps the shape of every disk
+  pub shaped : {m m' : Machine X} {e : Event X} (x : Happens z W C K E S R m e m') → AllShaped x → (p : View X) → Invariant z W C K E S R m p → Shaped m → Shaped m'
+  shaped (from-outside x) u p inv h = shaped-outside x u p inv h
+  shaped (from-host {w = w} {m = m} i) u p inv h = shaped-host w m i p inv h
+
+  abbrev pub Tidily : {m m' : Machine X} {l : List (Event X)} → Runs z W C K E S R m l m' → Type 0
+  Tidily stays = Unit {0}
+  Tidily (goes x r) = AllShaped x × Tidily r
+
+  -- ANY SEQUENCE OF EVENTS
+  pub shaped-always : {m m' : Machine X} {l : List (Event X)} (r : Runs z W C K E S R m l m') → Tidily r → (p : View X) → Invariant z W C K E S R m p → Shaped m → Shaped m'
+  shaped-always stays u p inv h = h
+  shaped-always (goes x r) u p inv h =
+      let a = Promise.simulate z W C K E S R x p inv in
+      shaped-always r (u .1) (a .0) (a .2) (shaped x (u .0) p inv h)
+
+  -- zeros have the shape
+  pub zeros-shaped : (f : Image X) → Zeros z W C K E S R f → Shapes C (z .n) f
+  zeros-shaped f h d i = record { calm = λ b. inl (h .labels d b i ∙ sym (R .same-zeros)); follow = λ b p q. absurd (omega (arith, p, Promise.copy-zeros z W C K E S R f h d b i)) }

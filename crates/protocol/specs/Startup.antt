@@ -1,0 +1,398 @@
+-- Start-up's labels, over the present slots that are not stale: level (generation M), the same label once more (M + 1), the one with Out' (M + 2);
+-- then the stale slots adopt it. An absent disk may carry a label that no present one has, but at most one generation further: after these rounds it
+-- can neither tie with the settled label nor beat it.
+use Prim.Native.Nat.{ℕ, suc, _+_, _≤_, _<_}
+use mathlib.Core.Path.{_≡_, refl, ap, _∙_}
+use mathlib.Core.Bool.{Bool, true, false, cond, not, _&&_, _||_, true≢false, false≢true, or-true}
+use mathlib.Core.Logic.{_⊎_, ⊎-elim, inl, inr, _≢_}
+use mathlib.Core.List.{List, _++_, List·Memᴰ}
+use native.Mathlib.Omega.{arith}
+use lib.Dec.{eqb, ltb}
+use borrow.Author.Tests.{ne-eqb, eqb-true, eqb-false, ltb-true, ltb-false, lt-ltb}
+use Rattle.protocol.specs.World.{label, log, strip, Image, update-other, World, Action, run, Sane, Always, During, sane-run, always-map, during-map, during-append, run-append}
+use Rattle.protocol.specs.Slots.{from, in-from, slots, in-slots, of-slots, every, every-of, leader, leader-top, leader-below}
+use Rattle.protocol.specs.Log.{Belief, Within, within-trans, within-self, Agrees}
+use Rattle.protocol.specs.Write.{both}
+use Rattle.protocol.specs.Label.{Label, again, plainly-out, Size, looked, belief, look-of, Quorum, LabelCodec, copy, Aged, prep, round, MayRule, Labels, Only, Bare, prep-safe, round-safe, round-only, only-start, labels-rise, rules-self, labels-settle}
+
+-- the label that goes on from l without the slots that are gone
+abbrev pub without : ℕ → Label → (ℕ → Bool) → ℕ → Label
+without n l gone g =
+    record {
+      generation = g;
+      out = λ d. l .out d || gone d;
+      rebuilding = cond (gone (l .rebuilding)) n (l .rebuilding);
+      mark = cond (gone (l .rebuilding)) 0 (l .mark);
+    }
+
+-- A disk missed something, whatever it looks like, if its own label is more than one generation behind the newest one seen,
+unfoldable pub behind : ℕ → ℕ → Bool
+behind own newest = ltb (suc own) newest
+
+-- or if its own label calls it plainly out and the newest one does not.
+unfoldable pub disowned : Label → Label → ℕ → Bool
+disowned own newest d = plainly-out own d && not (plainly-out newest d)
+
+pub behind-false : (own newest : ℕ) → behind own newest ≡ false → newest ≤ suc own
+unfolding behind
+behind-false own newest e = ltb-false (suc own) newest e
+
+-- the program: what is read, and the rounds
+module _ {X : Type 0} (z : Size) (C : LabelCodec X) (absent : ℕ → Bool) (f0 : Image X) where
+  abbrev pub newest : ℕ → Label
+  newest d = cond (ltb (copy C f0 d false .generation) (copy C f0 d true .generation)) (copy C f0 d true) (copy C f0 d false)
+
+  abbrev pub seen : ℕ → ℕ
+  seen d = cond (absent d) 0 (newest d .generation)
+
+  abbrev pub lead : ℕ
+  lead = leader seen (z .n)
+
+  -- the greatest generation seen, and its label (of the lowest slot that has it)
+  abbrev pub M : ℕ
+  M = seen lead
+
+  abbrev pub L : Label
+  L = newest lead
+
+  abbrev pub stale : ℕ → Bool
+  stale d = behind (seen d) M || disowned (newest d) L d
+
+  unfoldable pub gone : ℕ → Bool
+  gone d = ltb d (z .n) && (absent d || stale d)
+
+  -- every present slot has a valid label
+  abbrev pub labelled : Bool
+  labelled = every (λ d. absent d || ltb 0 (seen d)) (from 0 (z .n))
+
+  abbrev pub next : ℕ → Label
+  next g = without (z .n) L gone g
+
+  -- the slots that take part in the rounds, and those that are only told the result
+  abbrev pub parts : List ℕ
+  parts = slots (z .n) (λ d. not (gone d))
+
+  abbrev pub late : List ℕ
+  late = slots (z .n) (λ d. not (absent d) && stale d)
+
+  -- who gets which label: level, one generation more, and the settled one with Out'
+  unfoldable pub level-to : List ℕ
+  level-to = parts
+
+  unfoldable pub again-to : List ℕ
+  again-to = parts
+
+  unfoldable pub last-to : List ℕ
+  last-to = parts
+
+  -- a stale slot adopts the settled label when all the others have it
+  abbrev pub adopt : List (Action X)
+  adopt = prep C f0 (suc M) (next (suc (suc M))) late ++ round C (next (suc (suc M))) late
+
+  unfoldable pub rounds : List (Action X)
+  rounds = round C L level-to ++ (round C (again L (suc M)) again-to ++ (round C (next (suc (suc M))) last-to ++ adopt))
+
+-- the new label believes nothing that the old one does not
+pull : (i e : Bool) → (i && not (true && not e)) ≡ true → e ≡ true
+pull i true h = refl
+pull true false h = h
+pull false false h = h
+
+module _ (n T d rebuilding mark : ℕ) (dn : d < n) where
+  narrow-raw : (o gd gr : Bool) → (d ≡ rebuilding → gd ≡ gr) → (ltb d n && not ((o || gd) && not (eqb d (cond gr n rebuilding)))) ≡ true → ((ltb d n && not (o && not (eqb d rebuilding))) ≡ true) × ((t : ℕ) → ((ltb d n && not ((o || gd) && not (eqb d (cond gr n rebuilding)))) && (ltb t T && (not (o || gd) || ltb t (cond gr 0 mark)))) ≡ ((ltb d n && not (o && not (eqb d rebuilding))) && (ltb t T && (not o || ltb t mark))))
+  narrow-raw true true true q h = absurd (eqb-false d n (ne-eqb d n (λ x. omega arith)) (eqb-true d n (pull (ltb d n) (eqb d n) h)))
+  narrow-raw true true false q h = absurd (true≢false (q (eqb-true d rebuilding (pull (ltb d n) (eqb d rebuilding) h))))
+  narrow-raw true false true q h = absurd (eqb-false d n (ne-eqb d n (λ x. omega arith)) (eqb-true d n (pull (ltb d n) (eqb d n) h)))
+  narrow-raw true false false q h = (h, λ t. refl)
+  narrow-raw false true true q h = absurd (eqb-false d n (ne-eqb d n (λ x. omega arith)) (eqb-true d n (pull (ltb d n) (eqb d n) h)))
+  narrow-raw false true false q h = absurd (true≢false (q (eqb-true d rebuilding (pull (ltb d n) (eqb d rebuilding) h))))
+  narrow-raw false false true q h = (h, λ t. refl)
+  narrow-raw false false false q h = (h, λ t. refl)
+
+pub without-narrow : (z : Size) (l : Label) (gone : ℕ → Bool) (g : ℕ) → Within (belief z (without (z .n) l gone g)) (belief z l)
+unfolding belief
+without-narrow z l gone g =
+    record {
+      look-in = λ d h. narrow-raw (z .n) (z .T) d (l .rebuilding) (l .mark) (below d h) (l .out d) (gone d) (gone (l .rebuilding)) (ap gone) h .0;
+      believe-in = λ d t h. narrow-raw (z .n) (z .T) d (l .rebuilding) (l .mark) (below d h) (l .out d) (gone d) (gone (l .rebuilding)) (ap gone) h .1 t;
+    }
+  where
+    below : (d : ℕ) → looked z (without (z .n) l gone g) d ≡ true → d < z .n
+    below d h = ltb-true d (z .n) (both (ltb d (z .n)) (not (plainly-out (without (z .n) l gone g) d)) h .0)
+
+unmasked : (a b c : Bool) → a ≡ true → (a && (b || c)) ≡ false → b ≡ false
+unmasked true true c p h = h
+unmasked true false c p h = refl
+unmasked false b c p h = absurd (false≢true p)
+
+masked : (a b c : Bool) → a ≡ true → b ≡ true → (a && (b || c)) ≡ true
+masked true true c p h = refl
+masked true false c p h = absurd (false≢true h)
+masked false b c p h = absurd (false≢true p)
+
+-- who is gone is not looked at
+pub without-gone : (z : Size) (l : Label) (gone : ℕ → Bool) (g d : ℕ) → looked z (without (z .n) l gone g) d ≡ true → gone d ≡ false
+without-gone z l gone g d h =
+    let p = look-of z (without (z .n) l gone g) d h in
+    ⊎-elim (λ q. right (l .out d) (gone d) q) (λ q. being (p .0) (gone (l .rebuilding)) refl q) (p .1)
+  where
+    right : (x y : Bool) → (x || y) ≡ false → y ≡ false
+    right true y q = absurd (true≢false q)
+    right false y q = q
+
+    being : d < z .n → (b : Bool) → gone (l .rebuilding) ≡ b → d ≡ cond b (z .n) (l .rebuilding) → gone d ≡ false
+    being i true e q = absurd (omega arith)
+    being i false e q = ap gone q ∙ e
+
+-- statements about strips and records, under a belief, that fewer slots and other places leave alone
+unfoldable pub Framed : {X : Type 0} → (Belief → Image X → Type 0) → Type 0
+Framed {X} D = (B B' : Belief) → Within B' B → (f g : Image X) → Agrees B' f g → D B f → D B' g
+
+-- THE INVARIANT of a shelf, of whatever a cut leaves: some label Q is settled (of generation e or more: stamps are told apart by it), perhaps a label N was about to be, the labels are as they must be, and D is true of strips and records under both
+pub record Shelf {X : Type 0} (z : Size) (W : Quorum (z .n)) (C : LabelCodec X) (e : ℕ) (D : Belief → Image X → Type 0) (f : Image X) : Type 0 where
+  pub Q : Label
+  pub since : e ≤ Q .generation
+  pub N : Label
+  pub top : ℕ
+  pub far : ℕ → Bool
+  pub labels : Labels z W C Q N top far f
+  pub under-Q : D (belief z Q) f
+  pub under-N : D (belief z N) f
+
+-- strips and records are what they were
+pub record Same {X : Type 0} (f0 f : Image X) : Type 0 where
+  pub logs : (d j : ℕ) → f (log d j) ≡ f0 (log d j)
+  pub strips : (d t j : ℕ) → f (strip d t j) ≡ f0 (strip d t j)
+
+pub same-agrees : {X : Type 0} (B : Belief) (f0 f : Image X) → Same f0 f → Agrees B f0 f
+same-agrees B f0 f s = record { on-log = λ d j a. s .logs d j; on-strip = λ d t j a. s .strips d t j }
+
+pub same-self : {X : Type 0} (f : Image X) → Same f f
+same-self f = record { logs = λ d j. refl; strips = λ d t j. refl }
+
+pub same-bare : {X : Type 0} (z : Size) (W : Quorum (z .n)) (C : LabelCodec X) (f0 : Image X) → Bare z W C (Same f0)
+unfolding Bare
+same-bare z W C f0 f d b x s =
+    record {
+      logs = λ e j. update-other f (label d b) x (log e j) (λ q. let i : _≡_ {A = ℕ} 0 1 = cc in omega arith) ∙ s .logs e j;
+      strips = λ e t j. update-other f (label d b) x (strip e t j) (λ q. let i : _≡_ {A = ℕ} 0 1 = cc in omega arith) ∙ s .strips e t j;
+    }
+
+module _ {X : Type 0} (z : Size) (W : Quorum (z .n)) (C : LabelCodec X) (absent : ℕ → Bool) (f0 : Image X) where
+  pub newest-top : (d : ℕ) (b : Bool) → copy C f0 d b .generation ≤ newest z C absent f0 d .generation
+  newest-top d b = go (ltb (copy C f0 d false .generation) (copy C f0 d true .generation)) refl b
+    where
+      go : (x : Bool) → ltb (copy C f0 d false .generation) (copy C f0 d true .generation) ≡ x → (y : Bool) → copy C f0 d y .generation ≤ cond x (copy C f0 d true) (copy C f0 d false) .generation
+      go true e true = omega arith
+      go true e false = omega (arith, ltb-true (copy C f0 d false .generation) (copy C f0 d true .generation) e)
+      go false e true = ltb-false (copy C f0 d false .generation) (copy C f0 d true .generation) e
+      go false e false = omega arith
+
+  pub newest-is : (d : ℕ) → (b : Bool) × (newest z C absent f0 d ≡ copy C f0 d b)
+  newest-is d = go (ltb (copy C f0 d false .generation) (copy C f0 d true .generation))
+    where
+      go : (x : Bool) → (b : Bool) × (cond x (copy C f0 d true) (copy C f0 d false) ≡ copy C f0 d b)
+      go true = (true, refl)
+      go false = (false, refl)
+
+  -- a present slot that has generation g is seen to have it
+  seen-aged : (d g : ℕ) → d < z .n → absent d ≡ false → Aged C f0 d g → g ≤ M z C absent f0
+  unfolding Aged
+  seen-aged d g i a h =
+      let e : seen z C absent f0 d ≡ newest z C absent f0 d .generation = rw a in
+      omega (arith, h .1, newest-top d (h .0), e, leader-top (seen z C absent f0) (z .n) d i)
+
+  pub gone-absent : (d : ℕ) → d < z .n → gone z C absent f0 d ≡ false → absent d ≡ false
+  unfolding gone
+  gone-absent d i h = unmasked (ltb d (z .n)) (absent d) (stale z C absent f0 d) (lt-ltb d (z .n) i) h
+
+  pub absent-gone : (d : ℕ) → d < z .n → absent d ≡ true → gone z C absent f0 d ≡ true
+  unfolding gone
+  absent-gone d i h = masked (ltb d (z .n)) (absent d) (stale z C absent f0 d) (lt-ltb d (z .n) i) h
+
+  -- with every present slot labelled, and not all of them gone, there is a label to go on from
+  pub M-positive : labelled z C absent f0 ≡ true → W .few (gone z C absent f0) ≡ true → 0 < M z C absent f0
+  M-positive all few =
+      let y = W .meet (gone z C absent f0) (gone z C absent f0) few few in
+      let p = every-of (λ d. absent d || ltb 0 (seen z C absent f0 d)) (from 0 (z .n)) all (y .0) (in-from (z .n) 0 (y .0) (omega arith) (omega (arith, y .1))) in
+      omega (arith, ltb-true 0 (seen z C absent f0 (y .0)) (go (absent (y .0)) (gone-absent (y .0) (y .1) (y .2)) (ltb 0 (seen z C absent f0 (y .0))) p), leader-top (seen z C absent f0) (z .n) (y .0) (y .1))
+    where
+      go : (x : Bool) → x ≡ false → (y : Bool) → (x || y) ≡ true → y ≡ true
+      go true e y p = absurd (true≢false e)
+      go false e y p = p
+
+  pub L-valid : 0 < M z C absent f0 → (L z C absent f0 .generation ≡ M z C absent f0) × C .Fits (L z C absent f0)
+  unfolding copy
+  L-valid pos =
+      let e = same (absent (lead z C absent f0)) refl in
+      let y = newest-is (lead z C absent f0) in
+      (e, rw (y .1) (C .decode-fits (lead z C absent f0) (y .0) (f0 (label (lead z C absent f0) (y .0))) (omega (arith, pos, e, ap (λ (x : Label). x .generation) (y .1)))))
+    where
+      same : (x : Bool) → absent (lead z C absent f0) ≡ x → L z C absent f0 .generation ≡ M z C absent f0
+      same true e = let q : M z C absent f0 ≡ 0 = rw e in absurd (omega (arith, pos, q))
+      same false e = rw e
+
+  -- what start-up needs of the world: some present slot is not out in Q, and some present slot is not far (see Quorum: for k > m both are certain)
+  module _ (Q N : Label) (top : ℕ) (far : ℕ → Bool) (H : Labels z W C Q N top far f0)
+      (d1 : ℕ) (d1n : d1 < z .n) (d1p : absent d1 ≡ false) (d1q : Q .out d1 ≡ false)
+      (d2 : ℕ) (d2n : d2 < z .n) (d2p : absent d2 ≡ false) (d2f : far d2 ≡ false)
+      (all-labelled : labelled z C absent f0 ≡ true) where
+    M-low : Q .generation ≤ M z C absent f0
+    M-low = seen-aged d1 (Q .generation) d1n d1p (H .low d1 d1n d1q)
+
+    M-near : top ≤ suc (M z C absent f0)
+    M-near = go (ltb (suc (M z C absent f0)) top) refl
+      where
+        go : (x : Bool) → ltb (suc (M z C absent f0)) top ≡ x → top ≤ suc (M z C absent f0)
+        go true e = absurd (omega (arith, seen-aged d2 (suc (M z C absent f0)) d2n d2p (H .near d2 (suc (M z C absent f0)) d2n d2f (ltb-true (suc (M z C absent f0)) top e))))
+        go false e = ltb-false (suc (M z C absent f0)) top e
+
+    lead-n : lead z C absent f0 < z .n
+    lead-n = leader-below (seen z C absent f0) (z .n) (omega arith)
+
+    M-pos : 0 < M z C absent f0
+    M-pos =
+        let p : (absent d1 || ltb 0 (seen z C absent f0 d1)) ≡ true = every-of (λ d. absent d || ltb 0 (seen z C absent f0 d)) (from 0 (z .n)) all-labelled d1 (in-from (z .n) 0 d1 (omega arith) (omega arith)) in
+        omega (arith, ltb-true 0 (seen z C absent f0 d1) (go (absent d1) d1p (ltb 0 (seen z C absent f0 d1)) p), leader-top (seen z C absent f0) (z .n) d1 d1n)
+      where
+        go : (x : Bool) → x ≡ false → (y : Bool) → (x || y) ≡ true → y ≡ true
+        go true e y p = absurd (true≢false e)
+        go false e y p = p
+
+    L-generation : L z C absent f0 .generation ≡ M z C absent f0
+    L-generation = go (absent (lead z C absent f0)) refl
+      where
+        go : (x : Bool) → absent (lead z C absent f0) ≡ x → L z C absent f0 .generation ≡ M z C absent f0
+        go true e = let q : M z C absent f0 ≡ 0 = rw e in absurd (omega (arith, M-pos, q))
+        go false e = rw e
+
+    L-top : L z C absent f0 .generation ≤ top
+    L-top = let y = newest-is (lead z C absent f0) in rw (y .1) (H .cap (lead z C absent f0) (y .0) lead-n)
+
+    L-fits : C .Fits (L z C absent f0)
+    unfolding copy
+    L-fits = let y = newest-is (lead z C absent f0) in rw (y .1) (C .decode-fits (lead z C absent f0) (y .0) (f0 (label (lead z C absent f0) (y .0))) (omega (arith, M-pos, L-generation, ap (λ (x : Label). x .generation) (y .1))))
+
+    L-ok : MayRule z W C Q N (L z C absent f0)
+    L-ok = let y = newest-is (lead z C absent f0) in rw (y .1) (H .fine (lead z C absent f0) (y .0) lead-n (omega (arith, M-pos, L-generation, ap (λ (x : Label). x .generation) (y .1))) (omega (arith, M-low, L-generation, ap (λ (x : Label). x .generation) (y .1))))
+
+    -- start-up is not refused
+    module _ (enough : W .few (λ d. L z C absent f0 .out d || gone z C absent f0 d) ≡ true)
+        (fits1 : C .Fits (again (L z C absent f0) (suc (M z C absent f0)))) (fits1' : C .Fits (next z C absent f0 (suc (M z C absent f0)))) (fits2 : C .Fits (next z C absent f0 (suc (suc (M z C absent f0))))) where
+      few-gone : W .few (gone z C absent f0) ≡ true
+      few-gone = W .part (gone z C absent f0) (λ d. L z C absent f0 .out d || gone z C absent f0 d) (λ d i e. rw (e, or-true)) enough
+
+      next-narrow : (g : ℕ) → Within (belief z (next z C absent f0 g)) (belief z Q) ⊎ Within (belief z (next z C absent f0 g)) (belief z N)
+      next-narrow g =
+          let h = without-narrow z (L z C absent f0) (gone z C absent f0) g in
+          ⊎-elim (λ i. inl (within-trans (belief z (next z C absent f0 g)) (belief z (L z C absent f0)) (belief z Q) h i)) (λ i. inr (within-trans (belief z (next z C absent f0 g)) (belief z (L z C absent f0)) (belief z N) h i)) (L-ok .narrow)
+
+      next-ok : (g : ℕ) → MayRule z W C Q N (next z C absent f0 g)
+      next-ok g = record { few-out = enough; narrow = next-narrow g }
+
+      -- L with another generation rules as L does
+      again-ok : (g : ℕ) → MayRule z W C Q N (again (L z C absent f0) g)
+      unfolding belief
+      again-ok g =
+          record {
+            few-out = L-ok .few-out;
+            narrow = ⊎-elim (λ i. inl (record { look-in = i .look-in; believe-in = i .believe-in })) (λ i. inr (record { look-in = i .look-in; believe-in = i .believe-in })) (L-ok .narrow);
+          }
+
+      -- whoever is not gone gets each of the three labels
+      in-level : (d : ℕ) → d < z .n → gone z C absent f0 d ≡ false → List·Memᴰ d (level-to z C absent f0)
+      unfolding level-to
+      in-level d i e = in-slots (λ x. not (gone z C absent f0 x)) (z .n) d i (rw e)
+
+      in-again : (d : ℕ) → d < z .n → gone z C absent f0 d ≡ false → List·Memᴰ d (again-to z C absent f0)
+      unfolding again-to
+      in-again d i e = in-slots (λ x. not (gone z C absent f0 x)) (z .n) d i (rw e)
+
+      in-last : (d : ℕ) → d < z .n → gone z C absent f0 d ≡ false → List·Memᴰ d (last-to z C absent f0)
+      unfolding last-to
+      in-last d i e = in-slots (λ x. not (gone z C absent f0 x)) (z .n) d i (rw e)
+
+      -- a stale slot is out in the settled label
+      late-out : (d : ℕ) → List·Memᴰ d (late z C absent f0) → (L z C absent f0 .out d || gone z C absent f0 d) ≡ true
+      unfolding gone
+      late-out d m =
+          let y = of-slots (λ x. not (absent x) && stale z C absent f0 x) (z .n) d m in
+          let e : stale z C absent f0 d ≡ true = both (not (absent d)) (stale z C absent f0 d) (y .1) .1 in
+          let i : ltb d (z .n) ≡ true = lt-ltb d (z .n) (y .0) in
+          rw (e, i, or-true) (or-true (L z C absent f0 .out d))
+
+      in-gone : (d : ℕ) → (L z C absent f0 .out d || gone z C absent f0 d) ≡ false → gone z C absent f0 d ≡ false
+      in-gone d h = go (L z C absent f0 .out d) (gone z C absent f0 d) h
+        where
+          go : (x y : Bool) → (x || y) ≡ false → y ≡ false
+          go true y q = absurd (true≢false q)
+          go false y q = q
+
+      abbrev settled : Label
+      settled = next z C absent f0 (suc (suc (M z C absent f0)))
+
+      -- D under the new label, from what it was under Q or N when start-up read the disks
+      pub settled-D : (D : Belief → Image X → Type 0) → Framed D → D (belief z Q) f0 → D (belief z N) f0 → (f : Image X) → Same f0 f → D (belief z settled) f
+      unfolding Framed
+      settled-D D fr a b f s =
+          let g = same-agrees (belief z settled) f0 f s in
+          ⊎-elim (λ i. fr (belief z Q) (belief z settled) i f0 f g a) (λ i. fr (belief z N) (belief z settled) i f0 f g b) (next-narrow (suc (suc (M z C absent f0))))
+
+      pub settled-above : Q .generation < suc (suc (M z C absent f0))
+      settled-above = omega (arith, M-low)
+
+      pub rounds-safe : (o : ℕ) → o ≤ Q .generation → (D : Belief → Image X → Type 0) → Framed D → D (belief z Q) f0 → D (belief z N) f0 → (w : World X) → Sane w → Always w (λ f. Labels z W C Q N top far f × Same f0 f) → During w (rounds z C absent f0) (Shelf z W C o D) × Always (run w (rounds z C absent f0)) (λ f. Labels z W C settled settled (settled .generation) (settled .out) f × Same f0 f)
+      unfolding rounds Framed
+      rounds-safe o old D fr dQ dN w sane start =
+          let m = M z C absent f0 in
+          let l = L z C absent f0 in
+          let l1 = again l (suc m) in
+          let l2 = next z C absent f0 (suc (suc m)) in
+          let p1 = level-to z C absent f0 in
+          let p2 = again-to z C absent f0 in
+          let p3 = last-to z C absent f0 in
+          let ls = late z C absent f0 in
+          let gn = gone z C absent f0 in
+          let sb = same-bare z W C f0 in
+          let A1 = round C l p1 in
+          let A2 = round C l1 p2 in
+          let A3 = round C l2 p3 in
+          let A4 = prep C f0 (suc m) l2 ls in
+          let A5 = round C l2 ls in
+          let w1 = run w A1 in
+          let w2 = run w1 A2 in
+          let w3 = run w2 A3 in
+          let w4 = run w3 A4 in
+          let s1 = sane-run w A1 sane in
+          let s2 = sane-run w1 A2 s1 in
+          let s3 = sane-run w2 A3 s2 in
+          let s4 = sane-run w3 A4 s3 in
+          let e = L-generation in
+          let r1 = round-safe z W C Q N top far l p1 (Same f0) sb w sane L-fits (omega (arith, M-low, e)) L-top (omega (arith, M-near, e)) L-ok start in
+          let t2 : Always w1 (λ f. Labels z W C Q N (suc m) gn f × Same f0 f) =
+          always-map (λ f. Labels z W C Q N top far f × Same f0 f × ((d g : ℕ) → List·Memᴰ d p1 → g ≤ l .generation → Aged C f d g)) (λ f. Labels z W C Q N (suc m) gn f × Same f0 f) w1
+          (λ f o. (labels-rise z W C Q N top (suc m) far gn f M-near few-gone (λ d g i x j. o .2 d g (in-level d i x) (omega (arith, e))) (o .0), o .1)) (r1 .1) in
+          let r2 = round-safe z W C Q N (suc m) gn l1 p2 (Same f0) sb w1 s1 fits1 (omega (arith, M-low)) (omega arith) (omega arith) (again-ok (suc m)) t2 in
+          let t3 : Always w2 (λ f. Labels z W C Q N (suc (suc m)) gn f × Same f0 f × Only z W C (suc (suc m)) l2 f) =
+          always-map (λ f. Labels z W C Q N (suc m) gn f × Same f0 f × ((d g : ℕ) → List·Memᴰ d p2 → g ≤ suc m → Aged C f d g)) (λ f. Labels z W C Q N (suc (suc m)) gn f × Same f0 f × Only z W C (suc (suc m)) l2 f) w2
+          (λ f o. (labels-rise z W C Q N (suc m) (suc (suc m)) gn gn f (omega arith) few-gone (λ d g i x j. o .2 d g (in-again d i x) (omega arith)) (o .0), o .1, only-start z W C Q N (suc m) gn (suc (suc m)) l2 f (omega arith) (o .0))) (r2 .1) in
+          let r3 = round-only z W C Q N (suc (suc m)) gn l2 p3 (Same f0) sb w2 s2 fits2 (omega (arith, M-low)) (omega arith) (omega arith) (next-ok (suc (suc m))) t3 in
+          let t4 : Always w3 (λ f. Labels z W C l2 l2 (suc (suc m)) (l2 .out) f × Same f0 f) =
+          always-map (λ f. Labels z W C Q N (suc (suc m)) gn f × Same f0 f × Only z W C (suc (suc m)) l2 f × ((d g : ℕ) → List·Memᴰ d p3 → g ≤ suc (suc m) → Aged C f d g)) (λ f. Labels z W C l2 l2 (suc (suc m)) (l2 .out) f × Same f0 f) w3
+          (λ f o. (labels-settle z W C Q N (suc (suc m)) gn l2 f (omega arith) enough (λ d g i x j. o .3 d g (in-last d i (in-gone d x)) j) (o .2) (o .0), o .1)) (r3 .1) in
+          let r4 = prep-safe z W C l2 l2 (suc (suc m)) (l2 .out) f0 (suc m) l2 ls (Same f0) sb w3 s3 fits1' (omega arith) (λ q. absurd (omega arith)) (λ d x. (late-out d x, late-out d x)) t4 in
+          let r5 = round-safe z W C l2 l2 (suc (suc m)) (l2 .out) l2 ls (Same f0) sb w4 s4 fits2 (omega arith) (omega arith) (omega arith) (rules-self z W C l2 enough) (r4 .1) in
+          let at-Q : (f : Image X) → Same f0 f → D (belief z Q) f = λ f s. fr (belief z Q) (belief z Q) (within-self (belief z Q)) f0 f (same-agrees (belief z Q) f0 f s) dQ in
+          let at-N : (f : Image X) → Same f0 f → D (belief z N) f = λ f s. fr (belief z N) (belief z N) (within-self (belief z N)) f0 f (same-agrees (belief z N) f0 f s) dN in
+          let at-2 : (f : Image X) → Same f0 f → D (belief z l2) f = settled-D D fr dQ dN in
+          let two : (f : Image X) → Labels z W C l2 l2 (suc (suc m)) (l2 .out) f × Same f0 f → Shelf z W C o D f = λ f y. record { Q = l2; since = omega (arith, M-low); N = l2; top = suc (suc m); far = l2 .out; labels = y .0; under-Q = at-2 f (y .1); under-N = at-2 f (y .1) } in
+          let u1 = during-map (λ f. Labels z W C Q N top far f × Same f0 f) (Shelf z W C o D) w A1 (λ f y. record { Q = Q; since = old; N = N; top = top; far = far; labels = y .0; under-Q = at-Q f (y .1); under-N = at-N f (y .1) }) (r1 .0) in
+          let u2 = during-map (λ f. Labels z W C Q N (suc m) gn f × Same f0 f) (Shelf z W C o D) w1 A2 (λ f y. record { Q = Q; since = old; N = N; top = suc m; far = gn; labels = y .0; under-Q = at-Q f (y .1); under-N = at-N f (y .1) }) (r2 .0) in
+          let u3 = during-map (λ f. Labels z W C Q N (suc (suc m)) gn f × Same f0 f × Only z W C (suc (suc m)) l2 f) (Shelf z W C o D) w2 A3 (λ f y. record { Q = Q; since = old; N = N; top = suc (suc m); far = gn; labels = y .0; under-Q = at-Q f (y .1); under-N = at-N f (y .1) }) (r3 .0) in
+          let u4 = during-map (λ f. Labels z W C l2 l2 (suc (suc m)) (l2 .out) f × Same f0 f) (Shelf z W C o D) w3 A4 two (r4 .0) in
+          let u5 = during-map (λ f. Labels z W C l2 l2 (suc (suc m)) (l2 .out) f × Same f0 f) (Shelf z W C o D) w4 A5 two (r5 .0) in
+          let v4 = during-append (Shelf z W C o D) w3 A4 A5 u4 u5 in
+          let v3 = during-append (Shelf z W C o D) w2 A3 (A4 ++ A5) u3 v4 in
+          let v2 = during-append (Shelf z W C o D) w1 A2 (A3 ++ (A4 ++ A5)) u2 v3 in
+          let v1 = during-append (Shelf z W C o D) w A1 (A2 ++ (A3 ++ (A4 ++ A5))) u1 v2 in
+          (v1, rw (run-append w A1 (A2 ++ (A3 ++ (A4 ++ A5))), run-append w1 A2 (A3 ++ (A4 ++ A5)), run-append w2 A3 (A4 ++ A5), run-append w3 A4 A5) (always-map (λ f. Labels z W C l2 l2 (suc (suc m)) (l2 .out) f × Same f0 f × ((d g : ℕ) → List·Memᴰ d ls → g ≤ suc (suc m) → Aged C f d g)) (λ f. Labels z W C l2 l2 (suc (suc m)) (l2 .out) f × Same f0 f) (run w4 A5) (λ f o. (o .0, o .1)) (r5 .1)))

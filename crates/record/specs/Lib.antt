@@ -1,0 +1,4 @@
+pub mod Layout
+pub mod Stamp
+pub mod Tail
+pub mod Log
