@@ -92,7 +92,7 @@ module _ (k m len : ℕ) (range : InRange k m) where
 
 -- ---- with m = 2 that can be: document 01, section 4. Of a stripe of zeros shards 0 and 1 are wrong, and shard 3 is accused
 
-abbrev found : List ℕ
+abbrev pub found : List ℕ
 found = 0x01 ∷ 0x7b ∷ 0 ∷ 0 ∷ 0 ∷ 0 ∷ []
 
 pub third-accused : Sound 4 2 1 (set found 3 0x7a)
