@@ -12,11 +12,11 @@ use lib.Arith.{digits-lt, digits-div, digits-mod}
 use lib.Dec.{eqb, lit<}
 use lib.ListN.{length, getD, set}
 use borrow.Author.Tests.{eq-eqb, ne-eqb, eqb-true, eqb-false}
-use Rattle.field.specs.Field.{mulOf, powerOf}
-use Rattle.codeword.specs.Sum.{total, total-ext}
+use Rattle.field.specs.Field.{mulOf}
+use Rattle.codeword.specs.Sum.{total-ext}
 use Rattle.codeword.specs.Stripe.{InRange, coef, Holds, byteAt, Sound, has, AgreeOff, Agree}
 use Rattle.codeword.specs.Unique.{AllBytes}
-use Rattle.codeword.specs.Liars.{Differ, one-accused, innocent, repaired-once, found, third-accused, third-alone}
+use Rattle.codeword.specs.Liars.{Differ, one-accused, innocent, repaired-once, found, first-sum, third-accused, third-alone}
 use Rattle.codeword.specs.Mend.{put, put-at, put-off}
 use Rattle.code.specs.Shape.{shapedOf, Shaped}
 use Rattle.code.specs.Lists.{shaped-means}
@@ -183,8 +183,7 @@ mended-bytes (suc (suc (suc (suc (suc zero))))) = lit< tt
 mended-bytes (suc (suc (suc (suc (suc (suc i)))))) = lit< tt
 
 pub innocent-third : (Sound 4 2 1 found → ⊥) × Accuses 4 2 1 found 3
-unfolding coef total mulOf powerOf
 innocent-third = (
-  λ h. let z : _≡_ {A = ℕ} 0 0x7a = h 0 (lit< tt) 0 (lit< tt) in omega arith,
+  λ h. let z : _≡_ {A = ℕ} 0 0x7a = h 0 (lit< tt) 0 (lit< tt) ∙ first-sum 0 (lit< tt) in omega arith,
   accused-by 4 2 1 found 3 (lit< tt) (mended, mended-bytes, third-accused, third-alone),
 )
