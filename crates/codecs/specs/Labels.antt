@@ -98,10 +98,9 @@ meant z (Valid a) = cond (ours z a) (labelOf z a) (noLabel z)
 unfoldable pub decodeLabel : Shelf → ℕ → Bool → Sector → Label
 decodeLabel z d b x = meant z (decodeOf (x .bytes) (d % slots z) (sectorOf b))
 
--- ---- what a label has to be for its bytes to tell it: proper, with no mark where none is being rebuilt, and of a generation from 1 to 2^63 - 1
+-- ---- what a label has to be for its bytes to tell it: proper, and of a generation from 1 to 2^63 - 1
 pub record Fitting (z : Shelf) (l : Label) : Type 0 where
   pub sound : Proper (size z) l
-  pub unmarked : l .rebuilding ≡ slots z → l .mark ≡ 0
   pub from-one : 1 ≤ l .generation
   pub not-last : l .generation ≤ mostGeneration
 
@@ -225,8 +224,8 @@ module _ (z : Shelf) where
       slot-or-none = r .low;
       also-out = r .also;
       mark-T = r .most;
+      unmarked = r .none;
     };
-    unmarked = r .none;
     from-one = f .from-one;
     not-last = f .not-last;
   })
@@ -280,7 +279,7 @@ module _ (z : Shelf) where
 
       by : (b : Bool) → eqb r (slots z) ≡ b
           → cond (eqb (cond b noSlot r) noSlot) (eqb (l .mark) 0) (ltb (cond b noSlot r) (slots z) && (inMask M (cond b noSlot r) && leb (l .mark) T)) ≡ true
-      by true e = eq-eqb (l .mark) 0 (f .unmarked (eqb-true r (slots z) e))
+      by true e = eq-eqb (l .mark) 0 (f .sound .unmarked (eqb-true r (slots z) e))
       by false e =
           let other : r ≡ slots z → ⊥ = eqb-false r (slots z) e in
           let below : r < slots z = ⊎-elim (λ (q : r ≡ slots z). absurd (other q)) (λ (q : r < slots z). q) (eq-or-lt-of-le (f .sound .slot-or-none)) in

@@ -24,12 +24,13 @@ pub record Stamps : Type 0 where
   pub rises : (e : ℕ) → base e < base (suc e)
   pub grows : (e g : ℕ) → e ≤ g → base e ≤ base g
 
--- A label as document 03 has it: no slot beyond n is out, the slot being rebuilt is out, n stands for none, the mark is at most T.
+-- A label as document 03 has it: no slot beyond n is out, the slot being rebuilt is out, n stands for none, the mark is at most T, and 0 where none is being rebuilt.
 pub record Proper (z : Size) (l : Label) : Type 0 where
   pub inside : (d : ℕ) → z .n ≤ d → l .out d ≡ false
   pub slot-or-none : l .rebuilding ≤ z .n
   pub also-out : l .rebuilding < z .n → l .out (l .rebuilding) ≡ true
   pub mark-T : l .mark ≤ z .T
+  pub unmarked : l .rebuilding ≡ z .n → l .mark ≡ 0
 
 -- What the sectors can hold: every proper label up to the greatest generation, and every record up to the stamps of that epoch; and what zeros mean.
 pub record Medium {X : Type 0} (z : Size) (W : Quorum (z .n)) (C : LabelCodec X) (K : RecordCodec X) (E : Code X (z .n) (K .c) W) (S : Stamps) : Type 0 where

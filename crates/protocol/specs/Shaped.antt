@@ -239,16 +239,16 @@ module _ {X : Type 0} (z : Size) (W : Quorum (z .n)) (C : LabelCodec X) (K : Rec
       split x true p false q y = absurd (true≢false (sym (rw (p, q)) ∙ y))
       split x false p c q y = inr p
   shaped-idle w o (rebuild-on b) v s r h =
-      verdict w (idle o) h (may z W C K E S R false o (rebuild-on b)) (asked-on z W C K E S R o (mask z W C K E S R (o .absent) (w .cur)) b) (λ e. on b (on-tests z W C K E S R o b e .1) (last-batch z W C K E S R o b) refl)
+      verdict w (idle o) h (may z W C K E S R false o (rebuild-on b)) (asked-on z W C K E S R o (mask z W C K E S R (o .absent) (w .cur)) b) (λ e. let t = on-tests z W C K E S R o b e in on b (t .0) (t .1) (last-batch z W C K E S R o b) refl)
     where
-      on : (b : ℕ) → suc (o .now .generation) ≤ R .greatest → (y : Bool) → last-batch z W C K E S R o b ≡ y → Shaped (at w (cond y (asked-heal z W C K E S R o (mask z W C K E S R (o .absent) (w .cur))) (asked-raise z W C K E S R o (mask z W C K E S R (o .absent) (w .cur)) (at-least-one z W C K E S R b))))
-      on b room true e =
+      on : (b : ℕ) → o .now .rebuilding < z .n → suc (o .now .generation) ≤ R .greatest → (y : Bool) → last-batch z W C K E S R o b ≡ y → Shaped (at w (cond y (asked-heal z W C K E S R o (mask z W C K E S R (o .absent) (w .cur))) (asked-raise z W C K E S R o (mask z W C K E S R (o .absent) (w .cur)) (at-least-one z W C K E S R b))))
+      on b i room true e =
           let N = healed (z .n) (o .now) in
           change-shape o (relabelled z W C K E S R o N) (filling z W C K E S R o (mask z W C K E S R (o .absent) (w .cur)) (z .T - o .now .mark)) refl refl (R .fits N (proper-healed z (o .now) (r .sound)) (omega arith) room) w s (fill-data (o .now) (z .T - o .now .mark) (rebuilt z W K E (o .now) (mask z W C K E S R (o .absent) (w .cur)) (o .now .rebuilding))) h
-      on b room false e =
+      on b i room false e =
           let more = at-least-one z W C K E S R b in
           let N = raised (o .now) (o .now .mark + more) in
-          change-shape o (relabelled z W C K E S R o N) (filling z W C K E S R o (mask z W C K E S R (o .absent) (w .cur)) more) refl refl (R .fits N (proper-raised z (o .now) (o .now .mark + more) (omega (arith, leb-false (z .T) (o .now .mark + more) e)) (r .sound)) (omega arith) room) w s (fill-data (o .now) more (rebuilt z W K E (o .now) (mask z W C K E S R (o .absent) (w .cur)) (o .now .rebuilding))) h
+          change-shape o (relabelled z W C K E S R o N) (filling z W C K E S R o (mask z W C K E S R (o .absent) (w .cur)) more) refl refl (R .fits N (proper-raised z (o .now) (o .now .mark + more) i (omega (arith, leb-false (z .T) (o .now .mark + more) e)) (r .sound)) (omega arith) room) w s (fill-data (o .now) more (rebuilt z W K E (o .now) (mask z W C K E S R (o .absent) (w .cur)) (o .now .rebuilding))) h
   shaped-idle w o (scrub-stripe t) v s r h = scrub-kept (may z W C K E S R false o (scrub-stripe t))
     where
       scrub-kept : (y : Verdict) → After w (answer z W C K E S R (idle o) y (idle o) (found (E .scrub t (λ d j. mask z W C K E S R (o .absent) (w .cur) (strip d t j)))))
