@@ -33,7 +33,7 @@ pub record Proper (z : Size) (l : Label) : Type 0 where
   pub unmarked : l .rebuilding ≡ z .n → l .mark ≡ 0
 
 -- What the sectors can hold: every proper label up to the greatest generation, and every record up to the stamps of that epoch; and what zeros mean.
-pub record Medium {X : Type 0} (z : Size) (W : Quorum (z .n)) (C : LabelCodec X) (K : RecordCodec X) (E : Code X (z .n) (K .c) W) (S : Stamps) : Type 0 where
+pub record Medium {X : Type 0} (z : Size) (W : Quorum (z .n)) (C : LabelCodec X (z .n)) (K : RecordCodec X) (E : Code X (z .n) (K .c) W) (S : Stamps) : Type 0 where
   pub greatest : ℕ
   pub fits : (l : Label) → Proper z l → 0 < l .generation → l .generation ≤ greatest → C .Fits l
   pub is-proper : (l : Label) → C .Fits l → Proper z l × (l .generation ≤ greatest)
@@ -118,7 +118,7 @@ new-label n g = record { generation = g; out = λ d. false; rebuilding = n; mark
 abbrev pub beyond : ℕ → (ℕ → Bool) → ℕ → Bool
 beyond n absent d = absent d || not (ltb d n)
 
-module _ {X : Type 0} (z : Size) (W : Quorum (z .n)) (C : LabelCodec X) (K : RecordCodec X) (E : Code X (z .n) (K .c) W) (S : Stamps) (R : Medium z W C K E S) where
+module _ {X : Type 0} (z : Size) (W : Quorum (z .n)) (C : LabelCodec X (z .n)) (K : RecordCodec X) (E : Code X (z .n) (K .c) W) (S : Stamps) (R : Medium z W C K E S) where
   -- what is seen of an image
   unfoldable pub mask : (ℕ → Bool) → Image X → Image X
   mask absent f k = cond (absent (slot k)) (K .zeros) (f k)

@@ -109,7 +109,7 @@ module _ (z : Size) where
   pub proper-new : (g : ℕ) → Proper z (new-label (z .n) g)
   proper-new g = record { inside = λ d i. refl; slot-or-none = omega arith; also-out = λ j. absurd (omega arith); mark-T = omega arith; unmarked = λ e. refl }
 
-module _ {X : Type 0} (z : Size) (W : Quorum (z .n)) (C : LabelCodec X) (K : RecordCodec X) (E : Code X (z .n) (K .c) W) (S : Stamps) (R : Medium z W C K E S) where
+module _ {X : Type 0} (z : Size) (W : Quorum (z .n)) (C : LabelCodec X (z .n)) (K : RecordCodec X) (E : Code X (z .n) (K .c) W) (S : Stamps) (R : Medium z W C K E S) where
   abbrev tableOf : Host X → Table X
   tableOf = table z W K E
 

@@ -164,7 +164,7 @@ labels-forth d l f =
     let o : flags (l .out 0) (l .out 1) (l .out 2) ≡ l .out = fun-ext (flags-of (l .out) (f .sound .inside)) in
     λ i. record { generation = cond (e i) (l .generation) 0; out = o i; rebuilding = l .rebuilding; mark = l .mark }
 
-abbrev pub labels : LabelCodec Sector
+abbrev pub labels : LabelCodec Sector (size .n)
 labels =
     record {
       Fits = Fitting;
@@ -173,7 +173,7 @@ labels =
       encode = λ d l. told (l .generation) (l .out 0) (l .out 1) (l .out 2) (l .rebuilding) (l .mark);
       decode = λ d s x. labelOf s x;
       decode-fits = λ d s x h. labels-back d s x h;
-      decode-encode = λ d l h. labels-forth d l h;
+      decode-encode = λ d l i h. labels-forth d l h;
       decode-zeros = λ d b. refl;
       side-next = λ g. refl;
       decode-side = λ d b x h. own-side b x h;
@@ -227,7 +227,7 @@ records =
       changesOf = changesIn;
       piece = λ t x j. inner x;
       stamp-zeros = refl;
-      stamp-sector = λ σ w d j f. refl;
+      stamp-sector = λ σ w d j f h. refl;
       stripe-tail = λ σ w d f. refl;
       changes-tail = λ σ w d e f. flags-of (w .changes) (off-high (w .changes) f) e;
       piece-back = λ σ w d j f h. refl;
