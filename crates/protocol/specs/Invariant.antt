@@ -30,7 +30,7 @@ pub record Ghost (X : Type 0) : Type 0 where
   pub u : ℕ
   pub e : ℕ
 
-module _ {X : Type 0} (z : Size) (W : Quorum (z .n)) (C : LabelCodec X) (K : RecordCodec X) (E : Code X (z .n) (K .c) W) (S : Stamps) (R : Medium z W C K E S) where
+module _ {X : Type 0} (z : Size) (W : Quorum (z .n)) (C : LabelCodec X (z .n)) (K : RecordCodec X) (E : Code X (z .n) (K .c) W) (S : Stamps) (R : Medium z W C K E S) where
   -- of an image that a cut could leave
   abbrev pub Left : Ghost X → View X → Image X → Type 0
   Left g (sure v) f = Shelf z W C (g .e) (λ B h. Quiet K B (g .history) (g .u) (table z W K E v) h) f

@@ -38,7 +38,7 @@ unfolding behind
 behind-false own newest e = ltb-false (suc own) newest e
 
 -- the program: what is read, and the rounds
-module _ {X : Type 0} (z : Size) (C : LabelCodec X) (absent : ℕ → Bool) (f0 : Image X) where
+module _ {X : Type 0} (z : Size) (C : LabelCodec X (z .n)) (absent : ℕ → Bool) (f0 : Image X) where
   abbrev pub newest : ℕ → Label
   newest d = cond (ltb (copy C f0 d false .generation) (copy C f0 d true .generation)) (copy C f0 d true) (copy C f0 d false)
 
@@ -149,7 +149,7 @@ unfoldable pub Framed : {X : Type 0} → (Belief → Image X → Type 0) → Typ
 Framed {X} D = (B B' : Belief) → Within B' B → (f g : Image X) → Agrees B' f g → D B f → D B' g
 
 -- THE INVARIANT of a shelf, of whatever a cut leaves: some label Q is settled (of generation e or more: stamps are told apart by it), perhaps a label N was about to be, the labels are as they must be, and D is true of strips and records under both
-pub record Shelf {X : Type 0} (z : Size) (W : Quorum (z .n)) (C : LabelCodec X) (e : ℕ) (D : Belief → Image X → Type 0) (f : Image X) : Type 0 where
+pub record Shelf {X : Type 0} (z : Size) (W : Quorum (z .n)) (C : LabelCodec X (z .n)) (e : ℕ) (D : Belief → Image X → Type 0) (f : Image X) : Type 0 where
   pub Q : Label
   pub since : e ≤ Q .generation
   pub N : Label
@@ -170,7 +170,7 @@ same-agrees B f0 f s = record { on-log = λ d j a. s .logs d j; on-strip = λ d 
 pub same-self : {X : Type 0} (f : Image X) → Same f f
 same-self f = record { logs = λ d j. refl; strips = λ d t j. refl }
 
-pub same-bare : {X : Type 0} (z : Size) (W : Quorum (z .n)) (C : LabelCodec X) (f0 : Image X) → Bare z W C (Same f0)
+pub same-bare : {X : Type 0} (z : Size) (W : Quorum (z .n)) (C : LabelCodec X (z .n)) (f0 : Image X) → Bare z W C (Same f0)
 unfolding Bare
 same-bare z W C f0 f d b x s =
     record {
@@ -178,7 +178,7 @@ same-bare z W C f0 f d b x s =
       strips = λ e t j. update-other f (label d b) x (strip e t j) (λ q. let i : _≡_ {A = ℕ} 0 1 = cc in omega arith) ∙ s .strips e t j;
     }
 
-module _ {X : Type 0} (z : Size) (W : Quorum (z .n)) (C : LabelCodec X) (absent : ℕ → Bool) (f0 : Image X) where
+module _ {X : Type 0} (z : Size) (W : Quorum (z .n)) (C : LabelCodec X (z .n)) (absent : ℕ → Bool) (f0 : Image X) where
   pub newest-top : (d : ℕ) (b : Bool) → copy C f0 d b .generation ≤ newest z C absent f0 d .generation
   newest-top d b = go (ltb (copy C f0 d false .generation) (copy C f0 d true .generation)) refl b
     where
@@ -370,16 +370,16 @@ module _ {X : Type 0} (z : Size) (W : Quorum (z .n)) (C : LabelCodec X) (absent 
           let e = L-generation in
           let r1 = round-safe z W C Q N top far l p1 (Same f0) sb w sane L-fits (omega (arith, M-low, e)) L-top (omega (arith, M-near, e)) L-ok start in
           let t2 : Always w1 (λ f. Labels z W C Q N (suc m) gn f × Same f0 f) =
-          always-map (λ f. Labels z W C Q N top far f × Same f0 f × ((d g : ℕ) → List·Memᴰ d p1 → g ≤ l .generation → Aged C f d g)) (λ f. Labels z W C Q N (suc m) gn f × Same f0 f) w1
-          (λ f o. (labels-rise z W C Q N top (suc m) far gn f M-near few-gone (λ d g i x j. o .2 d g (in-level d i x) (omega (arith, e))) (o .0), o .1)) (r1 .1) in
+          always-map (λ f. Labels z W C Q N top far f × Same f0 f × ((d g : ℕ) → List·Memᴰ d p1 → d < z .n → g ≤ l .generation → Aged C f d g)) (λ f. Labels z W C Q N (suc m) gn f × Same f0 f) w1
+          (λ f o. (labels-rise z W C Q N top (suc m) far gn f M-near few-gone (λ d g i x j. o .2 d g (in-level d i x) i (omega (arith, e))) (o .0), o .1)) (r1 .1) in
           let r2 = round-safe z W C Q N (suc m) gn l1 p2 (Same f0) sb w1 s1 fits1 (omega (arith, M-low)) (omega arith) (omega arith) (again-ok (suc m)) t2 in
           let t3 : Always w2 (λ f. Labels z W C Q N (suc (suc m)) gn f × Same f0 f × Only z W C (suc (suc m)) l2 f) =
-          always-map (λ f. Labels z W C Q N (suc m) gn f × Same f0 f × ((d g : ℕ) → List·Memᴰ d p2 → g ≤ suc m → Aged C f d g)) (λ f. Labels z W C Q N (suc (suc m)) gn f × Same f0 f × Only z W C (suc (suc m)) l2 f) w2
-          (λ f o. (labels-rise z W C Q N (suc m) (suc (suc m)) gn gn f (omega arith) few-gone (λ d g i x j. o .2 d g (in-again d i x) (omega arith)) (o .0), o .1, only-start z W C Q N (suc m) gn (suc (suc m)) l2 f (omega arith) (o .0))) (r2 .1) in
+          always-map (λ f. Labels z W C Q N (suc m) gn f × Same f0 f × ((d g : ℕ) → List·Memᴰ d p2 → d < z .n → g ≤ suc m → Aged C f d g)) (λ f. Labels z W C Q N (suc (suc m)) gn f × Same f0 f × Only z W C (suc (suc m)) l2 f) w2
+          (λ f o. (labels-rise z W C Q N (suc m) (suc (suc m)) gn gn f (omega arith) few-gone (λ d g i x j. o .2 d g (in-again d i x) i (omega arith)) (o .0), o .1, only-start z W C Q N (suc m) gn (suc (suc m)) l2 f (omega arith) (o .0))) (r2 .1) in
           let r3 = round-only z W C Q N (suc (suc m)) gn l2 p3 (Same f0) sb w2 s2 fits2 (omega (arith, M-low)) (omega arith) (omega arith) (next-ok (suc (suc m))) t3 in
           let t4 : Always w3 (λ f. Labels z W C l2 l2 (suc (suc m)) (l2 .out) f × Same f0 f) =
-          always-map (λ f. Labels z W C Q N (suc (suc m)) gn f × Same f0 f × Only z W C (suc (suc m)) l2 f × ((d g : ℕ) → List·Memᴰ d p3 → g ≤ suc (suc m) → Aged C f d g)) (λ f. Labels z W C l2 l2 (suc (suc m)) (l2 .out) f × Same f0 f) w3
-          (λ f o. (labels-settle z W C Q N (suc (suc m)) gn l2 f (omega arith) enough (λ d g i x j. o .3 d g (in-last d i (in-gone d x)) j) (o .2) (o .0), o .1)) (r3 .1) in
+          always-map (λ f. Labels z W C Q N (suc (suc m)) gn f × Same f0 f × Only z W C (suc (suc m)) l2 f × ((d g : ℕ) → List·Memᴰ d p3 → d < z .n → g ≤ suc (suc m) → Aged C f d g)) (λ f. Labels z W C l2 l2 (suc (suc m)) (l2 .out) f × Same f0 f) w3
+          (λ f o. (labels-settle z W C Q N (suc (suc m)) gn l2 f (omega arith) enough (λ d g i x j. o .3 d g (in-last d i (in-gone d x)) i j) (o .2) (o .0), o .1)) (r3 .1) in
           let r4 = prep-safe z W C l2 l2 (suc (suc m)) (l2 .out) f0 (suc m) l2 ls (Same f0) sb w3 s3 fits1' (omega arith) (λ q. absurd (omega arith)) (λ d x. (late-out d x, late-out d x)) t4 in
           let r5 = round-safe z W C l2 l2 (suc (suc m)) (l2 .out) l2 ls (Same f0) sb w4 s4 fits2 (omega arith) (omega arith) (omega arith) (rules-self z W C l2 enough) (r4 .1) in
           let at-Q : (f : Image X) → Same f0 f → D (belief z Q) f = λ f s. fr (belief z Q) (belief z Q) (within-self (belief z Q)) f0 f (same-agrees (belief z Q) f0 f s) dQ in
@@ -395,4 +395,4 @@ module _ {X : Type 0} (z : Size) (W : Quorum (z .n)) (C : LabelCodec X) (absent 
           let v3 = during-append (Shelf z W C o D) w2 A3 (A4 ++ A5) u3 v4 in
           let v2 = during-append (Shelf z W C o D) w1 A2 (A3 ++ (A4 ++ A5)) u2 v3 in
           let v1 = during-append (Shelf z W C o D) w A1 (A2 ++ (A3 ++ (A4 ++ A5))) u1 v2 in
-          (v1, rw (run-append w A1 (A2 ++ (A3 ++ (A4 ++ A5))), run-append w1 A2 (A3 ++ (A4 ++ A5)), run-append w2 A3 (A4 ++ A5), run-append w3 A4 A5) (always-map (λ f. Labels z W C l2 l2 (suc (suc m)) (l2 .out) f × Same f0 f × ((d g : ℕ) → List·Memᴰ d ls → g ≤ suc (suc m) → Aged C f d g)) (λ f. Labels z W C l2 l2 (suc (suc m)) (l2 .out) f × Same f0 f) (run w4 A5) (λ f o. (o .0, o .1)) (r5 .1)))
+          (v1, rw (run-append w A1 (A2 ++ (A3 ++ (A4 ++ A5))), run-append w1 A2 (A3 ++ (A4 ++ A5)), run-append w2 A3 (A4 ++ A5), run-append w3 A4 A5) (always-map (λ f. Labels z W C l2 l2 (suc (suc m)) (l2 .out) f × Same f0 f × ((d g : ℕ) → List·Memᴰ d ls → d < z .n → g ≤ suc (suc m) → Aged C f d g)) (λ f. Labels z W C l2 l2 (suc (suc m)) (l2 .out) f × Same f0 f) (run w4 A5) (λ f o. (o .0, o .1)) (r5 .1)))
