@@ -4,3 +4,4 @@ pub mod Quorum
 pub mod Position
 pub mod Parity
 pub mod Code
+pub mod Promise

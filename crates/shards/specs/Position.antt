@@ -10,6 +10,7 @@ use native.Mathlib.Nat.{eq-or-lt-of-le, le-of-suc-le-suc}
 use native.Mathlib.Omega.{arith}
 use lib.Dec.{eqb, leb, lit<}
 use lib.ListN.{length, take, length-append}
+use lib.Seq.{take-append-add}
 use borrow.Author.Tests.{eqb-true, eqb-false, eq-eqb, ne-eqb, le-leb}
 use Rattle.field.specs.Field.{mulOf}
 use Rattle.codeword.specs.Sum.{total-ext}
@@ -115,9 +116,9 @@ unfoldable pub ascending : (ℕ → Bool) → ℕ → List ℕ
 ascending p zero = []
 ascending p (suc n) = ascending p n ++ cond (p n) (n ∷ []) []
 
--- the missing shards, and the greatest of the others, so that there are m: what is found goes by the k least shards that are there
+-- the missing shards, and after them the greatest of the others, m in all: what is found goes by the k least shards that are there
 unfoldable pub padded : ℕ → ℕ → List ℕ → List ℕ
-padded k m missing = missing ++ take (m - length missing) (chosen (λ r. not (has missing r)) (k + m))
+padded k m missing = take m (missing ++ chosen (λ r. not (has missing r)) (k + m))
 
 has-append : (a b : List ℕ) (r : ℕ) → has (a ++ b) r ≡ cond (has a r) true (has b r)
 has-append [] b r = refl
@@ -165,24 +166,31 @@ ascending-length p (suc n) = length-append (ascending p n) (cond (p n) (n ∷ []
     go true e = omega arith
     go false e = omega arith
 
-pub padded-off : (k m : ℕ) (missing : List ℕ) (r : ℕ) → has (padded k m missing) r ≡ false → has missing r ≡ false
-unfolding padded
-padded-off k m missing r e = go (has missing r) (sym (has-append missing (take (m - length missing) (chosen (λ r. not (has missing r)) (k + m))) r) ∙ e)
+-- a list that has an entry of its first part has it
+left-off : (a b : List ℕ) (r : ℕ) → has (a ++ b) r ≡ false → has a r ≡ false
+left-off a b r e = go (has a r) (sym (has-append a b r) ∙ e)
   where
-    go : (b : Bool) → cond b true (has (take (m - length missing) (chosen (λ r. not (has missing r)) (k + m))) r) ≡ false → b ≡ false
+    go : (t : Bool) → cond t true (has b r) ≡ false → t ≡ false
     go true q = q
     go false q = refl
+
+-- every missing shard is in it
+pub padded-off : (k m : ℕ) (missing : List ℕ) → length missing ≤ m → (r : ℕ) → has (padded k m missing) r ≡ false → has missing r ≡ false
+unfolding padded
+padded-off k m missing h r e =
+    let others : List ℕ = chosen (λ r. not (has missing r)) (k + m) in
+    let q : m ≡ length missing + (m - length missing) = omega arith in
+    left-off missing (take (m - length missing) others) r
+    (sym (ap (λ (l : List ℕ). has l r) (ap (λ (i : ℕ). take i (missing ++ others)) q ∙ take-append-add missing others (m - length missing))) ∙ e)
 
 take-few : (i : ℕ) (l : List ℕ) → length (take i l) ≤ i
 take-few zero l = omega arith
 take-few (suc i) [] = omega arith
 take-few (suc i) (x ∷ l) = omega (arith, take-few i l)
 
-pub padded-few : (k m : ℕ) (missing : List ℕ) → length missing ≤ m → length (padded k m missing) ≤ m
+pub padded-few : (k m : ℕ) (missing : List ℕ) → length (padded k m missing) ≤ m
 unfolding padded
-padded-few k m missing h =
-    let spare : List ℕ = chosen (λ r. not (has missing r)) (k + m) in
-    omega (arith, length-append missing (take (m - length missing) spare), take-few (m - length missing) spare)
+padded-few k m missing = take-few m (missing ++ chosen (λ r. not (has missing r)) (k + m))
 
 -- ---- a position with its missing shards filled in
 
@@ -210,7 +218,7 @@ unfolding filled
 filled-is k m range missing few x y bx by h e r l t =
     ap (λ (b : Bool). cond b (cond (leb (length missing) m) (solved k m (padded k m missing) x r) 0) (x r)) t
     ∙ ap (λ (b : Bool). cond b (solved k m (padded k m missing) x r) 0) (le-leb (length missing) m few)
-    ∙ solved-is k m range (padded k m missing) (padded-few k m missing few) x y bx by h e r l
+    ∙ solved-is k m range (padded k m missing) (padded-few k m missing) x y bx by h e r l
 
 -- so where the stripe is sound, every shard is its own
 pub filled-back : (k m : ℕ) → InRange k m → (missing : List ℕ) → length missing ≤ m → (x y : ℕ → ℕ) → Bytes x → Bytes y → Holds k m y
@@ -218,5 +226,5 @@ pub filled-back : (k m : ℕ) → InRange k m → (missing : List ℕ) → lengt
 filled-back k m range missing few x y bx by h e r l = go (has missing r) refl
   where
     go : (b : Bool) → has missing r ≡ b → filled k m missing x r ≡ y r
-    go true t = filled-is k m range missing few x y bx by h (λ q g n. e q g (padded-off k m missing q n)) r l t
+    go true t = filled-is k m range missing few x y bx by h (λ q g n. e q g (padded-off k m missing few q n)) r l t
     go false t = filled-off k m missing x r t ∙ e r l t

@@ -50,6 +50,14 @@ module _ (z : Shelf) where
   unfolding fewOf
   count-few a h = le-leb (tally a (slots z)) (z .m) (omega (arith, tally-count a (slots z)))
 
+  -- none are few
+  pub few-none : fewOf z (λ d. false) ≡ true
+  few-none = count-few (λ d. false) (omega (arith, none (slots z)))
+    where
+      none : (n : ℕ) → count (λ d. false) n ≡ 0
+      none zero = refl
+      none (suc n) = omega (arith, none n)
+
   -- of a mask: at most m ones
   pub few-mask : (mask : ℕ) → mask < 2 ^ slots z → fewOf z (inMask mask) ≡ leb (ones mask) (z .m)
   unfolding fewOf
