@@ -4,4 +4,5 @@ pub mod Quorum
 pub mod Position
 pub mod Parity
 pub mod Code
+pub mod Exact
 pub mod Promise

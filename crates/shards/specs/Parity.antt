@@ -70,9 +70,17 @@ parity-byte k m q x = total-byte k (λ i. mulOf (coef m q i) (x i)) (λ i l. byt
 unfoldable pub parityOfSectors : ℕ → ℕ → ℕ → (ℕ → Sector) → Sector
 parityOfSectors k m q s = sectorOf (λ p. parityOf k m q (λ i. byte (s i) p)) (λ p. parity-byte k m q (λ i. byte (s i) p))
 
+-- which parity shard, from 0, shard r is
+unfoldable pub rowOf : ℕ → ℕ → ℕ
+rowOf k r = r - k
+
+pub row-of : (k q : ℕ) → rowOf k (k + q) ≡ q
+unfolding rowOf
+row-of k q = omega arith
+
 -- sector j of shard r for the blocks b: a block's own, or parity
 unfoldable pub shardSector : ℕ → ℕ → Blocks Sector → ℕ → ℕ → Sector
-shardSector k m b r j = cond (ltb r k) (b r j) (parityOfSectors k m (r - k) (λ i. b i j))
+shardSector k m b r j = cond (ltb r k) (b r j) (parityOfSectors k m (rowOf k r) (λ i. b i j))
 
 module _ (k m : ℕ) where
   pub parity-at : (q : ℕ) (s : ℕ → Sector) (p : ℕ) → p < sectorBytes → byte (parityOfSectors k m q s) p ≡ parityOf k m q (λ i. byte (s i) p)
@@ -93,26 +101,24 @@ module _ (k m : ℕ) where
       parity-at q (λ i. zeros) p l
       ∙ total-zero k (λ i. mulOf (coef m q i) (byte zeros p)) (λ i h. ap (mulOf (coef m q i)) z ∙ bytes .mul-zero (coef m q i)) ∙ sym z)
 
-  module _ (b : Blocks Sector) (r j : ℕ) where
-    pub data-sector : r < k → shardSector k m b r j ≡ b r j
-    unfolding shardSector
-    data-sector h = ap (λ (t : Bool). cond t (b r j) (parityOfSectors k m (r - k) (λ i. b i j))) (lt-ltb r k h)
+  pub data-sector : (b : Blocks Sector) (r j : ℕ) → r < k → shardSector k m b r j ≡ b r j
+  unfolding shardSector
+  data-sector b r j h = rw (lt-ltb r k h)
 
-    pub parity-sector : k ≤ r → shardSector k m b r j ≡ parityOfSectors k m (r - k) (λ i. b i j)
-    unfolding shardSector
-    parity-sector h = ap (λ (t : Bool). cond t (b r j) (parityOfSectors k m (r - k) (λ i. b i j))) (le-ltb r k h)
+  pub parity-sector : (b : Blocks Sector) (q j : ℕ) → shardSector k m b (k + q) j ≡ parityOfSectors k m q (λ i. b i j)
+  unfolding shardSector
+  parity-sector b q j = rw (le-ltb (k + q) k (omega arith), row-of k q)
 
   pub shard-ext : (a b : Blocks Sector) (r j : ℕ) → ((i : ℕ) → i < k → a i j ≡ b i j) → shardSector k m a r j ≡ shardSector k m b r j
   unfolding shardSector
   shard-ext a b r j e = go (ltb r k) refl
     where
-      go : (t : Bool) → ltb r k ≡ t → cond t (a r j) (parityOfSectors k m (r - k) (λ i. a i j)) ≡ cond t (b r j) (parityOfSectors k m (r - k) (λ i. b i j))
+      go : (t : Bool) → ltb r k ≡ t → cond t (a r j) (parityOfSectors k m (rowOf k r) (λ i. a i j)) ≡ cond t (b r j) (parityOfSectors k m (rowOf k r) (λ i. b i j))
       go true q = e r (ltb-true r k q)
-      go false q = parity-same (r - k) (λ i. a i j) (λ i. b i j) e
+      go false q = parity-same (rowOf k r) (λ i. a i j) (λ i. b i j) e
 
   -- THE EQUATIONS hold of the stripe's sectors at every byte
   pub sectors-hold : (b : Blocks Sector) (j p : ℕ) → p < sectorBytes → Holds k m (λ r. byte (shardSector k m b r j) p)
   sectors-hold b j p l q h =
-      ap (λ (x : Sector). byte x p) (parity-sector b (k + q) j (omega arith)) ∙ parity-at (k + q - k) (λ i. b i j) p l
-      ∙ ap (λ (i : ℕ). parityOf k m i (λ i. byte (b i j) p)) (let e : k + q - k ≡ q = omega arith in e)
+      ap (λ (x : Sector). byte x p) (parity-sector b q j) ∙ parity-at q (λ i. b i j) p l
       ∙ parity-ext k m q (λ i. byte (b i j) p) (λ r. byte (shardSector k m b r j) p) (λ i g. ap (λ (x : Sector). byte x p) (sym (data-sector b i j g)))

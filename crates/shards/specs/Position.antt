@@ -11,7 +11,7 @@ use native.Mathlib.Omega.{arith}
 use lib.Dec.{eqb, leb, lit<}
 use lib.ListN.{length, take, length-append}
 use lib.Seq.{take-append-add}
-use borrow.Author.Tests.{eqb-true, eqb-false, eq-eqb, ne-eqb, le-leb}
+use borrow.Author.Tests.{eqb-true, eqb-false, eq-eqb, ne-eqb, le-leb, leb-true}
 use Rattle.field.specs.Field.{mulOf}
 use Rattle.codeword.specs.Sum.{total-ext}
 use Rattle.codeword.specs.Stripe.{InRange, coef, parityOf, Holds, Bytes, has}
@@ -20,7 +20,7 @@ use Rattle.codeword.specs.Mend.{put, put-at, put-off, put-bytes}
 use Rattle.codeword.specs.Unique.{unique}
 use Rattle.protocol.specs.Count.{count}
 use Rattle.protocol.specs.Count as Count
-use Rattle.shards.specs.Search.{all, all-at, all-of, some, some-of, first, first-is, first-lt}
+use Rattle.shards.specs.Search.{all, all-at, all-of, some, some-of, some-ext, first, first-is, first-ext, first-lt}
 
 -- ---- the equations, as a test
 
@@ -73,6 +73,16 @@ put-agrees n a l x y e r h t = go (eqb a r) refl (e r h)
     go true q f = ap (put a (y a) x) (sym (eqb-true a r q)) ∙ put-at a (y a) x ∙ ap y (eqb-true a r q)
     go false q f = put-off a (y a) r x (λ s. eqb-false a r q (sym s)) ∙ f t
 
+-- x and y agree off a :: l: with one byte v for a in both, they agree off l
+put-same : (n a v : ℕ) (l : List ℕ) (x y : ℕ → ℕ) → ((r : ℕ) → r < n → has (a ∷ l) r ≡ false → x r ≡ y r)
+    → (r : ℕ) → r < n → has l r ≡ false → put a v x r ≡ put a v y r
+put-same n a v l x y e r h t = go (eqb a r) refl (e r h)
+  where
+    go : (b : Bool) → eqb a r ≡ b → (cond b true (has l r) ≡ false → x r ≡ y r) → put a v x r ≡ put a v y r
+    go true q f =
+        ap (put a v x) (sym (eqb-true a r q)) ∙ put-at a v x ∙ sym (ap (put a v y) (sym (eqb-true a r q)) ∙ put-at a v y)
+    go false q f = put-off a v r x (λ s. eqb-false a r q (sym s)) ∙ f t ∙ sym (put-off a v r y (λ s. eqb-false a r q (sym s)))
+
 module _ (k m : ℕ) where
   -- a stripe that holds shows that there are such bytes
   solvable-by : (lost : List ℕ) (x y : ℕ → ℕ) → Bytes y → Holds k m y → ((r : ℕ) → r < k + m → has lost r ≡ false → x r ≡ y r) → solvable k m lost x ≡ true
@@ -101,6 +111,30 @@ module _ (k m : ℕ) where
   solved-bytes (a ∷ l) x b =
       solved-bytes l (put a (first 256 (λ v. solvable k m l (put a v x))) x)
       (put-bytes a (first 256 (λ v. solvable k m l (put a v x))) x (first-lt 256 (λ v. solvable k m l (put a v x)) (lit< tt)) b)
+
+  -- THE SEARCH IS BLIND to what the shards of the list held
+  solvable-blind : (lost : List ℕ) (x y : ℕ → ℕ) → ((r : ℕ) → r < k + m → has lost r ≡ false → x r ≡ y r) → solvable k m lost x ≡ solvable k m lost y
+  unfolding solvable
+  solvable-blind [] x y e = either (holds k m x) refl (holds k m y) refl
+    where
+      same : (r : ℕ) → r < k + m → x r ≡ y r
+      same r l = e r l refl
+
+      either : (a : Bool) → holds k m x ≡ a → (b : Bool) → holds k m y ≡ b → holds k m x ≡ holds k m y
+      either true p b q = p ∙ sym (holds-is k m y (holds-same k m y x (λ r l. sym (same r l)) (holds-true k m x p)))
+      either false p true q = holds-is k m x (holds-same k m x y same (holds-true k m y q)) ∙ sym q
+      either false p false q = p ∙ sym q
+  solvable-blind (a ∷ l) x y e =
+      some-ext 256 (λ v. solvable k m l (put a v x)) (λ v. solvable k m l (put a v y)) (λ v. solvable-blind l (put a v x) (put a v y) (put-same (k + m) a v l x y e))
+
+  pub solved-blind : (lost : List ℕ) (x y : ℕ → ℕ) → ((r : ℕ) → r < k + m → has lost r ≡ false → x r ≡ y r) → (r : ℕ) → r < k + m → solved k m lost x r ≡ solved k m lost y r
+  unfolding solved
+  solved-blind [] x y e r l = e r l refl
+  solved-blind (a ∷ l) x y e r h =
+      solved-blind l (put a (first 256 (λ v. solvable k m l (put a v x))) x) (put a (first 256 (λ v. solvable k m l (put a v x))) y)
+      (put-same (k + m) a (first 256 (λ v. solvable k m l (put a v x))) l x y e) r h
+      ∙ ap (λ (v : ℕ). solved k m l (put a v y) r)
+      (first-ext 256 (λ v. solvable k m l (put a v x)) (λ v. solvable k m l (put a v y)) (λ v. solvable-blind l (put a v x) (put a v y) (put-same (k + m) a v l x y e)))
 
   -- THE SEARCH FINDS IT: a stripe that holds and has x's bytes off at most m shards is what the search gives
   pub solved-is : InRange k m → (lost : List ℕ) → length lost ≤ m → (x y : ℕ → ℕ) → Bytes x → Bytes y → Holds k m y
@@ -219,6 +253,18 @@ filled-is k m range missing few x y bx by h e r l t =
     ap (λ (b : Bool). cond b (cond (leb (length missing) m) (solved k m (padded k m missing) x r) 0) (x r)) t
     ∙ ap (λ (b : Bool). cond b (solved k m (padded k m missing) x r) 0) (le-leb (length missing) m few)
     ∙ solved-is k m range (padded k m missing) (padded-few k m missing) x y bx by h e r l
+
+-- what the missing shards held makes no difference
+pub filled-blind : (k m : ℕ) (missing : List ℕ) (x y : ℕ → ℕ) → ((r : ℕ) → r < k + m → has missing r ≡ false → x r ≡ y r)
+    → (r : ℕ) → r < k + m → filled k m missing x r ≡ filled k m missing y r
+unfolding filled
+filled-blind k m missing x y e r l = go (has missing r) refl (leb (length missing) m) refl
+  where
+    go : (s : Bool) → has missing r ≡ s → (t : Bool) → leb (length missing) m ≡ t
+        → cond s (cond t (solved k m (padded k m missing) x r) 0) (x r) ≡ cond s (cond t (solved k m (padded k m missing) y r) 0) (y r)
+    go true p true q = solved-blind k m (padded k m missing) x y (λ i h n. e i h (padded-off k m missing (leb-true (length missing) m q) i n)) r l
+    go true p false q = refl
+    go false p t q = e r l p
 
 -- so where the stripe is sound, every shard is its own
 pub filled-back : (k m : ℕ) → InRange k m → (missing : List ℕ) → length missing ≤ m → (x y : ℕ → ℕ) → Bytes x → Bytes y → Holds k m y

@@ -2,7 +2,7 @@
 -- ones. A stripe's shards are its slots turned round, so few slots are few shards. Assumes nothing.
 use mathlib.Core.Path.{_≡_, refl, sym, ap, ap₂, _∙_}
 use mathlib.Core.Bool.{Bool, true, false, cond, not, true≢false}
-use mathlib.Core.Logic.{_⊎_, inl, inr, ⊎-elim}
+use mathlib.Core.Logic.{_≢_, _⊎_, inl, inr, ⊎-elim}
 use Prim.Native.Nat.{ℕ, zero, suc, _+_, _≤_, _<_, _%_, _^_}
 use native.Mathlib.Nat.{mod-lt, mod-eq-of-lt, mod-add-mod, mod-self, zero-add, add-zero, add-suc, eq-or-lt-of-le, le-of-suc-le-suc}
 use native.Mathlib.Omega.{arith}
@@ -35,28 +35,41 @@ unfolding tally
 tally-count p zero = refl
 tally-count p (suc n) = ap₂ (λ (x y : ℕ). x + y) (one (p 0)) (tally-count (λ i. p (suc i)) n) ∙ sym (count-first p n)
 
+-- none passes; one does
+pub count-none : (p : ℕ → Bool) (n : ℕ) → ((i : ℕ) → i < n → p i ≡ false) → count p n ≡ 0
+count-none p zero h = refl
+count-none p (suc n) h = rw (h n (omega arith)) (omega (arith, count-none p n (λ i l. h i (omega arith))))
+
+pub count-one : (p : ℕ → Bool) (n r : ℕ) → r < n → p r ≡ true → ((i : ℕ) → i < n → i ≢ r → p i ≡ false) → count p n ≡ 1
+count-one p zero r h e u = absurd (omega arith)
+count-one p (suc n) r h e u = go (λ l. count-one p n r l e (λ i g. u i (omega arith))) (eq-or-lt-of-le (le-of-suc-le-suc h))
+  where
+    go : (r < n → count p n ≡ 1) → (r ≡ n) ⊎ (r < n) → Count.tally (p n) + count p n ≡ 1
+    go ih (inl q) = rw (ap p (sym q) ∙ e) (omega (arith, count-none p n (λ i l. u i (omega arith) (λ s. omega arith))))
+    go ih (inr l) = rw (u n (omega arith) (λ s. omega arith)) (omega (arith, ih l))
+
 -- ---- a shelf's quorum
+
+-- so many slots are few: m
+abbrev pub mostFew : Shelf → ℕ
+mostFew z = z .m
 
 -- at most m of the slots are in a
 unfoldable pub fewOf : Shelf → (ℕ → Bool) → Bool
-fewOf z a = leb (tally a (slots z)) (z .m)
+fewOf z a = leb (tally a (slots z)) (mostFew z)
 
 module _ (z : Shelf) where
   pub few-count : (a : ℕ → Bool) → fewOf z a ≡ true → count a (slots z) ≤ z .m
   unfolding fewOf
-  few-count a e = omega (arith, leb-true (tally a (slots z)) (z .m) e, tally-count a (slots z))
+  few-count a e = omega (arith, leb-true (tally a (slots z)) (mostFew z) e, tally-count a (slots z))
 
   pub count-few : (a : ℕ → Bool) → count a (slots z) ≤ z .m → fewOf z a ≡ true
   unfolding fewOf
-  count-few a h = le-leb (tally a (slots z)) (z .m) (omega (arith, tally-count a (slots z)))
+  count-few a h = le-leb (tally a (slots z)) (mostFew z) (omega (arith, tally-count a (slots z)))
 
   -- none are few
   pub few-none : fewOf z (λ d. false) ≡ true
-  few-none = count-few (λ d. false) (omega (arith, none (slots z)))
-    where
-      none : (n : ℕ) → count (λ d. false) n ≡ 0
-      none zero = refl
-      none (suc n) = omega (arith, none n)
+  few-none = count-few (λ d. false) (omega (arith, count-none (λ d. false) (slots z) (λ i l. refl)))
 
   -- of a mask: at most m ones
   pub few-mask : (mask : ℕ) → mask < 2 ^ slots z → fewOf z (inMask mask) ≡ leb (ones mask) (z .m)

@@ -56,6 +56,17 @@ first-is (suc n) p e = go (some n p) refl (p n) refl (first-is n p) e
     go false q true r ih h = r
     go false q false r ih h = absurd (false≢true h)
 
+-- tests that agree find the same
+pub some-ext : (n : ℕ) (p q : ℕ → Bool) → ((i : ℕ) → p i ≡ q i) → some n p ≡ some n q
+unfolding some
+some-ext zero p q e = refl
+some-ext (suc n) p q e = rw (some-ext n p q e, e n)
+
+pub first-ext : (n : ℕ) (p q : ℕ → Bool) → ((i : ℕ) → p i ≡ q i) → first n p ≡ first n q
+unfolding first
+first-ext zero p q e = refl
+first-ext (suc n) p q e = rw (some-ext n p q e, first-ext n p q e, e n)
+
 first-le : (n : ℕ) (p : ℕ → Bool) → first n p ≤ n
 unfolding first
 first-le zero p = omega arith
