@@ -5,7 +5,7 @@ use mathlib.Core.Path.{_≡_, refl, sym, ap, _∙_}
 use mathlib.Core.Bool.{Bool, true, false, cond, _&&_, _||_, or-true, true≢false}
 use mathlib.Core.List.{List}
 use mathlib.Core.Logic.{_≢_, ⊎-elim}
-use Prim.Native.Nat.{ℕ, _+_, _-_, _≤_, _<_}
+use Prim.Native.Nat.{ℕ, _+_, _≤_, _<_}
 use native.Mathlib.Omega.{arith}
 use lib.Dec.{eqb, ltb, leb}
 use lib.ListN.{length}
@@ -41,7 +41,7 @@ reaches-own k i = rw (eq-eqb i i refl)
 
 pub reaches-parity : (k i r : ℕ) → k ≤ r → reaches k i r ≡ true
 unfolding reaches
-reaches-parity k i r h = rw (le-leb k r h) (or-true (eqb r i))
+reaches-parity k i r h = ap (λ (b : Bool). eqb r i || b) (le-leb k r h) ∙ or-true (eqb r i)
 
 unfoldable pub touchedIn : Shelf → ℕ → ℕ → ℕ → Bool
 touchedIn z t i d = ltb d (slots z) && reaches (z .k) i (shardOf (slots z) t d)

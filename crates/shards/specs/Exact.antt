@@ -2,7 +2,7 @@
 -- rebuilds or scrubs is shown to compute them, also where the strips contradict each other. Assumes nothing.
 use mathlib.Core.Path.{_≡_, refl, sym, ap, _∙_}
 use mathlib.Core.Bool.{Bool, true, false, cond, _&&_, true≢false}
-use mathlib.Core.List.{List, [], _∷_}
+use mathlib.Core.List.{[], _∷_}
 use mathlib.Core.Logic.{_≢_}
 use Prim.Native.Nat.{ℕ, _+_, _≤_, _<_}
 use native.Mathlib.Omega.{arith}
@@ -14,7 +14,7 @@ use Rattle.codeword.specs.Stripe.{InRange, Holds, Bytes, has}
 use Rattle.codeword.specs.Mend.{Mended, put, put-off, put-bytes}
 use Rattle.codeword.specs.Unique.{unique}
 use Rattle.protocol.specs.Count.{count}
-use Rattle.protocol.specs.Host.{Finding, all-sound, accused, several}
+use Rattle.protocol.specs.Host.{accused, several}
 use Rattle.codecs.specs.Sector.{Sector}
 use Rattle.codecs.specs.Shelf.{Shelf, slots, some-slots}
 use Rattle.shards.specs.Search.{all, all-at, all-of, some, some-of, first, first-is, first-lt}

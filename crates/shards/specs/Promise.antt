@@ -1,11 +1,12 @@
 -- THE PROMISE OF THE REAL SHELF: what the protocol promises of any labels, records and code is so of document 03's labels, of the log
 -- records' bytes and of document 01's code, on sectors of 512 bytes, for every shelf within the limits that has more data disks than
 -- parity disks (k > m). No law is left to be assumed. Assumes nothing.
-use mathlib.Core.Path.{_≡_}
+use mathlib.Core.Path.{_≡_, refl}
 use mathlib.Core.Bool.{true, false}
 use mathlib.Core.List.{List}
 use Prim.Native.Nat.{ℕ, _<_}
-use Rattle.protocol.specs.World.{Image, World, Action, strip, Sane, Always}
+use lib.Dec.{lit<}
+use Rattle.protocol.specs.World.{Image, World, Action, strip, after, Sane, Always, sane-after, always-after}
 use Rattle.protocol.specs.Label.{believed}
 use Rattle.protocol.specs.Host.{Host, table}
 use Rattle.protocol.specs.Program.{Medium, Own, Memory, nothing, idle, Input, did, program}
@@ -18,7 +19,7 @@ use Rattle.protocol.specs.Kept as Kept
 use Rattle.protocol.specs.Order.{Ordered}
 use Rattle.protocol.specs.Order as Order
 use Rattle.codecs.specs.Sector.{Sector, zeros}
-use Rattle.codecs.specs.Shelf.{Shelf, size}
+use Rattle.codecs.specs.Shelf.{Shelf, size, least}
 use Rattle.codecs.specs.Labels.{labels}
 use Rattle.codecs.specs.Records.{records}
 use Rattle.codecs.specs.Media.{stamps, medium}
@@ -55,6 +56,12 @@ module _ (z : Shelf) (more : z .m < z .k) where
   pub promised : (w : World Sector) → Sane w → Always w ZerosOf → {a : Machine Sector} {l : List (Event Sector)} → RunsOf (at w nothing) l a → (p : View Sector) × Views (z .c) (sure (λ t i j. zeros)) l p × Keeps a p
   promised w sane h = Kept.promised (size z) (quorum z more) (labels z) (records z) (code z more) stamps sectors w sane (few-none z) h
 
+  -- so on new disks, which hold zeros and have nothing in their caches
+  pub fresh : {a : Machine Sector} {l : List (Event Sector)} → RunsOf (at (after (λ p. zeros)) nothing) l a → (p : View Sector) × Views (z .c) (sure (λ t i j. zeros)) l p × Keeps a p
+  fresh =
+      promised (after (λ p. zeros)) (sane-after (λ p. zeros))
+      (always-after ZerosOf (λ p. zeros) (record { labels = λ d b i. refl; logs = λ d j i l. refl; strips = λ d t j i h l. refl }))
+
   -- the same on disks that writes reach in the order in which they were issued (document 03, section 4)
   pub in-order : (f : Image Sector) → ZerosOf f → {l : List (Event Sector)} {g : Image Sector} {a : Memory Sector} → Ordered (size z) (quorum z more) (labels z) (records z) (code z more) stamps sectors f nothing l g a
       → (w : World Sector) × (w .cur ≡ g) × (p : View Sector) × Views (z .c) (sure (λ t i j. zeros)) l p × Keeps (at w a) p
@@ -75,3 +82,8 @@ module _ (z : Shelf) (more : z .m < z .k) where
   pub untouched : (w : World Sector) (a : Memory Sector) (p : View Sector) (i : Input Sector) (x : Action Sector) → Keeps (at w a) p
       → program (size z) (quorum z more) (labels z) (records z) (code z more) stamps sectors a (w .cur) i .1 ≡ did x → away (size z) (quorum z more) (labels z) (records z) (code z more) stamps sectors a (slot-of x) ≡ false
   untouched = Kept.untouched (size z) (quorum z more) (labels z) (records z) (code z more) stamps sectors
+
+-- there is such a shelf
+pub enough : least .m < least .k
+unfolding least
+enough = lit< tt
