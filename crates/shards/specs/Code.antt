@@ -82,7 +82,7 @@ mendedBy z x r = all (z .c) (λ j. all sectorBytes (λ p. some 256 (λ v. holds 
 unfoldable pub oneMends : Shelf → (ℕ → ℕ → ℕ → ℕ) → Bool
 oneMends z x = leb 2 (z .m) && eqb (count (mendedBy z x) (slots z)) 1
 
--- the finding names a shard, not a slot
+-- the finding names a shard, not a slot. With m = 1 nobody is named, and `several` stands for every stripe that is not sound
 unfoldable pub scrubOf : Shelf → ℕ → (ℕ → ℕ → Sector) → Finding
 scrubOf z t g =
     cond (soundIn z (position z t g)) all-sound

@@ -1,6 +1,7 @@
--- THE PROMISE OF THE REAL SHELF: what the protocol promises of any labels, records and code is so of document 03's labels, of the log
--- records' bytes and of document 01's code, on sectors of 512 bytes, for every shelf within the limits that has more data disks than
--- parity disks (k > m). No law is left to be assumed. Assumes nothing.
+-- THE PROMISE AT REAL SECTORS: what the protocol promises of its program, with any labels, records and code, is so with document 03's
+-- labels, the log records' bytes and document 01's code, on sectors of 512 bytes, for every shelf within the limits that has more data
+-- disks than parity disks (k > m). No law of these is left to be assumed; what is assumed of the world stands in the protocol's
+-- `Outside`. Not said here: that code that runs is this program, or computes these blocks and findings. Assumes nothing.
 use mathlib.Core.Path.{_≡_, refl}
 use mathlib.Core.Bool.{true, false}
 use mathlib.Core.List.{List}
@@ -52,7 +53,7 @@ module _ (z : Shelf) (more : z .m < z .k) where
   pub promise : {a b : Machine Sector} {l : List (Event Sector)} → RunsOf a l b → (p : View Sector) → Keeps a p → (q : View Sector) × Views (z .c) p l q × Keeps b q
   promise = Promise.promise (size z) (quorum z more) (labels z) (records z) (code z more) stamps sectors
 
-  -- FROM ZEROS ON: whatever happens, in any order and as often as it likes, the host sees blocks of zeros first and then what it wrote
+  -- FROM ZEROS ON: whatever happens, in any order and as often as it likes, the host's view goes on as it is allowed to, from blocks of zeros
   pub promised : (w : World Sector) → Sane w → Always w ZerosOf → {a : Machine Sector} {l : List (Event Sector)} → RunsOf (at w nothing) l a → (p : View Sector) × Views (z .c) (sure (λ t i j. zeros)) l p × Keeps a p
   promised w sane h = Kept.promised (size z) (quorum z more) (labels z) (records z) (code z more) stamps sectors w sane (few-none z) h
 
