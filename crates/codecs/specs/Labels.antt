@@ -15,7 +15,7 @@ use Rattle.crc32c.specs.Crc.{crcOf}
 use Rattle.disk.specs.Limits.{mostK, mostM}
 use Rattle.disk.specs.Number.{bytesOf}
 use Rattle.disk.specs.Image.{lt-or-ge}
-use Rattle.disk.specs.Mask.{inMask, in-past}
+use Rattle.disk.specs.Mask.{inMask, in-past, maskOf, mask-lt, mask-below, mask-past}
 use Rattle.disk.specs.Geometry.{inRangeWith, stripesOf}
 use Rattle.disk.specs.declared.geometry.Geometry.{Geometry}
 use Rattle.label.specs.Fields.{noSlot, mostGeneration, geometryOf, rebuildFits, fitsOf}
@@ -31,7 +31,6 @@ use Rattle.label.proofs.Laws.{decode-encode, zeros-nothing, Meant, decode-says}
 use Rattle.protocol.specs.Label.{Label, LabelCodec}
 use Rattle.protocol.specs.Program.{Proper}
 use Rattle.codecs.specs.Sector.{Sector, Bytes, zeros, bytes-none, bytes-append, bytes-number}
-use Rattle.codecs.specs.Masks.{maskOf, mask-lt, mask-below, mask-past}
 use Rattle.codecs.specs.Shelf.{Shelf, slots, geometry, size, few-data, few-parity, some-slots, few-slots}
 
 -- sector 1 for an odd generation, sector 0 for an even one
