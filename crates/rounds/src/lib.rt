@@ -2,3 +2,4 @@
 // the rounds that settle it; or why it refuses. Nothing is written here. What it all means stands in specs/.
 pub mod plan;
 pub mod slot;
+pub mod survey;
