@@ -149,10 +149,12 @@ fn led(image: &[u8], g: Geometry, absent: u64, lead: Label) -> Survey
     requires { ⌜ g .n ≤ maskBits ⌝ }
     ensures { λ r. ⌜ r ≡ table g (now (image .entry)) absent (Valid lead) ⌝ }
 {
-    if !is_labelled(image, g, absent, lead) {
+    let labelled = is_labelled(image, g, absent, lead);
+    let enough = is_enough(image, g, absent, lead);
+    if !labelled {
         return Survey::Refused(Refusal::NoLabel);
     }
-    if !is_enough(image, g, absent, lead) {
+    if !enough {
         return Survey::Refused(Refusal::TooFew);
     }
     if !all_below(absent, g.n) {
@@ -176,9 +178,10 @@ pub fn survey(image: &[u8], g: Geometry, absent: u64) -> Survey
         Decoded::Valid(lead) => led(image, g, absent, lead),
         Decoded::Nothing => {
             if all_absent(absent, g.n) {
-                return Survey::Refused(Refusal::TooFew);
+                Survey::Refused(Refusal::TooFew)
+            } else {
+                Survey::Refused(Refusal::NoLabel)
             }
-            Survey::Refused(Refusal::NoLabel)
         }
     }
 }

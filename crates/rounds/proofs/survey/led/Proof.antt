@@ -13,30 +13,30 @@ use Rattle.rounds.proofs.survey.led.Tie as tie
 is-labelled-requires : tie.Need-is-labelled-requires
 is-labelled-requires c κs = search needs
 
-returns : tie.Need-returns
-returns c = stopped _ _ (sym (c .before .is-labelled .ensures) ∙ not-true _ (c .if1 .taken))
-
 is-enough-requires : tie.Need-is-enough-requires
 is-enough-requires c κs = search needs
 
+returns : tie.Need-returns
+returns c = stopped _ _ (sym (c .before .before .is-labelled .ensures) ∙ not-true _ (c .if1 .taken))
+
 returns-2 : tie.Need-returns-2
-returns-2 c = passed _ (sym (c .before .before .before .is-labelled .ensures) ∙ not-false _ (c .before .before .if1 .left)) (stopped _ _ (sym (c .before .is-enough .ensures) ∙ not-true _ (c .if2 .taken)))
+returns-2 c = passed _ (sym (c .before .before .before .is-labelled .ensures) ∙ not-false _ (c .before .if1 .left)) (stopped _ _ (sym (c .before .before .is-enough .ensures) ∙ not-true _ (c .if2 .taken)))
 
 all-below-requires : tie.Need-all-below-requires
 all-below-requires c κs = search needs
 
 returns-3 : tie.Need-returns-3
 returns-3 c =
-    passed _ (sym (c .before .before .before .before .before .is-labelled .ensures) ∙ not-false _ (c .before .before .before .before .if1 .left))
-    (passed _ (sym (c .before .before .before .is-enough .ensures) ∙ not-false _ (c .before .before .if2 .left)) (stopped _ _ (sym (c .before .all-below .ensures) ∙ not-true _ (c .if3 .taken))))
+    passed _ (sym (c .before .before .before .before .before .is-labelled .ensures) ∙ not-false _ (c .before .before .before .if1 .left))
+    (passed _ (sym (c .before .before .before .before .is-enough .ensures) ∙ not-false _ (c .before .before .if2 .left)) (stopped _ _ (sym (c .before .all-below .ensures) ∙ not-true _ (c .if3 .taken))))
 
 sub-if4 : tie.Need-sub-if4
 sub-if4 c = search needs
 
 returns-4 : tie.Need-returns-4
 returns-4 c =
-    passed _ (sym (c .before .before .before .before .before .before .before .is-labelled .ensures) ∙ not-false _ (c .before .before .before .before .before .before .if1 .left))
-    (passed _ (sym (c .before .before .before .before .before .is-enough .ensures) ∙ not-false _ (c .before .before .before .before .if2 .left))
+    passed _ (sym (c .before .before .before .before .before .before .before .is-labelled .ensures) ∙ not-false _ (c .before .before .before .before .before .if1 .left))
+    (passed _ (sym (c .before .before .before .before .before .before .is-enough .ensures) ∙ not-false _ (c .before .before .before .before .if2 .left))
     (passed _ (sym (c .before .before .before .all-below .ensures) ∙ not-false _ (c .before .before .if3 .left)) (stopped _ _ (lt-leb (c .before .before .before .before .before .before .before .before .before .args .lead .generation + 2) mostGeneration (omega arith)))))
 
 plan-of-requires : tie.Need-plan-of-requires
@@ -44,8 +44,8 @@ plan-of-requires c κs = search needs
 
 returns-5 : tie.Need-returns-5
 returns-5 c =
-    passed _ (sym (c .before .before .before .before .before .before .before .before .is-labelled .ensures) ∙ not-false _ (c .before .before .before .before .before .before .before .if1 .left))
-    (passed _ (sym (c .before .before .before .before .before .before .is-enough .ensures) ∙ not-false _ (c .before .before .before .before .before .if2 .left))
+    passed _ (sym (c .before .before .before .before .before .before .before .before .is-labelled .ensures) ∙ not-false _ (c .before .before .before .before .before .before .if1 .left))
+    (passed _ (sym (c .before .before .before .before .before .before .before .is-enough .ensures) ∙ not-false _ (c .before .before .before .before .before .if2 .left))
     (passed _ (sym (c .before .before .before .before .all-below .ensures) ∙ not-false _ (c .before .before .before .if3 .left))
     (passed _ (le-leb (c .before .before .before .before .before .before .before .before .before .before .args .lead .generation + 2) mostGeneration (omega arith)) (ap Plan (c .plan-of .ensures)))))
 
@@ -54,8 +54,8 @@ led-spec =
     tie.close
     (tie.spec
     is-labelled-requires
-    returns
     is-enough-requires
+    returns
     returns-2
     all-below-requires
     returns-3

@@ -2,10 +2,10 @@
 use mathlib.Core.Path.{_≡_, refl, sym, ap, _∙_}
 use mathlib.Core.Bool.{true}
 use native.Mathlib.Omega.{arith}
-use borrow.Author.Tests.{not-true, not-false}
 use lib.ListN.{length}
-use Rattle.disk.specs.Image as disk
+use borrow.Author.Tests.{not-true, not-false}
 use Rattle.disk.specs.Image.{fitsImage}
+use Rattle.disk.specs.Image as disk
 use Rattle.rounds.specs.Survey.{table, surveyOf}
 use Rattle.rounds.proofs.Told.{stopped, passed}
 use borrow.Author.Needs.{needs}
@@ -15,7 +15,7 @@ use Rattle.rounds.proofs.survey.survey.Tie as tie
 fits-image-requires : tie.Need-fits-image-requires
 fits-image-requires c κs = search needs
 
--- the image fits
+-- the image is that of such a shelf
 fit : (c : tie.Else1) → let a = c .before .before .before .args in fitsImage (a .g) (length (a .image .now)) ≡ true
 fit c = sym (c .before .fits-image .ensures) ∙ not-false _ (c .if1 .left)
 
@@ -45,14 +45,14 @@ unfolding surveyOf
 returns-2 c =
     let a = c .before .before .before .before .before .before .before .before .args in
     passed _ (fit (c .before .before .before .before .before))
-    (passed _ (sym (c .before .all-absent .ensures) ∙ c .if2 .taken) refl ∙ sym (ap (table (a .g) (a .image .now) (a .absent)) (sym (c .before .before .before .before .shelf-label .ensures) ∙ c .before .before .enum-told .given .1)))
+    (c .led .ensures ∙ sym (ap (table (a .g) (a .image .now) (a .absent)) (sym (c .before .before .before .before .shelf-label .ensures) ∙ c .before .before .shelf .given .1)))
 
 returns-3 : tie.Need-returns-3
 unfolding surveyOf
 returns-3 c =
     let a = c .before .before .before .before .before .before .before .before .args in
     passed _ (fit (c .before .before .before .before .before))
-    (c .led .ensures ∙ sym (ap (table (a .g) (a .image .now) (a .absent)) (sym (c .before .before .before .before .shelf-label .ensures) ∙ c .before .before .shelf .given .1)))
+    (passed _ (sym (c .before .all-absent .ensures) ∙ c .if2 .taken) refl ∙ sym (ap (table (a .g) (a .image .now) (a .absent)) (sym (c .before .before .before .before .shelf-label .ensures) ∙ c .before .before .enum-told .given .1)))
 
 returns-4 : tie.Need-returns-4
 unfolding surveyOf
