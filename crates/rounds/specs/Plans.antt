@@ -1,5 +1,6 @@
--- What holds of every plan, proved in proofs/Plans.antt: `survey-grounds`, on what grounds it was made; `plan-sound`, who
--- takes part and who adopts, and that its labels can be written. Assumes nothing.
+-- What holds of every survey. Proved in proofs/Plans.antt: `survey-grounds`, on what grounds a plan is made; `plan-sound`,
+-- who takes part and who adopts, and that its labels can be written. In proofs/Same.antt: `survey-same`, no survey depends on
+-- the bytes of an absent slot. Assumes nothing.
 use mathlib.Core.Path.{_≡_}
 use mathlib.Core.Bool.{true, false, not, _&&_, _||_}
 use mathlib.Core.List.{List}
@@ -7,7 +8,7 @@ use Prim.Native.Nat.{ℕ, _+_, _≤_, _<_, _^_}
 use lib.Count.{ones}
 use lib.Dec.{ltb}
 use lib.ListN.{length}
-use Rattle.disk.specs.Image.{fitsImage}
+use Rattle.disk.specs.Image.{fitsImage, readOf}
 use Rattle.disk.specs.Mask.{inMask}
 use Rattle.disk.specs.declared.geometry.Geometry.{Geometry}
 use Rattle.label.specs.Fields.{mostGeneration, fitsOf}
@@ -61,3 +62,11 @@ pub record Sound (g : Geometry) (absent : ℕ) (p : plan.Plan) : Type 0 where
   pub from-one : 1 ≤ p .lead .generation
   pub lead-fits : (d q : ℕ) → d < g .n → 1 ≤ q → q ≤ p .lead .generation + 2 → fitsOf (forSlot (p .lead) d q) ≡ true
   pub next-fits : (d q : ℕ) → d < g .n → 1 ≤ q → q ≤ p .lead .generation + 2 → fitsOf (forSlot (p .next) d q) ≡ true
+
+-- two images that a survey cannot tell apart, x with the slots of a absent, y with those of b: of one length, with the same
+-- label sectors on present slots, and the same slots absent below n; from n on it matters only whether there is any
+pub record Alike (g : Geometry) (x y : List ℕ) (a b : ℕ) : Type 0 where
+  pub lengths : length x ≡ length y
+  pub absents : (d : ℕ) → d < g .n → inMask a d ≡ inMask b d
+  pub beyond : ltb a (2 ^ g .n) ≡ ltb b (2 ^ g .n)
+  pub sectors : (d s : ℕ) → d < g .n → s < 2 → inMask a d ≡ false → readOf g x d s ≡ readOf g y d s
