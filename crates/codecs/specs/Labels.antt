@@ -205,17 +205,6 @@ module _ (z : Shelf) where
             none = λ l. absurd (omega (arith, n));
           }
 
-  rebuilds : (a : bytes.Label) → fitsOf a ≡ true → rebuildFits a ≡ true
-  unfolding fitsOf
-  rebuilds a e =
-      let e1 = and-right (leb (a .k) mostK) _ e in
-      let e2 = and-right (leb (a .m) mostM) _ e1 in
-      let e3 = and-right (inRangeWith (geometryOf a) (a .k)) _ e2 in
-      let e4 = and-right (ltb (a .slot) (a .k + a .m)) _ e3 in
-      let e5 = and-right (leb 1 (a .generation)) _ e4 in
-      let e6 = and-right (leb (a .generation) mostGeneration) _ e5 in
-      and-right (ltb (a .out) (2 ^ (a .k + a .m))) (rebuildFits a) e6
-
   pub decode-fits : (d : ℕ) (b : Bool) (x : Sector) → 0 < decodeLabel z d b x .generation → Fitting z (decodeLabel z d b x)
   decode-fits d b x p = subst (Fitting z) (sym (t .is)) (record {
     sound = record {
@@ -242,7 +231,7 @@ module _ (z : Shelf) where
       g = shelf-same a (t .same)
 
       r : Rebuild a
-      r = rebuild-of a g (rebuilds a (t .means .fit))
+      r = rebuild-of a g (f .rebuild)
 
   -- ---- what fits comes back
 
