@@ -61,7 +61,7 @@ module _ {X : Type 0} (z : Size) (W : Quorum (z .n)) (C : LabelCodec X) (K : Rec
         right = λ d b i p q e t j a c.
             let y = h .labels .fine d b i p q in
             let l = belief z (copy C f d b) .believe-look e t a in
-            ⊎-elim (λ n. h .under-Q .strips e t j (sym (n .believe-in e t l) ∙ a) c) (λ n. h .under-N .strips e t j (sym (n .believe-in e t l) ∙ a) c) (y .narrow);
+            ⊎-elim (λ n. h .under-Q .strips e t j (sym (n .believe-in e t l) ∙ a) c) (λ n. h .under-N .strips e t j (sym (n .1 .believe-in e t l) ∙ a) c) (y .narrow);
       }
 
   pub honest : (v : Host X) (w : World X) → Off z W C K E S R (sure v) w → Always w (Honest v)

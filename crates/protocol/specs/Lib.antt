@@ -5,6 +5,7 @@ pub mod Log
 pub mod Write
 pub mod Redo
 pub mod Label
+pub mod Bays
 pub mod Startup
 pub mod Decide
 pub mod Request
