@@ -13,9 +13,9 @@ use Rattle.protocol.specs.Log.{Write, RecordCodec, Belief, Table, Wrote,
 use Rattle.protocol.specs.Write.{both, involved, of-involved, store, store-batch, stored-sectors, logged-sectors, log-write, log-batch, Mid}
 use Rattle.protocol.specs.Redo.{forward, kill, kill-batch, marked, whole, decision, redo, Redone, redo-quiet, redo-new, redo-mid}
 use Rattle.protocol.specs.Redo as Redo
-use Rattle.protocol.specs.Label.{Label, again, Size, looked, believed, belief, believe-is, Quorum, LabelCodec, Labels, labels-same}
+use Rattle.protocol.specs.Label.{Label, again, Size, believed, belief, believe-is, Quorum, LabelCodec, Labels, labels-same}
 use Rattle.protocol.specs.Bays.{front, Bays, bays-all}
-use Rattle.protocol.specs.Startup.{L, M, labelled, gone, next, rounds, Framed, Shelf, Same, same-agrees, same-self, settled-D, settled-above, settled-top, odd-next, rounds-safe, absent-gone}
+use Rattle.protocol.specs.Startup.{L, M, labelled, gone, next, rounds, Framed, Shelf, Same, same-agrees, same-self, settled-D, Settles, settles, rounds-safe, absent-gone}
 
 -- a place of the log or of a strip, on a slot that is looked at
 abbrev pub data-place : Place → Bool
@@ -114,8 +114,7 @@ pub record Accepted {X : Type 0} (z : Size) (W : Quorum (z .n)) (C : LabelCodec 
   pub fits2 : C .Fits (next z C absent f0 (suc (suc (M z C absent f0))))
 
 -- WHAT START-UP MEETS, with P to be kept. Some slots are odd: their bays hold another disk than their last; the last disks make a shelf, as ever, with D under Q and under N. One slot
--- that Q does not call out is present with its last disk. before: while Q and N stand on the last disks, P holds. later: when the new label is settled on the disks in the bays, newer than all others and not looking
--- at the odd slots, P holds.
+-- that Q does not call out is present with its last disk. before: while Q and N stand on the last disks, P holds. later: when the new label is settled on the disks in the bays, P holds.
 pub record Met {X : Type 0} (z : Size) (W : Quorum (z .n)) (C : LabelCodec X) (K : RecordCodec X) (absent : ℕ → Bool) (base : Label) (D : Belief → Image X → Type 0) (P : Image X → Type 0) (f0 : Image X) : Type 0 where
   pub odd : ℕ → Bool
   pub last : Image X
@@ -129,13 +128,13 @@ pub record Met {X : Type 0} (z : Size) (W : Quorum (z .n)) (C : LabelCodec X) (K
   pub under-N : D (belief z N) (front odd last f0)
   pub witness : (d : ℕ) × (d < z .n) × (absent d ≡ false) × (odd d ≡ false) × (Q .out d ≡ false)
   pub before : (t : ℕ) (fr : ℕ → Bool) (f : Image X) → top ≤ t → Bays z W C Q N t fr odd last f → Same f0 f → P f
-  pub later : Q .generation < settled z C K absent f0 .generation → top < settled z C K absent f0 .generation → ((d : ℕ) → odd d ≡ true → looked z (settled z C K absent f0) d ≡ true → ⊥) → (f : Image X) → Labels z W C (settled z C K absent f0) (settled z C K absent f0) (settled z C K absent f0 .generation) (settled z C K absent f0 .out) f → D (belief z (settled z C K absent f0)) f → P f
+  pub later : Settles z odd Q N top (settled z C K absent f0) → (f : Image X) → Labels z W C (settled z C K absent f0) (settled z C K absent f0) (settled z C K absent f0 .generation) (settled z C K absent f0 .out) f → D (belief z (settled z C K absent f0)) f → P f
 
 pub base-below : {X : Type 0} (z : Size) (W : Quorum (z .n)) (C : LabelCodec X) (base : Label) (D : Belief → Image X → Type 0) (f : Image X) → (h : Shelf z W C base D f) → base .generation ≤ h .Q .generation
 base-below z W C base D f h = ⊎-elim (λ q. omega (arith, ap (λ (l : Label). l .generation) q)) (λ i. omega arith) (h .since)
 
 module _ {X : Type 0} (z : Size) (W : Quorum (z .n)) (C : LabelCodec X) (K : RecordCodec X) (history : ℕ → Write X) (absent : ℕ → Bool) (f0 : Image X) (yes-go : Accepted z W C absent f0) where
-  few-absent : W .few absent ≡ true
+  pub few-absent : W .few absent ≡ true
   few-absent = W .part absent (λ d. L z C absent f0 .out d || gone z C absent f0 d) (λ d i e. rw (absent-gone z W C absent f0 d i e, or-true)) (yes-go .enough)
 
   module _ (base : Label) (D : Belief → Image X → Type 0) (fr : Framed D) (P : Image X → Type 0) (h : Met z W C K absent base D P f0) where
@@ -153,27 +152,17 @@ module _ {X : Type 0} (z : Size) (W : Quorum (z .n)) (C : LabelCodec X) (K : Rec
         let a = h .witness in
         settled-D z W C absent f0 (h .odd) (h .last) (h .Q) (h .N) (h .top) (h .far) (h .bays) (a .0) (a .1) (a .2) (a .3) (a .4) (yes-go .labels-there) (yes-go .enough) (yes-go .fits1) (yes-go .fits1') (yes-go .fits2) D fr (h .under-Q) (h .under-N)
 
-    -- the settled label is newer than all before it, on every disk, and does not look at odd slots
-    over-Q : h .Q .generation < settled z C K absent f0 .generation
-    over-Q =
+    pub done-settles : Settles z (h .odd) (h .Q) (h .N) (h .top) (settled z C K absent f0)
+    done-settles =
         let a = h .witness in
-        settled-above z W C absent f0 (h .odd) (h .last) (h .Q) (h .N) (h .top) (h .far) (h .bays) (a .0) (a .1) (a .2) (a .3) (a .4) (yes-go .labels-there) (yes-go .enough) (yes-go .fits1) (yes-go .fits1') (yes-go .fits2)
+        settles z W C absent f0 (h .odd) (h .last) (h .Q) (h .N) (h .top) (h .far) (h .bays) (a .0) (a .1) (a .2) (a .3) (a .4) (yes-go .labels-there) (yes-go .enough) (yes-go .fits1) (yes-go .fits1') (yes-go .fits2)
 
-    pub done-top : h .top < settled z C K absent f0 .generation
-    done-top =
-        let a = h .witness in
-        settled-top z W C absent f0 (h .odd) (h .last) (h .Q) (h .N) (h .top) (h .far) (h .bays) (a .0) (a .1) (a .2) (a .3) (a .4) (yes-go .labels-there) (yes-go .enough) (yes-go .fits1) (yes-go .fits1') (yes-go .fits2)
-
-    pub done-dark : (d : ℕ) → h .odd d ≡ true → looked z (settled z C K absent f0) d ≡ true → ⊥
-    done-dark =
-        let a = h .witness in
-        odd-next z W C absent f0 (h .odd) (h .last) (h .Q) (h .N) (h .top) (h .far) (h .bays) (a .0) (a .1) (a .2) (a .3) (a .4) (yes-go .labels-there) (yes-go .enough) (yes-go .fits1) (yes-go .fits1') (yes-go .fits2) (suc (suc (M z C absent f0)))
-
+    -- the settled label is newer than all before it
     pub done-above : base .generation < settled z C K absent f0 .generation
-    done-above = omega (arith, h .since, over-Q)
+    done-above = omega (arith, h .since, done-settles .over-Q)
 
     settled-kept : (f : Image X) → Settled f → D B1 f → P f
-    settled-kept = h .later over-Q done-top done-dark
+    settled-kept = h .later done-settles
 
     done-rounds : During (after f0) (rounds z C absent f0) P × Always w1 (λ f. Settled f × Same f0 f)
     done-rounds =
@@ -251,5 +240,5 @@ module _ {X : Type 0} (z : Size) (W : Quorum (z .n)) (C : LabelCodec X) (K : Rec
         under-N = h .under-N;
         witness = (a .0, a .1, a .2, refl, a .3);
         before = λ t fr f i o s. record { Q = h .Q; since = h .since; N = h .N; top = t; far = fr; labels = o .lasts; under-Q = same (belief z (h .Q)) (h .under-Q) f s; under-N = same (belief z (h .N)) (h .under-N) f s };
-        later = λ a b c f l o. record { Q = settled z C K absent f0; since = inr (omega arith); N = settled z C K absent f0; top = settled z C K absent f0 .generation; far = settled z C K absent f0 .out; labels = l; under-Q = o; under-N = o };
+        later = λ a f l o. record { Q = settled z C K absent f0; since = inr (omega (arith, below, a .over-Q)); N = settled z C K absent f0; top = settled z C K absent f0 .generation; far = settled z C K absent f0 .out; labels = l; under-Q = o; under-N = o };
       }

@@ -29,5 +29,7 @@ pub mod Shape
 pub mod Tidy
 pub mod Shaped
 pub mod Limits
+pub mod Exchange
+pub mod Apart
 pub mod Walk
 pub mod Phases

@@ -165,6 +165,13 @@ pub record Shelf {X : Type 0} (z : Size) (W : Quorum (z .n)) (C : LabelCodec X) 
   pub under-Q : D (belief z Q) f
   pub under-N : D (belief z N) f
 
+-- S is settled where Q was, and perhaps N was about to be: it is newer than every label before it, does not look at odd slots, and looks nowhere else than Q or N did
+pub record Settles (z : Size) (odd : ℕ → Bool) (Q N : Label) (top : ℕ) (S : Label) : Type 0 where
+  pub over-Q : Q .generation < S .generation
+  pub over-top : top < S .generation
+  pub dark : (d : ℕ) → odd d ≡ true → looked z S d ≡ true → ⊥
+  pub inner : (d : ℕ) → looked z S d ≡ true → (looked z Q d ≡ true) ⊎ (looked z N d ≡ true)
+
 -- who is not looked at is plainly out, and who is looked at is not
 dark-out : (z : Size) (l : Label) (d : ℕ) → d < z .n → (looked z l d ≡ true → ⊥) → plainly-out l d ≡ true
 dark-out z l d i h = go (plainly-out l d) refl
@@ -333,7 +340,7 @@ module _ {X : Type 0} (z : Size) (W : Quorum (z .n)) (C : LabelCodec X) (absent 
       odd-L : (d : ℕ) → d < z .n → gone z C absent f0 d ≡ false → odd d ≡ true → looked z (L z C absent f0) d ≡ true → ⊥
       odd-L d dn g o lit = true≢false (sym (odd-gone d dn (gone-absent d dn g) o lit) ∙ g)
 
-      pub odd-next : (g d : ℕ) → odd d ≡ true → looked z (next z C absent f0 g) d ≡ true → ⊥
+      odd-next : (g d : ℕ) → odd d ≡ true → looked z (next z C absent f0 g) d ≡ true → ⊥
       unfolding belief
       odd-next g d o lit = odd-L d (look-of z (next z C absent f0 g) d lit .0) (without-gone z (L z C absent f0) (gone z C absent f0) g d lit) o (without-narrow z (L z C absent f0) (gone z C absent f0) g .look-in d lit)
 
@@ -465,12 +472,15 @@ module _ {X : Type 0} (z : Size) (W : Quorum (z .n)) (C : LabelCodec X) (absent 
           let g = settled-agrees f s in
           ⊎-elim (λ i. fr (belief z Q) (belief z settled) i (front odd last f0) f g a) (λ i. fr (belief z N) (belief z settled) (i .1) (front odd last f0) f g b) (next-narrow (suc (suc (M z C absent f0))) (omega arith))
 
-      pub settled-above : Q .generation < suc (suc (M z C absent f0))
-      settled-above = omega (arith, M-low)
-
-      -- nobody is above the settled label
-      pub settled-top : top < suc (suc (M z C absent f0))
-      settled-top = omega (arith, M-near)
+      pub settles : Settles z odd Q N top settled
+      unfolding belief
+      settles =
+          record {
+            over-Q = omega (arith, M-low);
+            over-top = omega (arith, M-near);
+            dark = odd-next (suc (suc (M z C absent f0)));
+            inner = λ d a. ⊎-elim (λ n. inl (n .look-in d a)) (λ n. inr (n .1 .look-in d a)) (next-narrow (suc (suc (M z C absent f0))) (omega arith));
+          }
 
       -- THE ROUNDS. Until the last of them is flushed, Q and N stand, on the last disks; then the label is settled, on the disks in the bays.
       pub rounds-safe : (P : Image X → Type 0) → ((t : ℕ) (fr : ℕ → Bool) (f : Image X) → top ≤ t → Bays z W C Q N t fr odd last f → Same f0 f → P f) → ((f : Image X) → Labels z W C settled settled (settled .generation) (settled .out) f → Same f0 f → P f) → (w : World X) → Sane w → Always w (λ f. Bays z W C Q N top far odd last f × Same f0 f) → During w (rounds z C absent f0) P × Always (run w (rounds z C absent f0)) (λ f. Labels z W C settled settled (settled .generation) (settled .out) f × Same f0 f)
