@@ -26,7 +26,7 @@ use Rattle.protocol.specs.Invariant.{Ghost, Under, Left, Pends, Ready, E
 use Rattle.protocol.specs.Promise.{under-framed, ready-early}
 use Rattle.protocol.specs.Exchange.{Disks, Room, room, moved, exchanged, with-disk, Strange, Familiar}
 
-same-nat : (a b : ℕ) → (a ≡ b) ⊎ (a ≢ b)
+pub same-nat : (a b : ℕ) → (a ≡ b) ⊎ (a ≢ b)
 same-nat a b = go (ℕ-discrete a b)
   where
     go : Dec (a ≡ b) → (a ≡ b) ⊎ (a ≢ b)
@@ -62,7 +62,7 @@ module _ {X : Type 0} (z : Size) (W : Quorum (z .n)) (C : LabelCodec X) where
   abbrev pub Lying : Disks X → Label → Type 0
   Lying x Q = Apart Q Q (Q .generation) (x .inn) (x .stock)
 
-  aside-copy : (Q N : Label) (top d : ℕ) (b : Bool) (f g : Image X) → f (label d b) ≡ g (label d b) → Aside z W C Q N top d (copy C f d b) → Aside z W C Q N top d (copy C g d b)
+  pub aside-copy : (Q N : Label) (top d : ℕ) (b : Bool) (f g : Image X) → f (label d b) ≡ g (label d b) → Aside z W C Q N top d (copy C f d b) → Aside z W C Q N top d (copy C g d b)
   aside-copy Q N top d b f g e h = subst (Aside z W C Q N top d) (sym (copy-same C f g d b (sym e))) h
 
   -- a newer label is settled: what was aside is still aside
@@ -131,6 +131,22 @@ module _ {X : Type 0} (z : Size) (W : Quorum (z .n)) (C : LabelCodec X) (K : Rec
           ⊎-elim (λ q. aside-about z W C (h .Q) (h .N) (h .top) d (copy C (x .stock i) d b) below (subst (λ (Q : Label). Aside z W C Q Q (Q .generation) d (copy C (x .stock i) d b)) (sym q) a))
           (λ j. aside-next z W C (h .Q) (h .N) (h .top) d (copy C (x .stock i) d b) (g .base) j below a) (h .since)
 
+  -- THE WITNESS: if the absent slots and those with another disk are few together, some slot is present with its last disk, which belongs to the shelf, and is not out
+  pub witness : (g : Ghost X) (p : View X) (x : Disks X) (A : ℕ → Bool) (f : Image X) → W .few (λ d. A d || moved x d) ≡ true → (h : Whole g p (x .home) (pile x f)) → (d : ℕ) × (d < z .n) × (A d ≡ false) × (h .virt d ≡ x .inn d) × (h .shelf .Q .out d ≡ false)
+  witness g p x A f few h =
+      let Q = h .shelf .Q in
+      let y = W .meet (λ d. A d || moved x d) (Q .out) few (h .shelf .labels .few-Q) in
+      let q = neither (A (y .0)) (moved x (y .0)) (y .2) in
+      (y .0, y .1, q .0, in-place (y .0) (h .at-home (y .0) (y .1) (inl (look-is z Q (y .0) (y .1) (inl (y .3))))) (eqb (x .inn (y .0)) (x .home (y .0))) refl (q .1), y .3)
+    where
+      neither : (a b : Bool) → (a || b) ≡ false → (a ≡ false) × (b ≡ false)
+      neither true b q = absurd (true≢false q)
+      neither false b q = (refl, q)
+
+      in-place : (d : ℕ) → h .virt d ≡ x .home d → (b : Bool) → eqb (x .inn d) (x .home d) ≡ b → not b ≡ false → h .virt d ≡ x .inn d
+      in-place d q true e r = q ∙ sym (eqb-true (x .inn d) (x .home d) e)
+      in-place d q false e r = absurd (true≢false r)
+
   -- START-UP MEETS THIS
   module _ (g : Ghost X) (p : View X) (x : Disks X) (A : ℕ → Bool) (f0 : Image X) (ok : Accepted z W C A f0) (familiar : Familiar z W C K E S R A x) (h : Whole g p (x .home) (pile x f0)) where
     abbrev D : Belief → Image X → Type 0
@@ -183,23 +199,8 @@ module _ {X : Type 0} (z : Size) (W : Quorum (z .n)) (C : LabelCodec X) (K : Rec
           odds = λ d b dn o. aside-copy z W C Q N (h .shelf .top) d b (pile x f0 (x .inn d)) f0 (in-bay f0 d b) (h .apart d (x .inn d) b dn (odd-is d o));
         }
 
-    -- some slot is present with its last disk and not out: the absent slots and those with another disk are few together
     met-witness : (d : ℕ) × (d < z .n) × (A d ≡ false) × (odd d ≡ false) × (Q .out d ≡ false)
-    met-witness =
-        let y = W .meet (λ d. A d || moved x d) (Q .out) (familiar (few-absent z W C K (g .history) A f0 ok)) (h .shelf .labels .few-Q) in
-        let q = neither (A (y .0)) (moved x (y .0)) (y .2) in
-        (y .0, y .1, q .0, in-place (y .0) (h .at-home (y .0) (y .1) (inl (look-is z Q (y .0) (y .1) (inl (y .3))))) (q .1), y .3)
-      where
-        neither : (a b : Bool) → (a || b) ≡ false → (a ≡ false) × (b ≡ false)
-        neither true b q = absurd (true≢false q)
-        neither false b q = (refl, q)
-
-        in-place : (d : ℕ) → h .virt d ≡ x .home d → moved x d ≡ false → odd d ≡ false
-        in-place d q m = go (eqb (x .inn d) (x .home d)) refl m
-          where
-            go : (b : Bool) → eqb (x .inn d) (x .home d) ≡ b → not b ≡ false → odd d ≡ false
-            go true e r = ap not (eq-eqb (h .virt d) (x .inn d) (q ∙ sym (eqb-true (x .inn d) (x .home d) e)))
-            go false e r = absurd (true≢false r)
+    met-witness = let y = witness g p x A f0 (familiar (few-absent z W C K (g .history) A f0 ok)) h in (y .0, y .1, y .2, ap not (eq-eqb (h .virt (y .0)) (x .inn (y .0)) (y .3)), y .4)
 
     -- while Q and N stand
     met-before : (t : ℕ) (fr : ℕ → Bool) (f : Image X) → h .shelf .top ≤ t → Bays z W C Q N t fr odd last f → Same f0 f → Whole g p (x .home) (pile x f)

@@ -31,5 +31,6 @@ pub mod Shaped
 pub mod Limits
 pub mod Exchange
 pub mod Apart
+pub mod Exchanged
 pub mod Walk
 pub mod Phases
