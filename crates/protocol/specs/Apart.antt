@@ -4,27 +4,24 @@
 -- disk, the one that was there when the program was last ready, unless neither Q nor N looks at the slot.
 use Prim.Native.Nat.{ℕ, suc, _≤_, _<_}
 use mathlib.Core.Path.{_≡_, refl, sym, ap, subst, _∙_, fun-ext}
-use mathlib.Core.Bool.{Bool, true, false, cond, not, _&&_, _||_, true≢false, false≢true}
+use mathlib.Core.Bool.{Bool, true, false, cond, not, _||_, true≢false}
 use mathlib.Core.Logic.{_⊎_, ⊎-elim, inl, inr, _≢_}
-use mathlib.Core.List.{List, [], _∷_}
 use native.Mathlib.Omega.{arith}
 use native.Mathlib.Decide.{ℕ-discrete}
-use lib.Dec.{eqb, ltb}
-use borrow.Author.Tests.{eq-eqb, ne-eqb, eqb-true, eqb-false}
-use Rattle.protocol.specs.World.{Place, label, log, strip, slot, Image, World, Action, act, run, after, Possible, Sane, Always, During, sane-after, sane-act, always-after, always-cur, always-map, during-start}
-use Rattle.protocol.specs.Batch.{each-tail}
-use Rattle.protocol.specs.Log.{RecordCodec, Belief, within-self, Agrees}
-use Rattle.protocol.specs.Label.{Label, Size, looked, belief, look-is, Quorum, LabelCodec, copy, copy-same, Aged, MayRule, Labels}
+use lib.Dec.{eqb}
+use borrow.Author.Tests.{eq-eqb, ne-eqb, eqb-true}
+use Rattle.protocol.specs.World.{Place, label, log, strip, slot, Image}
+use Rattle.protocol.specs.Log.{RecordCodec, Belief, within-self}
+use Rattle.protocol.specs.Label.{Label, Size, looked, belief, look-of, look-is, Quorum, LabelCodec, copy, copy-same, Aged, Labels}
 use Rattle.protocol.specs.Bays.{front, Aside, Bays, aside-top}
 use Rattle.protocol.specs.Startup.{Framed, Shelf, Same, Settles}
-use Rattle.protocol.specs.Decide.{settled, Accepted, Rest, Met, base-below, few-absent, done-settles, quiet-framed}
-use Rattle.protocol.specs.Spare.{Spares}
-use Rattle.protocol.specs.Host.{Host, Code, table}
-use Rattle.protocol.specs.Program.{Stamps, Medium, Own, Kind, creating, starting, logging, storing, labelling, Memory, nothing, idle, doing, Input}
-use Rattle.protocol.specs.Machine.{Machine, at, View, sure, open-write, kept-write}
-use Rattle.protocol.specs.Invariant.{Ghost, Under, Left, Pends, Ready, Ends, Busy, Invariant}
-use Rattle.protocol.specs.Promise.{under-framed, ready-early}
-use Rattle.protocol.specs.Exchange.{Disks, Room, room, moved, exchanged, with-disk, Strange, Familiar}
+use Rattle.protocol.specs.Decide.{settled, Accepted, Met, base-below, few-absent, done-settles}
+use Rattle.protocol.specs.Host.{Code}
+use Rattle.protocol.specs.Program.{Stamps, Medium}
+use Rattle.protocol.specs.Machine.{View}
+use Rattle.protocol.specs.Invariant.{Ghost, Under, Left}
+use Rattle.protocol.specs.Promise.{under-framed}
+use Rattle.protocol.specs.Exchange.{Disks, moved, Strange, Familiar}
 
 pub same-nat : (a b : ℕ) → (a ≡ b) ⊎ (a ≢ b)
 same-nat a b = go (ℕ-discrete a b)
@@ -84,6 +81,10 @@ module _ {X : Type 0} (z : Size) (W : Quorum (z .n)) (C : LabelCodec X) where
         own = h .own;
         near = h .near;
       }
+
+  -- what is in the bay of a slot whose chosen disk is there
+  pub chosen-copy : (x : Disks X) (f : Image X) (virt : ℕ → ℕ) (d : ℕ) (b : Bool) → virt d ≡ x .inn d → copy C (chosen virt (pile x f)) d b ≡ copy C f d b
+  chosen-copy x f virt d b e = copy-same C f (chosen virt (pile x f)) d b (pile-in x f (virt d) (label d b) e)
 
   pub lying-next : (x : Disks X) (Q N : Label) → N .generation ≡ suc (Q .generation) → Lying x Q → Lying x N
   lying-next x Q N e h d i b dn n = aside-next N N (N .generation) d (copy C (x .stock i) d b) Q (omega arith) (omega arith) (h d i b dn n)
@@ -146,6 +147,14 @@ module _ {X : Type 0} (z : Size) (W : Quorum (z .n)) (C : LabelCodec X) (K : Rec
       in-place : (d : ℕ) → h .virt d ≡ x .home d → (b : Bool) → eqb (x .inn d) (x .home d) ≡ b → not b ≡ false → h .virt d ≡ x .inn d
       in-place d q true e r = q ∙ sym (eqb-true (x .inn d) (x .home d) e)
       in-place d q false e r = absurd (true≢false r)
+
+  -- so the bays do not all look empty, once there is a shelf
+  pub unborn : (g : Ghost X) (p : View X) (x : Disks X) (A : ℕ → Bool) (f : Image X) → W .few (λ d. A d || moved x d) ≡ true → Whole g p (x .home) (pile x f) → ((d : ℕ) (b : Bool) → d < z .n → copy C f d b .generation ≡ 0) → g .base .generation ≡ 0
+  unfolding Aged
+  unborn g p x A f few h none =
+      let d = witness g p x A f few h in
+      let a = h .shelf .labels .low (d .0) (d .1) (d .4) in
+      omega (arith, base-below z W C (g .base) (Under z W C K E S R g p) (chosen (h .virt) (pile x f)) (h .shelf), a .1, none (d .0) (a .0) (d .1), ap (λ (l : Label). l .generation) (chosen-copy z W C x f (h .virt) (d .0) (a .0) (d .3)))
 
   -- START-UP MEETS THIS
   module _ (g : Ghost X) (p : View X) (x : Disks X) (A : ℕ → Bool) (f0 : Image X) (ok : Accepted z W C A f0) (familiar : Familiar z W C K E S R A x) (h : Whole g p (x .home) (pile x f0)) where
@@ -295,6 +304,16 @@ module _ {X : Type 0} (z : Size) (W : Quorum (z .n)) (C : LabelCodec X) (K : Rec
           later = met-later;
         }
 
-    pub settled-lying : Lying z W C x S0
+    met-settles : Settles z odd Q N (h .shelf .top) S0
     unfolding meets
-    settled-lying = met-lying (done-settles z W C K (g .history) A f0 ok (g .base) D (under-framed z W C K E S R g p) (λ f. Whole g p (x .home) (pile x f)) meets)
+    met-settles = done-settles z W C K (g .history) A f0 ok (g .base) D (under-framed z W C K E S R g p) (λ f. Whole g p (x .home) (pile x f)) meets
+
+    pub settled-lying : Lying z W C x S0
+    settled-lying = met-lying met-settles
+
+    -- ANOTHER DISK THAN THE LAST IS NOTICED: the label that start-up settles does not look at its slot
+    pub settled-dark : (d : ℕ) → moved x d ≡ true → looked z S0 d ≡ true → ⊥
+    settled-dark d m lit = met-settles .dark d (is-odd d (λ q. away (sym q ∙ h .at-home d (look-of z S0 d lit .0) (met-settles .inner d lit)))) lit
+      where
+        away : x .inn d ≢ x .home d
+        away q = true≢false (sym m ∙ ap not (eq-eqb (x .inn d) (x .home d) q))

@@ -3,7 +3,7 @@
 use Prim.Native.Nat.{ℕ, suc, _≤_, _<_}
 use mathlib.Core.Path.{_≡_, refl, sym, ap, subst, _∙_}
 use mathlib.Core.Bool.{Bool, true, false, cond, true≢false}
-use mathlib.Core.Logic.{_⊎_, ⊎-elim, _≢_}
+use mathlib.Core.Logic.{⊎-elim, _≢_}
 use native.Mathlib.Omega.{arith}
 use Rattle.protocol.specs.World.{Place, label, slot, Image, update, update-here, update-other, same-or-not}
 use Rattle.protocol.specs.Label.{Label, Size, looked, Quorum, LabelCodec, copy, copy-told, copy-same, Aged, MayRule, Labels, labels-put, labels-rise, labels-same}

@@ -7,7 +7,7 @@ use mathlib.Core.Bool.{Bool, true, false, cond, not, _&&_, _||_}
 use mathlib.Core.Logic.{_≢_}
 use mathlib.Core.List.{List, [], _∷_}
 use lib.Dec.{eqb}
-use Rattle.protocol.specs.World.{Place, slot, Image, World, after, Possible}
+use Rattle.protocol.specs.World.{slot, Image, World, after, Possible}
 use Rattle.protocol.specs.Log.{RecordCodec}
 use Rattle.protocol.specs.Label.{Size, looked, Quorum, LabelCodec, copy}
 use Rattle.protocol.specs.Host.{Code}

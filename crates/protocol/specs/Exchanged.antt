@@ -1,34 +1,33 @@
 -- THE PROMISE WITH EXCHANGED DISKS: whatever happens, older disks in the bays and the last ones back among it, the host's view goes on as it is allowed to.
 use Prim.Native.Nat.{ℕ, suc, _≤_, _<_}
-use mathlib.Core.Path.{_≡_, refl, sym, ap, ap₂, subst, _∙_, fun-ext}
-use mathlib.Core.Bool.{Bool, true, false, cond, not, _&&_, _||_, true≢false, false≢true}
+use mathlib.Core.Path.{_≡_, refl, sym, ap, subst, _∙_, fun-ext}
+use mathlib.Core.Bool.{Bool, true, false, cond, not, _&&_, true≢false, false≢true}
 use mathlib.Core.Logic.{_⊎_, ⊎-elim, inl, inr, _≢_}
 use mathlib.Core.List.{List, [], _∷_}
 use native.Mathlib.Omega.{arith}
-use native.Mathlib.Decide.{ℕ-discrete}
 use lib.Dec.{eqb, ltb}
 use borrow.Author.Tests.{eq-eqb, ne-eqb, eqb-true, eqb-false}
 use Rattle.protocol.specs.World.{Place, label, log, strip, slot, Image, World, Action, act, run, after, Possible, Sane, Always, During, sane-after, sane-act, always-after, always-cur, always-map, during-start}
 use Rattle.protocol.specs.Batch.{each-tail}
 use Rattle.protocol.specs.Log.{RecordCodec, within-self}
-use Rattle.protocol.specs.Label.{Label, Size, looked, belief, look-is, Quorum, LabelCodec, copy, copy-same, Aged, MayRule, Labels}
+use Rattle.protocol.specs.Label.{Label, Size, looked, belief, look-is, Quorum, LabelCodec, copy, copy-same, Aged, MayRule}
 use Rattle.protocol.specs.Bays.{Aside}
 use Rattle.protocol.specs.Startup.{Framed}
-use Rattle.protocol.specs.Decide.{settled, Rest, base-below, quiet-framed}
+use Rattle.protocol.specs.Decide.{Rest, quiet-framed}
 use Rattle.protocol.specs.Spare.{Spares}
 use Rattle.protocol.specs.Host.{Host, Code, proper, table}
 use Rattle.protocol.specs.Request.{outed}
-use Rattle.protocol.specs.Program.{Stamps, Medium, BAD_BLOCK, BUSY, TOO_FEW, Verdict, clear, because, Own, Kind, creating, starting, logging, storing, labelling, Memory, nothing, idle, doing, Input, create, start, read-block, write, take-out, begin, rebuild-on, scrub-stripe, step, Reply, accepted, beyond, mask, may, may-start, may-create, started, asked-start, asked-create, asked-write, asked-out, asked-begin, asked-on, asked-heal, asked-raise, at-least-one, last-batch, answer, from-nothing, from-idle, from-doing, one-step, meanwhile, scrubbed, unseen, program}
-use Rattle.protocol.specs.Machine.{Machine, at, effect, Event, cut, dies, swap, ask, power-cut, program-dies, from-outside, from-host, View, sure, open-write, kept-write, Goes, Views, same, next}
-use Rattle.protocol.specs.Invariant.{Ghost, Under, Left, Pends, Ready, Ends, Busy, Invariant}
-use Rattle.protocol.specs.Promise.{ready-early, beyond-in, beyond-none, mask-present, accept-f, same-label, spared, start-list, start-ends, create-tests, Zeros, zeros-off, zeros-same, copy-zeros, simulate}
+use Rattle.protocol.specs.Program.{Stamps, Medium, BAD_BLOCK, BUSY, TOO_FEW, Verdict, clear, because, Own, Kind, creating, starting, logging, storing, labelling, Memory, nothing, idle, doing, Input, create, start, read-block, write, take-out, begin, rebuild-on, scrub-stripe, step, Reply, accepted, beyond, mask, may, may-start, may-create, asked-start, asked-create, asked-write, asked-out, asked-begin, asked-on, asked-heal, asked-raise, at-least-one, last-batch, answer, from-idle, from-doing, one-step, meanwhile, scrubbed, program}
+use Rattle.protocol.specs.Machine.{at, effect, Event, swap, ask, power-cut, program-dies, from-outside, from-host, View, sure, open-write, kept-write, Goes, Views, same, next}
+use Rattle.protocol.specs.Invariant.{Ghost, Left, Pends, Ready, Ends, Busy, Invariant}
+use Rattle.protocol.specs.Promise.{ready-early, beyond-in, beyond-none, mask-present, accept-f, same-label, spared, start-ends, create-tests, Zeros, zeros-off, zeros-same, copy-zeros, simulate}
 use Rattle.protocol.specs.Exchange as Exchange
-use Rattle.protocol.specs.Exchange.{Disks, Room, room, moved, noted, exchanged, with-disk, Strange, Familiar, Asked, Befalls, Befell}
-use Rattle.protocol.specs.Apart.{same-nat, pile, pile-in, pile-out, chosen, Lying, aside-copy, lying-next, strange-lying, Whole, AtHome, whole-home, witness, meets, settled-lying}
+use Rattle.protocol.specs.Exchange.{Disks, Room, room, noted, exchanged, with-disk, Strange, Familiar, Asked, Befalls, Befell}
+use Rattle.protocol.specs.Apart.{same-nat, pile, Lying, aside-copy, lying-next, strange-lying, Whole, AtHome, whole-home, unborn, meets, settled-lying}
 
 module _ {X : Type 0} (z : Size) (W : Quorum (z .n)) (C : LabelCodec X) (K : RecordCodec X) (E : Code X (z .n) (K .c) W) (S : Stamps) (R : Medium z W C K E S) where
   -- no program runs
-  pub record Off (p : View X) (w : World X) (x : Disks X) : Type 0 where
+  pub record OffAll (p : View X) (w : World X) (x : Disks X) : Type 0 where
     pub sane : Sane w
     pub ghost : Ghost X
     pub early : ghost .u < S .base (suc (ghost .base .generation))
@@ -67,7 +66,7 @@ module _ {X : Type 0} (z : Size) (W : Quorum (z .n)) (C : LabelCodec X) (K : Rec
 
   -- the shelf is made
   abbrev pub Made : World X → Memory X → Disks X → View X → Type 0
-  Made w nothing x p = Off p w x
+  Made w nothing x p = OffAll p w x
   Made w (idle o) x p = Invariant z W C K E S R (at w (idle o)) p × Kin x o o
   Made w (doing creating l o o') x p = ⊥
   Made w (doing starting l o o') x p = Rising p w l o o' x
@@ -93,7 +92,7 @@ module _ {X : Type 0} (z : Size) (W : Quorum (z .n)) (C : LabelCodec X) (K : Rec
   as-strange : (w : World X) (m : Memory X) (x : Disks X) (p : View X) → x .made ≡ false → Invariant z W C K E S R (at w m) p × Strange z C x → Stage (x .made) w m x p
   as-strange w m x p e h = subst (λ (b : Bool). Stage b w m x p) (sym e) h
 
-  made-or-not : (w : World X) (m : Memory X) (x : Disks X) (p : View X) → Stage (x .made) w m x p → ((x .made ≡ true) × Made w m x p) ⊎ ((x .made ≡ false) × Invariant z W C K E S R (at w m) p × Strange z C x)
+  pub made-or-not : (w : World X) (m : Memory X) (x : Disks X) (p : View X) → Stage (x .made) w m x p → ((x .made ≡ true) × Made w m x p) ⊎ ((x .made ≡ false) × Invariant z W C K E S R (at w m) p × Strange z C x)
   made-or-not w m x p h = go (x .made) refl h
     where
       go : (b : Bool) → x .made ≡ b → Stage b w m x p → ((x .made ≡ true) × Made w m x p) ⊎ ((x .made ≡ false) × Invariant z W C K E S R (at w m) p × Strange z C x)
@@ -101,7 +100,7 @@ module _ {X : Type 0} (z : Size) (W : Quorum (z .n)) (C : LabelCodec X) (K : Rec
       go false e y = inr (e, y .0, y .1)
 
   -- POWER OFF
-  idle-off : (v : Host X) (w : World X) (o : Own) (x : Disks X) → Sane w → Ready z W C K E S R v w o → Kin x o o → Off (sure v) w x
+  idle-off : (v : Host X) (w : World X) (o : Own) (x : Disks X) → Sane w → Ready z W C K E S R v w o → Kin x o o → OffAll (sure v) w x
   idle-off v w o x sane h kin =
       let g : Ghost X = record { history = h .history; u = h .u; base = o .now } in
       record {
@@ -114,7 +113,7 @@ module _ {X : Type 0} (z : Size) (W : Quorum (z .n)) (C : LabelCodec X) (K : Rec
             (λ f r. whole-home z W C K E S R g (sure v) x f (kin .lying) (kin .at-home) (record { Q = o .now; since = inl refl; N = o .now; top = o .now .generation; far = o .now .out; labels = r .labels; under-Q = r .quiet; under-N = r .quiet })) (h .rest);
       }
 
-  busy-off : (k : Kind X) (p : View X) (w : World X) (l : List (Action X)) (o o' : Own) (x : Disks X) → (h : Busy z W C K E S R k p w l o o') → h .ghost .base ≡ o .now → Kin x o o' → Off p w x
+  busy-off : (k : Kind X) (p : View X) (w : World X) (l : List (Action X)) (o o' : Own) (x : Disks X) → (h : Busy z W C K E S R k p w l o o') → h .ghost .base ≡ o .now → Kin x o o' → OffAll p w x
   busy-off k p w l o o' x h e kin =
       let g = h .ghost in
       record {
@@ -127,7 +126,7 @@ module _ {X : Type 0} (z : Size) (W : Quorum (z .n)) (C : LabelCodec X) (K : Rec
             (λ f y. whole-home z W C K E S R g p x f (subst (Lying z W C x) (sym e) (kin .lying)) (kin .at-home) y) (during-start (Left z W C K E S R g p) w l (h .during));
       }
 
-  made-off : (w : World X) (m : Memory X) (x : Disks X) (p : View X) → Made w m x p → Off p w x
+  made-off : (w : World X) (m : Memory X) (x : Disks X) (p : View X) → Made w m x p → OffAll p w x
   made-off w nothing x p h = h
   made-off w (idle o) x (sure v) h = idle-off v w o x (h .0 .0) (h .0 .1) (h .1)
   made-off w (idle o) x (open-write v v') h = absurd (h .0)
@@ -139,7 +138,7 @@ module _ {X : Type 0} (z : Size) (W : Quorum (z .n)) (C : LabelCodec X) (K : Rec
   made-off w (doing (storing wr) l o o') x p h = busy-off (storing wr) p w l o o' x (h .0) (h .0 .based) (h .1)
   made-off w (doing labelling l o o') x p h = busy-off labelling p w l o o' x (h .0) (h .0 .based) (h .1)
 
-  off-cut : (p : View X) (w : World X) (x : Disks X) (f : Image X) → Possible w f → Off p w x → Off p (after f) x
+  off-cut : (p : View X) (w : World X) (x : Disks X) (f : Image X) → Possible w f → OffAll p w x → OffAll p (after f) x
   unfolding Always
   off-cut p w x f q h =
       record { sane = sane-after f; ghost = h .ghost; early = h .early; pends = h .pends; born = h .born; left = always-after (λ y. Whole z W C K E S R (h .ghost) p (x .home) (pile x y)) f (h .left f q) }
@@ -187,7 +186,7 @@ module _ {X : Type 0} (z : Size) (W : Quorum (z .n)) (C : LabelCodec X) (K : Rec
         go j k true e = let s = eqb-true (slot k) d e in rw s (here j k s (eqb j (x .inn d)) (eqb j i) refl refl)
         go j k false e = refl
 
-    disk-off : (p : View X) → Off p w x → Off p w' x'
+    disk-off : (p : View X) → OffAll p w x → OffAll p w' x'
     unfolding Always
     disk-off p h =
         record {
@@ -374,7 +373,7 @@ module _ {X : Type 0} (z : Size) (W : Quorum (z .n)) (C : LabelCodec X) (K : Rec
       (y .0, y .1, strange-holds (effect w (program z W C K E S R m (w .cur) i .1)) (program z W C K E S R m (w .cur) i .0) x (y .0) e h (y .2))
 
   -- START-UP
-  module _ (w : World X) (x : Disks X) (p : View X) (made : x .made ≡ true) (h : Off p w x) where
+  module _ (w : World X) (x : Disks X) (p : View X) (made : x .made ≡ true) (h : OffAll p w x) where
     abbrev All : Image X → Type 0
     All f = Whole z W C K E S R (h .ghost) p (x .home) (pile x f)
 
@@ -414,15 +413,11 @@ module _ {X : Type 0} (z : Size) (W : Quorum (z .n)) (C : LabelCodec X) (K : Rec
 
     -- create is refused: the bays are not all empty
     not-blank : Zeros z W C K E S R (w .cur) → Familiar z W C K E S R (beyond (z .n) (λ d. false)) x → ⊥
-    unfolding Aged
     not-blank empty familiar =
         let y = always-cur All w (h .sane) (h .left) in
-        let Q = y .shelf .Q in
-        let few : W .few (beyond (z .n) (λ d. false)) ≡ true = W .part (beyond (z .n) (λ d. false)) (Q .out) (λ d i q. absurd (true≢false (sym q ∙ beyond-none (z .n) d i))) (y .shelf .labels .few-Q) in
-        let d = witness z W C K E S R (h .ghost) p x (beyond (z .n) (λ d. false)) (w .cur) (familiar few) y in
-        let a = y .shelf .labels .low (d .0) (d .1) (d .4) in
-        let e : copy C (chosen (y .virt) (pile x (w .cur))) (d .0) (a .0) ≡ copy C (w .cur) (d .0) (a .0) = copy-same C (w .cur) (chosen (y .virt) (pile x (w .cur))) (d .0) (a .0) (pile-in x (w .cur) (y .virt (d .0)) (label (d .0) (a .0)) (d .3)) in
-        omega (arith, h .born, base-below z W C (h .ghost .base) (Under z W C K E S R (h .ghost) p) (chosen (y .virt) (pile x (w .cur))) (y .shelf), a .1, ap (λ (l : Label). l .generation) e, copy-zeros z W C K E S R (w .cur) empty (d .0) (a .0) (d .1))
+        let A = beyond (z .n) (λ d. false) in
+        let few : W .few A ≡ true = W .part A (y .shelf .Q .out) (λ d i q. absurd (true≢false (sym q ∙ beyond-none (z .n) d i))) (y .shelf .labels .few-Q) in
+        omega (arith, h .born, unborn z W C K E S R (h .ghost) p x A (w .cur) (familiar few) y (copy-zeros z W C K E S R (w .cur) empty))
 
     host-create : Asked z W C K E S R nothing create (program z W C K E S R nothing (w .cur) create .1) x → Replies w nothing x create (program z W C K E S R nothing (w .cur) create) p
     unfolding Next program
@@ -527,7 +522,7 @@ module _ {X : Type 0} (z : Size) (W : Quorum (z .n)) (C : LabelCodec X) (K : Rec
   made-host w (doing labelling l o o') x i p e h a = kin-host w (doing labelling l o o') x i p e (h .1) (h .0)
 
   -- the program is ready: made or not, the disks are as they must be
-  ready-kin : (w : World X) (o : Own) (x : Disks X) (p : View X) → Holds (room w (idle o) x) p → Invariant z W C K E S R (at w (idle o)) p × Kin x o o
+  pub ready-kin : (w : World X) (o : Own) (x : Disks X) (p : View X) → Holds (room w (idle o) x) p → Invariant z W C K E S R (at w (idle o)) p × Kin x o o
   ready-kin w o x p h = ⊎-elim (λ y. y .1) (λ y. (y .1, strange-kin x o (ready-born w o p (y .1)) (y .2))) (made-or-not w (idle o) x p h)
 
   swap-on : (w : World X) (o : Own) (x : Disks X) (d i : ℕ) (g : Image X) → looked z (o .now) d ≡ false → i ≢ x .inn d → Possible w g → (p : View X) → Invariant z W C K E S R (at w (idle o)) p × Kin x o o → Next (room (with-disk w d (x .stock i)) (idle o) (noted (idle o) (exchanged x d i g))) swap p

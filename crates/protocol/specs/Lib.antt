@@ -32,5 +32,6 @@ pub mod Limits
 pub mod Exchange
 pub mod Apart
 pub mod Exchanged
+pub mod Noticed
 pub mod Walk
 pub mod Phases

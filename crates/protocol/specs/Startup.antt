@@ -1,17 +1,17 @@
 -- Start-up's labels, over the present slots that are not stale: level (generation M), the same label once more (M + 1), the one with Out' (M + 2);
 -- then the stale slots adopt it. An absent disk may carry a label that no present one has, but at most one generation further: after these rounds it
 -- can neither tie with the settled label nor beat it.
-use Prim.Native.Nat.{ℕ, suc, _+_, _≤_, _<_}
+use Prim.Native.Nat.{ℕ, suc, _≤_, _<_}
 use mathlib.Core.Path.{_≡_, refl, sym, ap, _∙_}
 use mathlib.Core.Bool.{Bool, true, false, cond, not, _&&_, _||_, true≢false, false≢true, or-true}
-use mathlib.Core.Logic.{_⊎_, ⊎-elim, inl, inr, _≢_}
+use mathlib.Core.Logic.{_⊎_, ⊎-elim, inl, inr}
 use mathlib.Core.List.{List, _++_, List·Memᴰ}
 use native.Mathlib.Omega.{arith}
 use lib.Dec.{eqb, ltb}
 use borrow.Author.Tests.{ne-eqb, eqb-true, eqb-false, ltb-true, ltb-false, lt-ltb, not-true}
 use Rattle.protocol.specs.World.{label, log, strip, Image, update-other, World, Action, run, Sane, Always, During, sane-run, always-map, during-map, during-append, run-append}
 use Rattle.protocol.specs.Slots.{from, in-from, slots, in-slots, of-slots, every, every-of, leader, leader-top, leader-below}
-use Rattle.protocol.specs.Log.{Belief, Within, within-trans, within-self, Agrees}
+use Rattle.protocol.specs.Log.{Belief, Within, within-trans, Agrees}
 use Rattle.protocol.specs.Write.{both}
 use Rattle.protocol.specs.Label.{Label, again, plainly-out, Size, looked, belief, look-of, Quorum, LabelCodec, copy, Aged, prep, round, round-keeps, MayRule, Labels, Only, Bare, prep-safe, round-safe, only-start, only-put, rules-self, labels-settle}
 use Rattle.protocol.specs.Bays.{front, front-in, Aside, Bays, aged-in, bays-cap, bays-fine, bays-put, bays-rise}
