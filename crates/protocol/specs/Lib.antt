@@ -33,5 +33,6 @@ pub mod Exchange
 pub mod Apart
 pub mod Exchanged
 pub mod Noticed
+pub mod Back
 pub mod Walk
 pub mod Phases

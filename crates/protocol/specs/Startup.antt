@@ -2,7 +2,7 @@
 -- then the stale slots adopt it. An absent disk may carry a label that no present one has, but at most one generation further: after these rounds it
 -- can neither tie with the settled label nor beat it.
 use Prim.Native.Nat.{ℕ, suc, _≤_, _<_}
-use mathlib.Core.Path.{_≡_, refl, sym, ap, _∙_}
+use mathlib.Core.Path.{_≡_, refl, sym, ap, ap₂, _∙_}
 use mathlib.Core.Bool.{Bool, true, false, cond, not, _&&_, _||_, true≢false, false≢true, or-true}
 use mathlib.Core.Logic.{_⊎_, ⊎-elim, inl, inr}
 use mathlib.Core.List.{List, _++_, List·Memᴰ}
@@ -41,7 +41,7 @@ behind-false own newest e = ltb-false (suc own) newest e
 -- a label that calls its slot plainly out is noticed by one that does not
 pub disowned-is : (own newest : Label) (d : ℕ) → plainly-out own d ≡ true → plainly-out newest d ≡ false → disowned own newest d ≡ true
 unfolding disowned
-disowned-is own newest d p q = rw (p, q)
+disowned-is own newest d p q = ap₂ (λ (a b : Bool). a && not b) p q
 
 -- the program: what is read, and the rounds
 module _ {X : Type 0} (z : Size) (C : LabelCodec X) (absent : ℕ → Bool) (f0 : Image X) where
@@ -405,6 +405,10 @@ module _ {X : Type 0} (z : Size) (W : Quorum (z .n)) (C : LabelCodec X) (absent 
             narrow = ⊎-elim (λ n. inl (record { look-in = n .look-in; believe-in = n .believe-in })) (λ n. inr (omega (arith, M-low), record { look-in = n .1 .look-in; believe-in = n .1 .believe-in })) (L-ok .narrow);
           }
 
+      -- the slots that take part are those that are not gone
+      of-parts : (d : ℕ) → List·Memᴰ d (parts z C absent f0) → (d < z .n) × (gone z C absent f0 d ≡ false)
+      of-parts d m = let y = of-slots (λ x. not (gone z C absent f0 x)) (z .n) d m in (y .0, not-true (gone z C absent f0 d) (y .1))
+
       -- whoever is not gone gets each of the three labels
       in-level : (d : ℕ) → d < z .n → gone z C absent f0 d ≡ false → List·Memᴰ d (level-to z C absent f0)
       unfolding level-to
@@ -419,9 +423,6 @@ module _ {X : Type 0} (z : Size) (W : Quorum (z .n)) (C : LabelCodec X) (absent 
       in-last d i e = in-slots (λ x. not (gone z C absent f0 x)) (z .n) d i (rw e)
 
       -- and nobody else
-      of-parts : (d : ℕ) → List·Memᴰ d (parts z C absent f0) → (d < z .n) × (gone z C absent f0 d ≡ false)
-      of-parts d m = let y = of-slots (λ x. not (gone z C absent f0 x)) (z .n) d m in (y .0, not-true (gone z C absent f0 d) (y .1))
-
       of-level : (d : ℕ) → List·Memᴰ d (level-to z C absent f0) → (d < z .n) × (gone z C absent f0 d ≡ false)
       unfolding level-to
       of-level d m = of-parts d m
