@@ -156,10 +156,10 @@ module _ {X : Type 0} (z : Size) (W : Quorum (z .n)) (C : LabelCodec X) (K : Rec
     disk-sane h k = (λ q. rw (eq-eqb (slot k) d q), λ n. rw (ne-eqb (slot k) d n) (h k))
 
     -- as if it were still there
-    unfoldable back : Image X → Image X
+    unfoldable pub back : Image X → Image X
     back f k = cond (eqb (slot k) d) (g k) (f k)
 
-    back-possible : (f : Image X) → Possible w' f → Possible w (back f)
+    pub back-possible : (f : Image X) → Possible w' f → Possible w (back f)
     unfolding Possible back
     back-possible f q k = go (eqb (slot k) d) refl
       where
@@ -167,7 +167,7 @@ module _ {X : Type 0} (z : Size) (W : Quorum (z .n)) (C : LabelCodec X) (K : Rec
         go true e = left k
         go false e = q k .1 (eqb-false (slot k) d e)
 
-    back-other : (f : Image X) (k : Place) → slot k ≢ d → f k ≡ back f k
+    pub back-other : (f : Image X) (k : Place) → slot k ≢ d → f k ≡ back f k
     unfolding back
     back-other f k n = rw (ne-eqb (slot k) d n)
 

@@ -34,5 +34,6 @@ pub mod Apart
 pub mod Exchanged
 pub mod Noticed
 pub mod Back
+pub mod Everywhere
 pub mod Walk
 pub mod Phases
