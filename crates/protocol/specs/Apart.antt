@@ -10,18 +10,18 @@ use native.Mathlib.Omega.{arith}
 use native.Mathlib.Decide.{ℕ-discrete}
 use lib.Dec.{eqb}
 use borrow.Author.Tests.{eq-eqb, ne-eqb, eqb-true}
-use Rattle.protocol.specs.World.{Place, label, log, strip, slot, Image}
+use Rattle.protocol.specs.World.{Place, label, log, strip, slot, Image, World, Possible}
 use Rattle.protocol.specs.Log.{RecordCodec, Belief, within-self}
 use Rattle.protocol.specs.Label.{Label, Size, looked, belief, look-of, look-is, Quorum, LabelCodec, copy, copy-same, Aged, Labels}
 use Rattle.protocol.specs.Bays.{front, Aside, Bays, aside-top}
-use Rattle.protocol.specs.Startup.{Framed, Shelf, Same, Settles}
-use Rattle.protocol.specs.Decide.{settled, Accepted, Met, base-below, few-absent, done-settles}
+use Rattle.protocol.specs.Startup.{M, Framed, Shelf, Same, Settles, seen-aged, M-none}
+use Rattle.protocol.specs.Decide.{settled, Accepted, Met, base-below, done-settles}
 use Rattle.protocol.specs.Host.{Code}
 use Rattle.protocol.specs.Program.{Stamps, Medium}
 use Rattle.protocol.specs.Machine.{View}
 use Rattle.protocol.specs.Invariant.{Ghost, Under, Left}
 use Rattle.protocol.specs.Promise.{under-framed}
-use Rattle.protocol.specs.Exchange.{Disks, moved, Strange, Familiar}
+use Rattle.protocol.specs.Exchange.{Disks, moved, pile, Strange, Familiar, Newest}
 
 pub same-nat : (a b : ℕ) → (a ≡ b) ⊎ (a ≢ b)
 same-nat a b = go (ℕ-discrete a b)
@@ -31,10 +31,6 @@ same-nat a b = go (ℕ-discrete a b)
     go (no q) = inr q
 
 module _ {X : Type 0} where
-  -- all disks of all slots, with f in the bays
-  unfoldable pub pile : Disks X → Image X → ℕ → Image X
-  pile x f i k = cond (eqb i (x .inn (slot k))) (f k) (x .stock i k)
-
   pub pile-in : (x : Disks X) (f : Image X) (i : ℕ) (k : Place) → i ≡ x .inn (slot k) → pile x f i k ≡ f k
   unfolding pile
   pile-in x f i k q = rw (eq-eqb i (x .inn (slot k)) q)
@@ -148,16 +144,33 @@ module _ {X : Type 0} (z : Size) (W : Quorum (z .n)) (C : LabelCodec X) (K : Rec
       in-place d q true e r = q ∙ sym (eqb-true (x .inn d) (x .home d) e)
       in-place d q false e r = absurd (true≢false r)
 
-  -- so the bays do not all look empty, once there is a shelf
-  pub unborn : (g : Ghost X) (p : View X) (x : Disks X) (A : ℕ → Bool) (f : Image X) → W .few (λ d. A d || moved x d) ≡ true → Whole g p (x .home) (pile x f) → ((d : ℕ) (b : Bool) → d < z .n → copy C f d b .generation ≡ 0) → g .base .generation ≡ 0
-  unfolding Aged
-  unborn g p x A f few h none =
-      let d = witness g p x A f few h in
-      let a = h .shelf .labels .low (d .0) (d .1) (d .4) in
-      omega (arith, base-below z W C (g .base) (Under z W C K E S R g p) (chosen (h .virt) (pile x f)) (h .shelf), a .1, none (d .0) (a .0) (d .1), ap (λ (l : Label). l .generation) (chosen-copy z W C x f (h .virt) (d .0) (a .0) (d .3)))
+  -- START-UP SEES A LABEL THAT IS NO OLDER THAN THE SETTLED ONE
+  module _ (g : Ghost X) (p : View X) (x : Disks X) (A : ℕ → Bool) (w : World X) (f : Image X) (possible : Possible w f) (same : M z C A f ≡ M z C A (w .cur)) (few : W .few A ≡ true) (h : Whole g p (x .home) (pile x f)) where
+    familiar-low : Familiar z W C K E S R A x → h .shelf .Q .generation ≤ M z C A f
+    unfolding Aged
+    familiar-low familiar =
+        let d = witness g p x A f (familiar few) h in
+        let a = h .shelf .labels .low (d .0) (d .1) (d .4) in
+        seen-aged z W C A f (d .0) (h .shelf .Q .generation) (d .1) (d .2) (a .0, subst (λ (l : Label). h .shelf .Q .generation ≤ l .generation) (chosen-copy z W C x f (h .virt) (d .0) (a .0) (d .3)) (a .1))
+
+    newest-low : Newest z W C K E S R A w x → h .shelf .Q .generation ≤ M z C A f
+    unfolding Aged copy
+    newest-low newest =
+        let y = W .meet (h .shelf .Q .out) (h .shelf .Q .out) (h .shelf .labels .few-Q) (h .shelf .labels .few-Q) in
+        let a = h .shelf .labels .low (y .0) (y .1) (y .2) in
+        omega (arith, same, a .1, newest f possible (y .0) (h .virt (y .0)) (a .0) (y .1))
+
+    pub asked-low : Familiar z W C K E S R A x ⊎ Newest z W C K E S R A w x → h .shelf .Q .generation ≤ M z C A f
+    asked-low q = ⊎-elim familiar-low newest-low q
+
+    -- so the bays do not all look empty, once there is a shelf
+    pub unborn : Familiar z W C K E S R A x ⊎ Newest z W C K E S R A w x → ((d : ℕ) (b : Bool) → d < z .n → copy C f d b .generation ≡ 0) → g .base .generation ≡ 0
+    unborn q none =
+        let y = W .meet (h .shelf .Q .out) (h .shelf .Q .out) (h .shelf .labels .few-Q) (h .shelf .labels .few-Q) in
+        omega (arith, base-below z W C (g .base) (Under z W C K E S R g p) (chosen (h .virt) (pile x f)) (h .shelf), asked-low q, M-none z W C A f (omega (arith, y .1)) none)
 
   -- START-UP MEETS THIS
-  module _ (g : Ghost X) (p : View X) (x : Disks X) (A : ℕ → Bool) (f0 : Image X) (ok : Accepted z W C A f0) (familiar : Familiar z W C K E S R A x) (h : Whole g p (x .home) (pile x f0)) where
+  module _ (g : Ghost X) (p : View X) (x : Disks X) (A : ℕ → Bool) (f0 : Image X) (ok : Accepted z W C A f0) (h : Whole g p (x .home) (pile x f0)) (low : h .shelf .Q .generation ≤ M z C A f0) where
     abbrev D : Belief → Image X → Type 0
     D = Under z W C K E S R g p
 
@@ -207,9 +220,6 @@ module _ {X : Type 0} (z : Size) (W : Quorum (z .n)) (C : LabelCodec X) (K : Rec
           lasts = subst (Labels z W C Q N (h .shelf .top) (h .shelf .far)) (sym (front-chosen f0)) (h .shelf .labels);
           odds = λ d b dn o. aside-copy z W C Q N (h .shelf .top) d b (pile x f0 (x .inn d)) f0 (in-bay f0 d b) (h .apart d (x .inn d) b dn (odd-is d o));
         }
-
-    met-witness : (d : ℕ) × (d < z .n) × (A d ≡ false) × (odd d ≡ false) × (Q .out d ≡ false)
-    met-witness = let y = witness g p x A f0 (familiar (few-absent z W C K (g .history) A f0 ok)) h in (y .0, y .1, y .2, ap not (eq-eqb (h .virt (y .0)) (x .inn (y .0)) (y .3)), y .4)
 
     -- while Q and N stand
     met-before : (t : ℕ) (fr : ℕ → Bool) (f : Image X) → h .shelf .top ≤ t → Bays z W C Q N t fr odd last f → Same f0 f → Whole g p (x .home) (pile x f)
@@ -299,7 +309,7 @@ module _ {X : Type 0} (z : Size) (W : Quorum (z .n)) (C : LabelCodec X) (K : Rec
           bays = met-bays;
           under-Q = subst (D (belief z Q)) (sym (front-chosen f0)) (h .shelf .under-Q);
           under-N = subst (D (belief z N)) (sym (front-chosen f0)) (h .shelf .under-N);
-          witness = met-witness;
+          low = low;
           before = met-before;
           later = met-later;
         }

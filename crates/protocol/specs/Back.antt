@@ -3,8 +3,8 @@
 use Prim.Native.Nat.{ℕ, zero, suc}
 use mathlib.Core.Path.{_≡_, refl, ap}
 use mathlib.Core.List.{List, [], _∷_, _++_}
-use mathlib.Core.Bool.{Bool, true, false, _||_, false≢true}
-use mathlib.Core.Logic.{_≢_}
+use mathlib.Core.Bool.{Bool, true, false, false≢true}
+use mathlib.Core.Logic.{inl, _≢_}
 use native.Mathlib.Omega.{arith}
 use lib.Dec.{eqb}
 use borrow.Author.Tests.{eq-eqb, ne-eqb}
@@ -18,7 +18,7 @@ use Rattle.protocol.specs.Decide.{in-turn, startup}
 use Rattle.protocol.specs.Rebuild.{wiped-sectors, filled-sectors, wipe-batch, fill-batch, flushed-at-begin}
 use Rattle.protocol.specs.Host.{Change, one-block, set-block, replace, table, read, read-through, writeOf, rebuilt}
 use Rattle.protocol.specs.Count.{at-most}
-use Rattle.protocol.specs.Program.{nothing, idle, doing, Input, create, start, write, take-out, begin, rebuild-on, step, Reply, accepted, refused, did, safe, done, block, found, beyond, mask, told-to, flushed-first, left-out, program}
+use Rattle.protocol.specs.Program.{nothing, idle, doing, Input, create, start, write, take-out, begin, rebuild-on, step, Reply, accepted, refused, did, safe, done, block, found, mask, told-to, flushed-first, left-out, program}
 use Rattle.protocol.specs.Machine.{at, effect, Event, cut, swap, ask}
 use Rattle.protocol.specs.Exchange as Exchange
 use Rattle.protocol.specs.Exchange.{Asked, Befalls, Befell, Disks, Room, room, moved, noted, exchanged, with-disk}
@@ -133,7 +133,7 @@ then Exchange.stays b = Exchange.goes b Exchange.stays
 then (Exchange.goes a r) b = Exchange.goes a (then r b)
 
 abbrev Fair : Room Sector → Input Sector → Type 0
-Fair (room w m x) i = Asked size quorum labels records code stamps medium m i (program size quorum labels records code stamps medium m (w .cur) i .1) x
+Fair (room w m x) i = Asked size quorum labels records code stamps medium w m i (program size quorum labels records code stamps medium m (w .cur) i .1) x
 
 sane-effect : (w : World Sector) (r : Reply Sector) → Sane w → Sane (effect w r)
 sane-effect w accepted h = h
@@ -200,7 +200,7 @@ came-disk i (room w m x) e n h = (
 filled-came : Came filled
 unfolding update after belief copy round-batch prep-batch slots logged-sectors stored-sectors compared-sectors involved log-batch store-batch completeB whole forward marked kill-batch redo gone level-to again-to last-to rounds in-turn behind disowned prep-places startup wiped-sectors filled-sectors wipe-batch fill-batch flushed-at-begin set-block replace table read read-through writeOf rebuilt at-most mask told-to flushed-first left-out program quorum code medium
 filled-came =
-    let a = came-steps 10 (react empty create) (came-ask empty create (λ p q. refl {a = true}) ([], Exchange.stays, sane-after (λ k. blank))) in
+    let a = came-steps 10 (react empty create) (came-ask empty create (λ p. inl (λ q. refl {a = true})) ([], Exchange.stays, sane-after (λ k. blank))) in
     let b = came-steps 12 (react made (write 0 (one-block 0 (λ j. datum 7)))) (came-ask made (write 0 (one-block 0 (λ j. datum 7))) (fair-write made 0 (one-block 0 (λ j. datum 7))) a) in
     came-steps 12 (react first (write 0 (one-block 1 (λ j. datum 8)))) (came-ask first (write 0 (one-block 1 (λ j. datum 8))) (fair-write first 0 (one-block 1 (λ j. datum 8))) b)
 
@@ -208,7 +208,7 @@ mended-came : Came mended
 unfolding update after belief copy round-batch prep-batch slots logged-sectors stored-sectors compared-sectors involved log-batch store-batch completeB whole forward marked kill-batch redo gone level-to again-to last-to rounds in-turn behind disowned prep-places startup wiped-sectors filled-sectors wipe-batch fill-batch flushed-at-begin set-block replace table read read-through writeOf rebuilt at-most mask told-to flushed-first left-out program quorum code medium
 mended-came =
     let a = came-disk 1 filled (refl {a = true}) (λ q. omega (arith, q)) filled-came in
-    let b = came-steps 30 (react strange (start (λ d. eqb d 0))) (came-ask strange (start (λ d. eqb d 0)) (λ p q. refl {a = true}) a) in
+    let b = came-steps 30 (react strange (start (λ d. eqb d 0))) (came-ask strange (start (λ d. eqb d 0)) (λ p. inl (λ q. refl {a = true})) a) in
     let c = came-steps 20 (react without (begin 0)) (came-ask without (begin 0) (fair-begin without 0) b) in
     let d = came-steps 20 (react begun (rebuild-on 1)) (came-ask begun (rebuild-on 1) (fair-on begun 1) c) in
     came-steps 12 (react whole-again (write 0 (one-block 0 (λ j. datum 9)))) (came-ask whole-again (write 0 (one-block 0 (λ j. datum 9))) (fair-write whole-again 0 (one-block 0 (λ j. datum 9))) d)
@@ -217,6 +217,6 @@ pub again-came : Came again-risen
 unfolding update after belief copy round-batch prep-batch slots logged-sectors stored-sectors compared-sectors involved log-batch store-batch completeB whole forward marked kill-batch redo gone level-to again-to last-to rounds in-turn behind disowned prep-places startup wiped-sectors filled-sectors wipe-batch fill-batch flushed-at-begin set-block replace table read read-through writeOf rebuilt at-most mask told-to flushed-first left-out program quorum code medium
 again-came =
     let a = came-disk 0 mended (refl {a = true}) (λ q. omega (arith, q)) mended-came in
-    let b = came-steps 30 (react returned (start (λ d. false))) (came-ask returned (start (λ d. false)) (λ p q. refl {a = true}) a) in
+    let b = came-steps 30 (react returned (start (λ d. false))) (came-ask returned (start (λ d. false)) (λ p. inl (λ q. refl {a = true})) a) in
     let c = came-disk 1 risen (refl {a = true}) (λ q. omega (arith, q)) b in
-    came-steps 30 (react last-back (start (λ d. false))) (came-ask last-back (start (λ d. false)) (λ p q. refl {a = true}) c)
+    came-steps 30 (react last-back (start (λ d. false))) (came-ask last-back (start (λ d. false)) (λ p. inl (λ q. refl {a = true})) c)

@@ -15,7 +15,7 @@ use Rattle.protocol.specs.Redo.{forward, kill, kill-batch, marked, whole
 use Rattle.protocol.specs.Redo as Redo
 use Rattle.protocol.specs.Label.{Label, again, Size, believed, belief, believe-is, Quorum, LabelCodec, Labels, labels-same}
 use Rattle.protocol.specs.Bays.{front, Bays, bays-all}
-use Rattle.protocol.specs.Startup.{L, M, labelled, gone, next, rounds, Framed, Shelf, Same, same-agrees, same-self, settled-D, Settles, settles, rounds-safe, absent-gone}
+use Rattle.protocol.specs.Startup.{L, M, labelled, gone, next, rounds, Framed, Shelf, Same, same-agrees, same-self, settled-D, Settles, settles, rounds-safe, absent-gone, seen-aged, M-positive}
 
 -- a place of the log or of a strip, on a slot that is looked at
 abbrev pub data-place : Place → Bool
@@ -113,8 +113,8 @@ pub record Accepted {X : Type 0} (z : Size) (W : Quorum (z .n)) (C : LabelCodec 
   pub fits1' : C .Fits (next z C absent f0 (suc (M z C absent f0)))
   pub fits2 : C .Fits (next z C absent f0 (suc (suc (M z C absent f0))))
 
--- WHAT START-UP MEETS, with P to be kept. Some slots are odd: their bays hold another disk than their last; the last disks make a shelf, as ever, with D under Q and under N. One slot
--- that Q does not call out is present with its last disk. before: while Q and N stand on the last disks, P holds. later: when the new label is settled on the disks in the bays, P holds.
+-- WHAT START-UP MEETS, with P to be kept. Some slots are odd: their bays hold another disk than their last; the last disks make a shelf, as ever, with D under Q and under N. Some
+-- present disk has a label that is no older than Q (low). before: while Q and N stand on the last disks, P holds. later: when the new label is settled on the disks in the bays, P holds.
 pub record Met {X : Type 0} (z : Size) (W : Quorum (z .n)) (C : LabelCodec X) (K : RecordCodec X) (absent : ℕ → Bool) (base : Label) (D : Belief → Image X → Type 0) (P : Image X → Type 0) (f0 : Image X) : Type 0 where
   pub odd : ℕ → Bool
   pub last : Image X
@@ -126,7 +126,7 @@ pub record Met {X : Type 0} (z : Size) (W : Quorum (z .n)) (C : LabelCodec X) (K
   pub bays : Bays z W C Q N top far odd last f0
   pub under-Q : D (belief z Q) (front odd last f0)
   pub under-N : D (belief z N) (front odd last f0)
-  pub witness : (d : ℕ) × (d < z .n) × (absent d ≡ false) × (odd d ≡ false) × (Q .out d ≡ false)
+  pub low : Q .generation ≤ M z C absent f0
   pub before : (t : ℕ) (fr : ℕ → Bool) (f : Image X) → top ≤ t → Bays z W C Q N t fr odd last f → Same f0 f → P f
   pub later : Settles z odd Q N top (settled z C K absent f0) → (f : Image X) → Labels z W C (settled z C K absent f0) (settled z C K absent f0) (settled z C K absent f0 .generation) (settled z C K absent f0 .out) f → D (belief z (settled z C K absent f0)) f → P f
 
@@ -136,6 +136,10 @@ base-below z W C base D f h = ⊎-elim (λ q. omega (arith, ap (λ (l : Label). 
 module _ {X : Type 0} (z : Size) (W : Quorum (z .n)) (C : LabelCodec X) (K : RecordCodec X) (history : ℕ → Write X) (absent : ℕ → Bool) (f0 : Image X) (yes-go : Accepted z W C absent f0) where
   pub few-absent : W .few absent ≡ true
   few-absent = W .part absent (λ d. L z C absent f0 .out d || gone z C absent f0 d) (λ d i e. rw (absent-gone z W C absent f0 d i e, or-true)) (yes-go .enough)
+
+  -- and some label is seen
+  pub some-seen : 0 < M z C absent f0
+  some-seen = M-positive z W C absent f0 (yes-go .labels-there) (W .part (gone z C absent f0) (λ d. L z C absent f0 .out d || gone z C absent f0 d) (λ d i e. rw (e, or-true)) (yes-go .enough))
 
   module _ (base : Label) (D : Belief → Image X → Type 0) (fr : Framed D) (P : Image X → Type 0) (h : Met z W C K absent base D P f0) where
     abbrev w1 : World X
@@ -149,13 +153,11 @@ module _ {X : Type 0} (z : Size) (W : Quorum (z .n)) (C : LabelCodec X) (K : Rec
 
     settled-data : (f : Image X) → Same f0 f → D B1 f
     settled-data =
-        let a = h .witness in
-        settled-D z W C absent f0 (h .odd) (h .last) (h .Q) (h .N) (h .top) (h .far) (h .bays) (a .0) (a .1) (a .2) (a .3) (a .4) (yes-go .labels-there) (yes-go .enough) (yes-go .fits1) (yes-go .fits1') (yes-go .fits2) D fr (h .under-Q) (h .under-N)
+        settled-D z W C absent f0 (h .odd) (h .last) (h .Q) (h .N) (h .top) (h .far) (h .bays) (h .low) (yes-go .labels-there) (yes-go .enough) (yes-go .fits1) (yes-go .fits1') (yes-go .fits2) D fr (h .under-Q) (h .under-N)
 
     pub done-settles : Settles z (h .odd) (h .Q) (h .N) (h .top) (settled z C K absent f0)
     done-settles =
-        let a = h .witness in
-        settles z W C absent f0 (h .odd) (h .last) (h .Q) (h .N) (h .top) (h .far) (h .bays) (a .0) (a .1) (a .2) (a .3) (a .4) (yes-go .labels-there) (yes-go .enough) (yes-go .fits1) (yes-go .fits1') (yes-go .fits2)
+        settles z W C absent f0 (h .odd) (h .last) (h .Q) (h .N) (h .top) (h .far) (h .bays) (h .low) (yes-go .labels-there) (yes-go .enough) (yes-go .fits1) (yes-go .fits1') (yes-go .fits2)
 
     -- the settled label is newer than all before it
     pub done-above : base .generation < settled z C K absent f0 .generation
@@ -166,8 +168,7 @@ module _ {X : Type 0} (z : Size) (W : Quorum (z .n)) (C : LabelCodec X) (K : Rec
 
     done-rounds : During (after f0) (rounds z C absent f0) P × Always w1 (λ f. Settled f × Same f0 f)
     done-rounds =
-        let a = h .witness in
-        rounds-safe z W C absent f0 (h .odd) (h .last) (h .Q) (h .N) (h .top) (h .far) (h .bays) (a .0) (a .1) (a .2) (a .3) (a .4) (yes-go .labels-there) (yes-go .enough) (yes-go .fits1) (yes-go .fits1') (yes-go .fits2) P (h .before) (λ f l s. settled-kept f l (settled-data f s)) (after f0) (sane-after f0)
+        rounds-safe z W C absent f0 (h .odd) (h .last) (h .Q) (h .N) (h .top) (h .far) (h .bays) (h .low) (yes-go .labels-there) (yes-go .enough) (yes-go .fits1) (yes-go .fits1') (yes-go .fits2) P (h .before) (λ f l s. settled-kept f l (settled-data f s)) (after f0) (sane-after f0)
         (always-after (λ f. Bays z W C (h .Q) (h .N) (h .top) (h .far) (h .odd) (h .last) f × Same f0 f) f0 (h .bays, same-self f0))
 
     done-D : D B1 f0
@@ -238,7 +239,7 @@ module _ {X : Type 0} (z : Size) (W : Quorum (z .n)) (C : LabelCodec X) (K : Rec
         bays = bays-all z W C (h .Q) (h .N) (h .top) (h .far) f0 f0 (h .labels);
         under-Q = h .under-Q;
         under-N = h .under-N;
-        witness = (a .0, a .1, a .2, refl, a .3);
+        low = seen-aged z W C absent f0 (a .0) (h .Q .generation) (a .1) (a .2) (h .labels .low (a .0) (a .1) (a .3));
         before = λ t fr f i o s. record { Q = h .Q; since = h .since; N = h .N; top = t; far = fr; labels = o .lasts; under-Q = same (belief z (h .Q)) (h .under-Q) f s; under-N = same (belief z (h .N)) (h .under-N) f s };
         later = λ a f l o. record { Q = settled z C K absent f0; since = inr (omega (arith, below, a .over-Q)); N = settled z C K absent f0; top = settled z C K absent f0 .generation; far = settled z C K absent f0 .out; labels = l; under-Q = o; under-N = o };
       }

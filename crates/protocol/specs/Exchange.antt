@@ -1,15 +1,16 @@
 -- THE MACHINE WITH EXCHANGED DISKS. Every slot has any number of disks, told apart by names (numbers). One of them is in the slot's bay; the others lie around, without power. While
 -- no program runs, and for a slot that is not looked at even while one does, the disk in the bay may be exchanged for any other disk of that slot: an older one that was taken out at any
 -- time before, or a strange one; and the one taken out may come back at any later time, as it was.
-use Prim.Native.Nat.{ℕ, _<_}
+use Prim.Native.Nat.{ℕ, _≤_, _<_}
 use mathlib.Core.Path.{_≡_}
 use mathlib.Core.Bool.{Bool, true, false, cond, not, _&&_, _||_}
-use mathlib.Core.Logic.{_≢_}
+use mathlib.Core.Logic.{_⊎_, _≢_}
 use mathlib.Core.List.{List, [], _∷_}
 use lib.Dec.{eqb}
 use Rattle.protocol.specs.World.{slot, Image, World, after, Possible}
 use Rattle.protocol.specs.Log.{RecordCodec}
 use Rattle.protocol.specs.Label.{Size, looked, Quorum, LabelCodec, copy}
+use Rattle.protocol.specs.Startup.{M}
 use Rattle.protocol.specs.Host.{Code}
 use Rattle.protocol.specs.Program.{Stamps, Medium, Own, Memory, nothing, idle, doing, Input, Reply, accepted, unseen, program}
 use Rattle.protocol.specs.Machine.{effect, Event, cut, dies, swap, ask}
@@ -55,21 +56,29 @@ module _ {X : Type 0} where
         may = λ k y. (slot k ≡ d → y ≡ s k) × (slot k ≢ d → w .may k y);
       }
 
+  -- all disks of all slots, with f in the bays
+  unfoldable pub pile : Disks X → Image X → ℕ → Image X
+  pile x f i k = cond (eqb i (x .inn (slot k))) (f k) (x .stock i k)
+
 -- strange disks, that no program of this shelf wrote to: they hold no label of it
 pub record Strange {X : Type 0} (z : Size) (C : LabelCodec X) (x : Disks X) : Type 0 where
   pub at-home : (d : ℕ) → d < z .n → x .inn d ≡ x .home d
   pub unlabelled : (d i : ℕ) (b : Bool) → d < z .n → i ≢ x .inn d → copy C (x .stock i) d b .generation ≡ 0
 
 module _ {X : Type 0} (z : Size) (W : Quorum (z .n)) (C : LabelCodec X) (K : RecordCodec X) (E : Code X (z .n) (K .c) W) (S : Stamps) (R : Medium z W C K E S) where
-  -- ALL THAT IS ASKED OF THE WORLD at a start-up, and only if it is not refused: if the absent slots are few (at most m), they are few together with those that hold another disk
-  -- than their last. (A start-up that is not refused has few absent ones, so with no disk exchanged nothing is asked. Slots that are out do not count.)
+  -- ALL THAT IS ASKED OF THE WORLD, at a start-up that is not refused. Either: if the absent slots are few (at most m), they are few together with those that hold another disk than
+  -- their last. (A start-up that is not refused has few absent ones, so with no disk exchanged nothing is asked. Slots that are out do not count.)
   abbrev pub Familiar : (ℕ → Bool) → Disks X → Type 0
   Familiar absent x = W .few absent ≡ true → W .few (λ d. absent d || moved x d) ≡ true
 
-  abbrev pub Asked : Memory X → Input X → Reply X → Disks X → Type 0
-  Asked nothing i r x = r ≡ accepted → Familiar (unseen z W C K E S R nothing i) x
-  Asked (idle o) i r x = Unit {0}
-  Asked (doing k l o o') i r x = Unit {0}
+  -- Or: no disk of the shelf, in a bay or not, has a newer label than the newest one that start-up sees. (So one of the last disks may be enough.)
+  abbrev pub Newest : (ℕ → Bool) → World X → Disks X → Type 0
+  Newest absent w x = (f : Image X) → Possible w f → (d i : ℕ) (b : Bool) → d < z .n → copy C (pile x f i) d b .generation ≤ M z C absent (w .cur)
+
+  abbrev pub Asked : World X → Memory X → Input X → Reply X → Disks X → Type 0
+  Asked w nothing i r x = r ≡ accepted → Familiar (unseen z W C K E S R nothing i) x ⊎ Newest (unseen z W C K E S R nothing i) w x
+  Asked w (idle o) i r x = Unit {0}
+  Asked w (doing k l o o') i r x = Unit {0}
 
   -- what may happen
   pub data Befalls : Room X → Event X → Room X → Type 1 where
@@ -82,7 +91,7 @@ module _ {X : Type 0} (z : Size) (W : Quorum (z .n)) (C : LabelCodec X) (K : Rec
     -- the program is ready: the disk of a slot may be exchanged that is not looked at, being out or absent
     swapped-on : {w : World X} {o : Own} {x : Disks X} (d i : ℕ) (g : Image X) → looked z (o .now) d ≡ false → i ≢ x .inn d → Possible w g → Befalls (room w (idle o) x) swap (room (with-disk w d (x .stock i)) (idle o) (noted (idle o) (exchanged x d i g)))
     -- the host asks something, in any state, and the program answers
-    from-host : {w : World X} {m : Memory X} {x : Disks X} (i : Input X) → Asked m i (program z W C K E S R m (w .cur) i .1) x → Befalls (room w m x) (ask i (program z W C K E S R m (w .cur) i .1)) (room (effect w (program z W C K E S R m (w .cur) i .1)) (program z W C K E S R m (w .cur) i .0) (noted (program z W C K E S R m (w .cur) i .0) x))
+    from-host : {w : World X} {m : Memory X} {x : Disks X} (i : Input X) → Asked w m i (program z W C K E S R m (w .cur) i .1) x → Befalls (room w m x) (ask i (program z W C K E S R m (w .cur) i .1)) (room (effect w (program z W C K E S R m (w .cur) i .1)) (program z W C K E S R m (w .cur) i .0) (noted (program z W C K E S R m (w .cur) i .0) x))
 
   -- any sequence of events
   pub data Befell : Room X → List (Event X) → Room X → Type 1 where

@@ -12,8 +12,9 @@ use Rattle.protocol.specs.Batch.{each-tail}
 use Rattle.protocol.specs.Log.{RecordCodec, within-self}
 use Rattle.protocol.specs.Label.{Label, Size, looked, belief, look-is, Quorum, LabelCodec, copy, copy-same, Aged, MayRule}
 use Rattle.protocol.specs.Bays.{Aside}
-use Rattle.protocol.specs.Startup.{Framed}
-use Rattle.protocol.specs.Decide.{Rest, quiet-framed}
+use Rattle.protocol.specs.Startup.{M, Framed}
+use Rattle.protocol.specs.Blind.{M-same}
+use Rattle.protocol.specs.Decide.{Accepted, Rest, few-absent, some-seen, quiet-framed}
 use Rattle.protocol.specs.Spare.{Spares}
 use Rattle.protocol.specs.Host.{Host, Code, proper, table}
 use Rattle.protocol.specs.Request.{outed}
@@ -22,8 +23,8 @@ use Rattle.protocol.specs.Machine.{at, effect, Event, swap, ask, power-c
 use Rattle.protocol.specs.Invariant.{Ghost, Left, Pends, Ready, Ends, Busy, Invariant}
 use Rattle.protocol.specs.Promise.{ready-early, beyond-in, beyond-none, mask-present, accept-f, same-label, spared, start-ends, create-tests, Zeros, zeros-off, zeros-same, copy-zeros, simulate}
 use Rattle.protocol.specs.Exchange as Exchange
-use Rattle.protocol.specs.Exchange.{Disks, Room, room, noted, exchanged, with-disk, Strange, Familiar, Asked, Befalls, Befell}
-use Rattle.protocol.specs.Apart.{same-nat, pile, Lying, aside-copy, lying-next, strange-lying, Whole, AtHome, whole-home, unborn, meets, settled-lying}
+use Rattle.protocol.specs.Exchange.{Disks, Room, room, noted, exchanged, with-disk, pile, Strange, Familiar, Newest, Asked, Befalls, Befell}
+use Rattle.protocol.specs.Apart.{same-nat, Lying, aside-copy, lying-next, strange-lying, Whole, AtHome, whole-home, asked-low, unborn, meets, settled-lying}
 
 module _ {X : Type 0} (z : Size) (W : Quorum (z .n)) (C : LabelCodec X) (K : RecordCodec X) (E : Code X (z .n) (K .c) W) (S : Stamps) (R : Medium z W C K E S) where
   -- no program runs
@@ -377,14 +378,25 @@ module _ {X : Type 0} (z : Size) (W : Quorum (z .n)) (C : LabelCodec X) (K : Rec
     abbrev All : Image X → Type 0
     All f = Whole z W C K E S R (h .ghost) p (x .home) (pile x f)
 
-    rising : (A : ℕ → Bool) → may-start z W C K E S R (beyond (z .n) A) (mask z W C K E S R (beyond (z .n) A) (w .cur)) ≡ clear → Familiar z W C K E S R (beyond (z .n) A) x → Made w (asked-start z W C K E S R (beyond (z .n) A) (mask z W C K E S R (beyond (z .n) A) (w .cur))) x p
-    rising A ok familiar =
+    abbrev Asks : (ℕ → Bool) → Type 0
+    Asks A = Familiar z W C K E S R A x ⊎ Newest z W C K E S R A w x
+
+    -- whatever f turns out to be there, a label is seen that is no older than the settled one
+    pub low : (A : ℕ → Bool) → Asks A → (f : Image X) → Possible w f → ((k : Place) → A (slot k) ≡ false → f k ≡ w .cur k) → Accepted z W C A f → (y : All f) → y .shelf .Q .generation ≤ M z C A f
+    low A asks f q a ok y =
+        asked-low z W C K E S R (h .ghost) p x A w f q (M-same z W C K A f (w .cur) a (some-seen z W C K (h .ghost .history) A f ok)) (few-absent z W C K (h .ghost .history) A f ok) y asks
+
+    rising : (A : ℕ → Bool) → may-start z W C K E S R (beyond (z .n) A) (mask z W C K E S R (beyond (z .n) A) (w .cur)) ≡ clear → Asks (beyond (z .n) A) → Made w (asked-start z W C K E S R (beyond (z .n) A) (mask z W C K E S R (beyond (z .n) A) (w .cur))) x p
+    unfolding Sane
+    rising A ok asks =
         let A' = beyond (z .n) A in
         let seen = mask z W C K E S R A' (w .cur) in
         let g = h .ghost in
         let agree : (k : Place) → A' (slot k) ≡ false → seen k ≡ w .cur k = λ k a. mask-present z W C K E S R A' (w .cur) k a in
-        let r = start-ends z W C K E S R A' seen ok w agree (λ d a. beyond-in (z .n) A d a) g All (h .sane) (h .early) (h .left) p (h .pends) (λ f a y u. meets z W C K E S R g p x A' f y familiar u) in
-        let lying = settled-lying z W C K E S R g p x A' (w .cur) (accept-f z W C K E S R A' seen ok (w .cur) agree) familiar (always-cur All w (h .sane) (h .left)) in
+        let r = start-ends z W C K E S R A' seen ok w agree (λ d a. beyond-in (z .n) A d a) g All (h .sane) (h .early) (h .left) p (h .pends) (λ f q a y u. meets z W C K E S R g p x A' f y u (low A' asks f q a y u)) in
+        let there = accept-f z W C K E S R A' seen ok (w .cur) agree in
+        let y = always-cur All w (h .sane) (h .left) in
+        let lying = settled-lying z W C K E S R g p x A' (w .cur) there y (low A' asks (w .cur) (h .sane) (λ k a. refl) there y) in
         record {
           sane = h .sane;
           ghost = g;
@@ -397,7 +409,7 @@ module _ {X : Type 0} (z : Size) (W : Quorum (z .n)) (C : LabelCodec X) (K : Rec
           lying = subst (Lying z W C x) (same-label z W C K E S R A' seen ok (w .cur) agree) lying;
         }
 
-    host-start : (A : ℕ → Bool) → Asked z W C K E S R nothing (start A) (program z W C K E S R nothing (w .cur) (start A) .1) x → Replies w nothing x (start A) (program z W C K E S R nothing (w .cur) (start A)) p
+    host-start : (A : ℕ → Bool) → Asked z W C K E S R w nothing (start A) (program z W C K E S R nothing (w .cur) (start A) .1) x → Replies w nothing x (start A) (program z W C K E S R nothing (w .cur) (start A)) p
     unfolding Next program
     host-start A asked = go (may-start z W C K E S R A' seen) refl asked
       where
@@ -407,19 +419,20 @@ module _ {X : Type 0} (z : Size) (W : Quorum (z .n)) (C : LabelCodec X) (K : Rec
         seen : Image X
         seen = mask z W C K E S R A' (w .cur)
 
-        go : (v : Verdict) → may-start z W C K E S R A' seen ≡ v → (answer z W C K E S R nothing v (asked-start z W C K E S R A' seen) accepted .1 ≡ accepted → Familiar z W C K E S R A' x) → Replies w nothing x (start A) (answer z W C K E S R nothing v (asked-start z W C K E S R A' seen) accepted) p
+        go : (v : Verdict) → may-start z W C K E S R A' seen ≡ v → (answer z W C K E S R nothing v (asked-start z W C K E S R A' seen) accepted .1 ≡ accepted → Asks A') → Replies w nothing x (start A) (answer z W C K E S R nothing v (asked-start z W C K E S R A' seen) accepted) p
         go clear e a = (p, refl, as-made w (asked-start z W C K E S R A' seen) x p made (rising A e (a refl)))
         go (because why) e a = (p, refl, as-made w nothing x p made h)
 
     -- create is refused: the bays are not all empty
-    not-blank : Zeros z W C K E S R (w .cur) → Familiar z W C K E S R (beyond (z .n) (λ d. false)) x → ⊥
-    not-blank empty familiar =
+    not-blank : Zeros z W C K E S R (w .cur) → Asks (beyond (z .n) (λ d. false)) → ⊥
+    unfolding Sane
+    not-blank empty asks =
         let y = always-cur All w (h .sane) (h .left) in
         let A = beyond (z .n) (λ d. false) in
         let few : W .few A ≡ true = W .part A (y .shelf .Q .out) (λ d i q. absurd (true≢false (sym q ∙ beyond-none (z .n) d i))) (y .shelf .labels .few-Q) in
-        omega (arith, h .born, unborn z W C K E S R (h .ghost) p x A (w .cur) (familiar few) y (copy-zeros z W C K E S R (w .cur) empty))
+        omega (arith, h .born, unborn z W C K E S R (h .ghost) p x A w (w .cur) (h .sane) refl few y asks (copy-zeros z W C K E S R (w .cur) empty))
 
-    host-create : Asked z W C K E S R nothing create (program z W C K E S R nothing (w .cur) create .1) x → Replies w nothing x create (program z W C K E S R nothing (w .cur) create) p
+    host-create : Asked z W C K E S R w nothing create (program z W C K E S R nothing (w .cur) create .1) x → Replies w nothing x create (program z W C K E S R nothing (w .cur) create) p
     unfolding Next program
     host-create asked = go (may-create z W C K E S R seen) refl asked
       where
@@ -429,11 +442,11 @@ module _ {X : Type 0} (z : Size) (W : Quorum (z .n)) (C : LabelCodec X) (K : Rec
         seen : Image X
         seen = mask z W C K E S R A' (w .cur)
 
-        go : (v : Verdict) → may-create z W C K E S R seen ≡ v → (answer z W C K E S R nothing v (asked-create z W C K E S R) accepted .1 ≡ accepted → Familiar z W C K E S R A' x) → Replies w nothing x create (answer z W C K E S R nothing v (asked-create z W C K E S R) accepted) p
+        go : (v : Verdict) → may-create z W C K E S R seen ≡ v → (answer z W C K E S R nothing v (asked-create z W C K E S R) accepted .1 ≡ accepted → Asks A') → Replies w nothing x create (answer z W C K E S R nothing v (asked-create z W C K E S R) accepted) p
         go clear e a = absurd (not-blank (zeros-same z W C K E S R seen (w .cur) (λ k i. sym (mask-present z W C K E S R A' (w .cur) k (beyond-none (z .n) (slot k) i))) (create-tests z W C K E S R seen e .0)) (a refl))
         go (because why) e a = (p, refl, as-made w nothing x p made h)
 
-    host-nothing : (i : Input X) → Asked z W C K E S R nothing i (program z W C K E S R nothing (w .cur) i .1) x → Replies w nothing x i (program z W C K E S R nothing (w .cur) i) p
+    host-nothing : (i : Input X) → Asked z W C K E S R w nothing i (program z W C K E S R nothing (w .cur) i .1) x → Replies w nothing x i (program z W C K E S R nothing (w .cur) i) p
     unfolding Next program
     host-nothing create a = host-create a
     host-nothing (start A) a = host-start A a
@@ -511,7 +524,7 @@ module _ {X : Type 0} (z : Size) (W : Quorum (z .n)) (C : LabelCodec X) (K : Rec
           go (because why) = (p, refl, rising-same)
       rising-host f step = rising-step l p h
 
-  made-host : (w : World X) (m : Memory X) (x : Disks X) (i : Input X) (p : View X) → x .made ≡ true → Made w m x p → Asked z W C K E S R m i (program z W C K E S R m (w .cur) i .1) x → Replies w m x i (program z W C K E S R m (w .cur) i) p
+  made-host : (w : World X) (m : Memory X) (x : Disks X) (i : Input X) (p : View X) → x .made ≡ true → Made w m x p → Asked z W C K E S R w m i (program z W C K E S R m (w .cur) i .1) x → Replies w m x i (program z W C K E S R m (w .cur) i) p
   unfolding program
   made-host w nothing x i p e h a = host-nothing w x p e h i a
   made-host w (idle o) x i p e h a = kin-host w (idle o) x i p e (h .1) (h .0)

@@ -2,12 +2,13 @@
 use Prim.Native.Nat.{ℕ, _≤_, _<_}
 use mathlib.Core.Path.{_≡_, refl, sym, ap, subst, _∙_}
 use mathlib.Core.Bool.{Bool, true, false, not, _||_, true≢false}
-use mathlib.Core.Logic.{⊎-elim}
+use mathlib.Core.Logic.{_⊎_, ⊎-elim}
+use native.Mathlib.Omega.{arith}
 use borrow.Author.Tests.{eq-eqb}
-use Rattle.protocol.specs.World.{Place, strip, slot, Image, World, Action, Always, always-cur, always-map}
+use Rattle.protocol.specs.World.{Place, strip, slot, Image, World, Action, Possible, Sane, Always, always-cur, always-map}
 use Rattle.protocol.specs.Log.{RecordCodec, Quiet}
 use Rattle.protocol.specs.Label.{Label, Size, looked, believed, belief, Quorum, LabelCodec, copy, Aged, MayRule}
-use Rattle.protocol.specs.Startup.{L, gone}
+use Rattle.protocol.specs.Startup.{L, gone, seen-aged}
 use Rattle.protocol.specs.Decide.{settled, Accepted}
 use Rattle.protocol.specs.Host.{Host, Code, table}
 use Rattle.protocol.specs.Program.{Stamps, Medium, clear, Own, creating, starting, logging, storing, labelling, Memory, nothing, idle, doing, Input, did, beyond, mask, may-start, program}
@@ -15,22 +16,25 @@ use Rattle.protocol.specs.Machine.{View, sure}
 use Rattle.protocol.specs.Invariant.{Ghost}
 use Rattle.protocol.specs.Promise.{mask-present, accept-f, same-label}
 use Rattle.protocol.specs.Kept.{slot-of, away, Sparing, spared-away, sparing, sound}
-use Rattle.protocol.specs.Exchange.{Disks, room, moved, Familiar}
-use Rattle.protocol.specs.Apart.{same-nat, pile, chosen, Whole, AtHome, settled-dark}
-use Rattle.protocol.specs.Exchanged.{OffAll, Made, Holds, made-or-not, ready-kin}
+use Rattle.protocol.specs.Exchange.{Disks, room, moved, pile, Familiar, Newest}
+use Rattle.protocol.specs.Apart.{same-nat, chosen, Whole, AtHome, settled-dark}
+use Rattle.protocol.specs.Exchanged.{OffAll, low, Made, Holds, made-or-not, ready-kin}
 
 module _ {X : Type 0} (z : Size) (W : Quorum (z .n)) (C : LabelCodec X) (K : RecordCodec X) (E : Code X (z .n) (K .c) W) (S : Stamps) (R : Medium z W C K E S) where
   -- ANOTHER DISK IS NOTICED. No program runs, and then a start-up is not refused. A slot whose bay holds another disk than its last is not looked at by the label that this start-up
   -- settles: nothing of that disk is believed.
-  pub noticed : (w : World X) (x : Disks X) (p : View X) → OffAll z W C K E S R p w x → (A : ℕ → Bool) → may-start z W C K E S R (beyond (z .n) A) (mask z W C K E S R (beyond (z .n) A) (w .cur)) ≡ clear → Familiar z W C K E S R (beyond (z .n) A) x → (d : ℕ) → moved x d ≡ true → looked z (settled z C K (beyond (z .n) A) (mask z W C K E S R (beyond (z .n) A) (w .cur))) d ≡ true → ⊥
-  noticed w x p h A ok familiar d m =
+  pub noticed : (w : World X) (x : Disks X) (p : View X) (h : OffAll z W C K E S R p w x) → x .made ≡ true → (A : ℕ → Bool) → may-start z W C K E S R (beyond (z .n) A) (mask z W C K E S R (beyond (z .n) A) (w .cur)) ≡ clear → Familiar z W C K E S R (beyond (z .n) A) x ⊎ Newest z W C K E S R (beyond (z .n) A) w x → (d : ℕ) → moved x d ≡ true → looked z (settled z C K (beyond (z .n) A) (mask z W C K E S R (beyond (z .n) A) (w .cur))) d ≡ true → ⊥
+  unfolding Sane
+  noticed w x p h made A ok asks d m =
       let A' = beyond (z .n) A in
       let seen = mask z W C K E S R A' (w .cur) in
       let agree : (k : Place) → A' (slot k) ≡ false → seen k ≡ w .cur k = λ k a. mask-present z W C K E S R A' (w .cur) k a in
+      let there = accept-f z W C K E S R A' seen ok (w .cur) agree in
+      let y = always-cur (λ f. Whole z W C K E S R (h .ghost) p (x .home) (pile x f)) w (h .sane) (h .left) in
       subst (λ (l : Label). looked z l d ≡ true → ⊥) (same-label z W C K E S R A' seen ok (w .cur) agree)
-      (settled-dark z W C K E S R (h .ghost) p x A' (w .cur) (accept-f z W C K E S R A' seen ok (w .cur) agree) familiar (always-cur (λ f. Whole z W C K E S R (h .ghost) p (x .home) (pile x f)) w (h .sane) (h .left)) d m)
+      (settled-dark z W C K E S R (h .ghost) p x A' (w .cur) there y (low z W C K E S R w x p made h A' asks (w .cur) (h .sane) (λ k a. refl) there y) d m)
 
-  -- WHAT IS ASKED OF THE WORLD. Nothing, if every slot has its last disk:
+  -- WHAT IS ASKED OF THE WORLD (Familiar or Newest). Nothing, if every slot has its last disk:
   pub nothing-asked : (A : ℕ → Bool) (x : Disks X) → AtHome z W C K E S R x → Familiar z W C K E S R A x
   nothing-asked A x home few = W .part (λ d. A d || moved x d) A (λ d i e. go d (A d) refl (moved x d) (ap not (eq-eqb (x .inn d) (x .home d) (home d i))) e) few
     where
@@ -38,6 +42,10 @@ module _ {X : Type 0} (z : Size) (W : Quorum (z .n)) (C : LabelCodec X) (K : Rec
       go d true q b m e = q
       go d false q true m e = absurd (true≢false m)
       go d false q false m e = q ∙ e
+
+  -- nothing either, if a present disk has a label of generation q and no disk has a newer one;
+  pub newest-seen : (A : ℕ → Bool) (w : World X) (x : Disks X) (q : ℕ) → ((f : Image X) → Possible w f → (d i : ℕ) (b : Bool) → d < z .n → copy C (pile x f i) d b .generation ≤ q) → (d : ℕ) → d < z .n → A d ≡ false → Aged C (w .cur) d q → Newest z W C K E S R A w x
+  newest-seen A w x q cap d n a h f p e i b m = omega (arith, cap f p e i b m, seen-aged z W C A (w .cur) d q n a h)
 
   -- no more than the plain rule, that slots which are absent, hold another disk than their last, or are out, are few together;
   pub plain-rule : (A out : ℕ → Bool) (x : Disks X) → W .few (λ d. A d || (moved x d || out d)) ≡ true → Familiar z W C K E S R A x

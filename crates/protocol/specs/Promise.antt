@@ -285,18 +285,19 @@ module _ {X : Type 0} (z : Size) (W : Quorum (z .n)) (C : LabelCodec X) (K : Rec
       -- START-UP ON WHAT IT MEETS. P: what is known of whatever a cut leaves; from it follows what start-up has to meet (`Met`), and then P holds all the while
       module _ (g : Ghost X) (P : Image X → Type 0) (sane : Sane w) (early : g .u < S .base (suc (g .base .generation))) (left : Always w P) where
         abbrev pub Meets : (Belief → Image X → Type 0) → Type 0
-        Meets D = (f : Image X) → ((k : Place) → A (slot k) ≡ false → f k ≡ w .cur k) → Accepted z W C A f → P f → Met z W C K A (g .base) D P f
+        Meets D = (f : Image X) → Possible w f → ((k : Place) → A (slot k) ≡ false → f k ≡ w .cur k) → Accepted z W C A f → P f → Met z W C K A (g .base) D P f
 
         above : (D : Belief → Image X → Type 0) → Framed D → Meets D → g .base .generation < settled z C K A seen .generation
+        unfolding Sane
         above D fr m =
             let ok = accept-f (w .cur) agree in
-            subst (λ (q : Label). g .base .generation < q .generation) (same-label (w .cur) agree) (done-above z W C K (g .history) A (w .cur) ok (g .base) D fr P (m (w .cur) (λ k a. refl) ok (always-cur P w sane left)))
+            subst (λ (q : Label). g .base .generation < q .generation) (same-label (w .cur) agree) (done-above z W C K (g .history) A (w .cur) ok (g .base) D fr P (m (w .cur) sane (λ k a. refl) ok (always-cur P w sane left)))
 
         -- from any such f to the world with its caches
-        from-here : (s : Table X) → ((f : Image X) → ((k : Place) → A (slot k) ≡ false → f k ≡ w .cur k) → P f → During (after f) (startup z C K A f) P × Always (run (after f) (startup z C K A f)) (Rest z W C K (g .history) (g .u) (settled z C K A f) s)) → During w start-list P × Always (run w start-list) (Rest z W C K (g .history) (g .u) (settled z C K A seen) s)
+        from-here : (s : Table X) → ((f : Image X) → Possible w f → ((k : Place) → A (slot k) ≡ false → f k ≡ w .cur k) → P f → During (after f) (startup z C K A f) P × Always (run (after f) (startup z C K A f)) (Rest z W C K (g .history) (g .u) (settled z C K A f) s)) → During w start-list P × Always (run w start-list) (Rest z W C K (g .history) (g .u) (settled z C K A seen) s)
         from-here s h =
             restart A P (Rest z W C K (g .history) (g .u) (settled z C K A seen) s) (flushed-first z W C K E S R A) (startup z C K A seen) (startup-spares z W C K A seen) all-present w sane left
-            (λ f a x. moved f (to-f f a) P (g .history) (g .u) s (h f a x))
+            (λ f q a x. moved f (to-f f a) P (g .history) (g .u) s (h f q a x))
 
         -- the write that was under way is decided from what is seen
         decided : (v v' : Host X) → g .base .generation < settled z C K A seen .generation → (y : Bool) → Always (run w start-list) (Rest z W C K (g .history) (g .u) (settled z C K A seen) (cond y (tableOf v') (tableOf v))) → Ready z W C K E S R v (run w start-list) (started z W C K E S R A seen) ⊎ Ready z W C K E S R v' (run w start-list) (started z W C K E S R A seen)
@@ -305,24 +306,24 @@ module _ {X : Type 0} (z : Size) (W : Quorum (z .n)) (C : LabelCodec X) (K : Rec
 
         pub start-ends : (p : View X) → Pends z W C K E S R g p → Meets (Under z W C K E S R g p) → During w start-list P × Ends z W C K E S R g starting p (run w start-list) (started z W C K E S R A seen) (started z W C K E S R A seen)
         start-ends (sure v) b m =
-            let r = from-here (tableOf v) (λ f a x. let ok = accept-f f (to-f f a) in start-quiet z W C K (g .history) A f ok (g .base) (g .u) P (tableOf v) (m f a ok x)) in
+            let r = from-here (tableOf v) (λ f q a x. let ok = accept-f f (to-f f a) in start-quiet z W C K (g .history) A f ok (g .base) (g .u) P (tableOf v) (m f q a ok x)) in
             (r .0, start-ready g early (above (Under z W C K E S R g (sure v)) (quiet-framed K (g .history) (g .u) (tableOf v)) m) v (run w start-list) (r .1))
         start-ends (open-write v v') b m =
             let yes = decision K (belief z (settled z C K A seen)) seen (g .u) in
-            let r = from-here (cond yes (tableOf v') (tableOf v)) (λ f a x.
+            let r = from-here (cond yes (tableOf v') (tableOf v)) (λ f q a x.
             let ok = accept-f f (to-f f a) in
             subst (λ (y : Bool). During (after f) (startup z C K A f) P × Always (run (after f) (startup z C K A f)) (Rest z W C K (g .history) (g .u) (settled z C K A f) (cond y (tableOf v') (tableOf v)))) (sym (start-decision-same z W C K A seen f (to-f f a) some (g .u) (b .pos)))
-            (start-mid z W C K (g .history) A f ok (g .base) (g .u) P (b .pos) (b .inside) (b .broad) (tableOf v) (tableOf v') (b .wrote) (m f a ok x))) in
+            (start-mid z W C K (g .history) A f ok (g .base) (g .u) P (b .pos) (b .inside) (b .broad) (tableOf v) (tableOf v') (b .wrote) (m f q a ok x))) in
             (r .0, decided v v' (above (Under z W C K E S R g (open-write v v')) (mid-framed K (g .history) (g .u) (tableOf v) (tableOf v')) m) yes (r .1))
         start-ends (kept-write v') b m =
-            let r = from-here (tableOf v') (λ f a x. let ok = accept-f f (to-f f a) in start-new z W C K (g .history) A f ok (g .base) (g .u) P (b .1 .pos) (b .1 .inside) (b .1 .broad) (tableOf v') (m f a ok x)) in
+            let r = from-here (tableOf v') (λ f q a x. let ok = accept-f f (to-f f a) in start-new z W C K (g .history) A f ok (g .base) (g .u) P (b .1 .pos) (b .1 .inside) (b .1 .broad) (tableOf v') (m f q a ok x)) in
             (r .0, start-ready g early (above (Under z W C K E S R g (kept-write v')) (new-framed K (g .history) (g .u) (tableOf v')) m) v' (run w start-list) (r .1))
 
       start-any : (p : View X) → Off z W C K E S R p w → Busy z W C K E S R starting p w start-list (started z W C K E S R A seen) (started z W C K E S R A seen)
       start-any p h =
           let g = h .ghost in
           let D = Under z W C K E S R g p in
-          let r = start-ends g (Left z W C K E S R g p) (h .sane) (h .early) (h .left) p (h .pends) (λ f a ok x. meets-shelf z W C K (g .history) A f ok (g .base) D (under-framed g p) x) in
+          let r = start-ends g (Left z W C K E S R g p) (h .sane) (h .early) (h .left) p (h .pends) (λ f q a ok x. meets-shelf z W C K (g .history) A f ok (g .base) D (under-framed g p) x) in
           record { sane = h .sane; ghost = g; based = tt; early = h .early; pends = h .pends; during = r .0; ends = r .1; spares = spared; reads = tt }
 
   -- CREATE
@@ -464,7 +465,7 @@ module _ {X : Type 0} (z : Size) (W : Quorum (z .n)) (C : LabelCodec X) (K : Rec
         let few : W .few (λ d. false) ≡ true = W .part (λ d. false) (g .base .out) (λ d i q. absurd (false≢true q)) (born .1) in
         let zt = zeros-table (w .cur) (g .history) (g .u) (g .base) v h0 x in
         let r = restart A P Z (flushed-first z W C K E S R A) (round C first-label everyone) (round-spares z W C K A first-label everyone (λ d m. beyond-none (z .n) d (omega (arith, of-from (z .n) 0 d m)))) (λ k a. in-flushed A (slot k) (beyond-in (z .n) (λ d. false) (slot k) a) a) w (h .sane) (h .left)
-        (λ f a y. let zf = zeros-same (w .cur) f (λ k i. a k (beyond-none (z .n) (slot k) i)) h0 in from-zeros f v (g .history) (g .u) (g .base) (born .0) (born .1) few zf zt) in
+        (λ f q a y. let zf = zeros-same (w .cur) f (λ k i. a k (beyond-none (z .n) (slot k) i)) h0 in from-zeros f v (g .history) (g .u) (g .base) (born .0) (born .1) few zf zt) in
         record {
           sane = h .sane;
           ghost = g;

@@ -155,7 +155,7 @@ module _ {X : Type 0} (z : Size) (W : Quorum (z .n)) (C : LabelCodec X) (K : Rec
   shaped-start : (w : World X) (A : ℕ → Bool) → Sane w → Always w (Shapes C (z .n)) → may-start z W C K E S R (beyond (z .n) A) (mask z W C K E S R (beyond (z .n) A) (w .cur)) ≡ clear → Shaped (at w (asked-start z W C K E S R (beyond (z .n) A) (mask z W C K E S R (beyond (z .n) A) (w .cur))))
   shaped-start w A0 sane h e =
       restart A (Shapes C (z .n)) (Current (started z W C K E S R A sn)) (flushed-first z W C K E S R A) (startup z C K A sn) (startup-spares z W C K A sn) (λ k a. Promise.in-flushed z W C K E S R A (slot k) (beyond-in (z .n) A0 (slot k) a) a) w sane h
-      (λ f a s.
+      (λ f q a s.
       let g : (k : Place) → A (slot k) ≡ false → sn k ≡ f k = λ k x. Promise.mask-present z W C K E S R A (w .cur) k x ∙ sym (a k x) in
       let ok = Promise.accept-f z W C K E S R A sn e f g in
       let r = start-shape z W C K A f ok s in
@@ -174,7 +174,7 @@ module _ {X : Type 0} (z : Size) (W : Quorum (z .n)) (C : LabelCodec X) (K : Rec
       let t = create-tests z W C K E S R (mask z W C K E S R A (w .cur)) e in
       let zw : Zeros z W C K E S R (w .cur) = zeros-same z W C K E S R (mask z W C K E S R A (w .cur)) (w .cur) (λ k i. sym (Promise.mask-present z W C K E S R A (w .cur) k (beyond-none (z .n) (slot k) i))) (t .0) in
       restart A (Shapes C (z .n)) (Current (created z W C K E S R)) (flushed-first z W C K E S R A) (round C l everyone) (round-spares z W C K A l everyone (λ d m. beyond-none (z .n) d (omega (arith, of-from (z .n) 0 d m)))) (λ k a. Promise.in-flushed z W C K E S R A (slot k) (beyond-in (z .n) (λ d. false) (slot k) a) a) w sane h
-      (λ f a s.
+      (λ f q a s.
       let zf : Zeros z W C K E S R f = zeros-same z W C K E S R (w .cur) f (λ k i. a k (beyond-none (z .n) (slot k) i)) zw in
       let r = round-shape C (z .n) l 0 everyone (λ y. Unit {0}) (λ y d b x m u. tt) refl (R .fits l (proper-new z 1) (omega arith) (t .1)) (after f) (sane-after f)
       (always-after (λ y. Shapes C (z .n) y × ((d : ℕ) → List·Memᴰ d everyone → Low C y d 0) × Unit {0}) f (s, (λ d m. inl (zf .labels d (C .side 0) (omega (arith, of-from (z .n) 0 d m)) ∙ sym (R .same-zeros))), tt)) in (
