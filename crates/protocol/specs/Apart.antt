@@ -1,7 +1,7 @@
--- ALL DISKS OF ALL SLOTS, and what start-up meets in the bays. In words: for each slot there is one disk that belongs to the shelf, wherever it is: these disks together are as the disks of a shelf must be (Shelf). Every
--- other disk of a slot d is aside: its labels are two generations older than the settled label Q, or, as far as they are not, they call d plainly out, but for those that are one generation
--- older and of a slot that Q calls plainly out itself (PROTOCOL's F and K). So start-up notices such a disk and calls its slot out. The disk that belongs to the shelf is the slot's last
--- disk, the one that was there when the program was last ready, unless neither Q nor N looks at the slot.
+-- ALL DISKS OF ALL SLOTS, and what start-up meets in the bays. In words: for each slot there is one disk that belongs to the shelf, wherever it is. These disks together are as the
+-- disks of a shelf must be (Shelf). Every other disk of a slot is aside (Aside): each of its labels is two or more generations older than the settled label Q, or calls its own slot
+-- plainly out, or is one generation older, where Q calls the slot plainly out itself. So start-up notices such a disk and calls its slot out. The disk that belongs to the shelf is the
+-- slot's last disk, the one that was there when the program was last ready, but for slots that neither Q nor N looks at.
 use Prim.Native.Nat.{ℕ, suc, _≤_, _<_}
 use mathlib.Core.Path.{_≡_, refl, sym, ap, subst, _∙_, fun-ext}
 use mathlib.Core.Bool.{Bool, true, false, cond, not, _||_, true≢false}

@@ -8,7 +8,7 @@ use mathlib.Core.Logic.{inl, _≢_}
 use native.Mathlib.Omega.{arith}
 use lib.Dec.{eqb}
 use borrow.Author.Tests.{eq-eqb, ne-eqb}
-use Rattle.protocol.specs.World.{slot, update, World, after, Possible, Sane, sane-after, sane-act}
+use Rattle.protocol.specs.World.{slot, update, World, after, Possible, Sane, sane-after, sane-act, always-after}
 use Rattle.protocol.specs.Slots.{slots}
 use Rattle.protocol.specs.Label.{belief, copy, plainly-out, round-batch, prep-places, prep-batch}
 use Rattle.protocol.specs.Write.{logged-sectors, stored-sectors, involved, log-batch, store-batch}
@@ -19,9 +19,11 @@ use Rattle.protocol.specs.Rebuild.{wiped-sectors, filled-sectors, wipe-b
 use Rattle.protocol.specs.Host.{Change, one-block, set-block, replace, table, read, read-through, writeOf, rebuilt}
 use Rattle.protocol.specs.Count.{at-most}
 use Rattle.protocol.specs.Program.{nothing, idle, doing, Input, create, start, write, take-out, begin, rebuild-on, step, Reply, accepted, refused, did, safe, done, block, found, mask, told-to, flushed-first, left-out, program}
-use Rattle.protocol.specs.Machine.{at, effect, Event, cut, swap, ask}
+use Rattle.protocol.specs.Machine.{at, effect, Event, cut, swap, ask, View, sure, Views}
+use Rattle.protocol.specs.Promise.{Zeros}
 use Rattle.protocol.specs.Exchange as Exchange
-use Rattle.protocol.specs.Exchange.{Asked, Befalls, Befell, Disks, Room, room, moved, noted, exchanged, with-disk}
+use Rattle.protocol.specs.Exchange.{Strange, Asked, Befalls, Befell, Disks, Room, room, moved, noted, exchanged, with-disk}
+use Rattle.protocol.specs.Exchanged.{Holds, exchange-promised}
 use Rattle.protocol.specs.Run.{ask-block}
 use Rattle.protocol.specs.Toy.{Sector, blank, datum, size, labels, records, quorum, code, stamps, medium}
 
@@ -220,3 +222,14 @@ again-came =
     let b = came-steps 30 (react returned (start (λ d. false))) (came-ask returned (start (λ d. false)) (λ p. inl (λ q. refl {a = true})) a) in
     let c = came-disk 1 risen (refl {a = true}) (λ q. omega (arith, q)) b in
     came-steps 30 (react last-back (start (λ d. false))) (came-ask last-back (start (λ d. false)) (λ p. inl (λ q. refl {a = true})) c)
+
+strange-disks : Strange size labels (disks empty)
+unfolding copy
+strange-disks = record { at-home = λ d n. refl; unlabelled = λ d i b n m. labels .decode-zeros d b }
+
+-- SO THE PROMISE HOLDS OF IT
+pub again-promised : (p : View Sector) × Views (records .c) (sure (λ t i j. blank)) (again-came .0) p × Holds size quorum labels records code stamps medium again-risen p
+unfolding quorum at-most
+again-promised =
+    exchange-promised size quorum labels records code stamps medium (after (λ k. blank)) (disks empty) (sane-after (λ k. blank)) (refl {a = true})
+    (always-after (Zeros size quorum labels records code stamps medium) (λ k. blank) (record { labels = λ d b n. refl; logs = λ d j n c. refl; strips = λ d t j n u c. refl })) refl strange-disks (again-came .1)

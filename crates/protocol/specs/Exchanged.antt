@@ -21,7 +21,7 @@ use Rattle.protocol.specs.Request.{outed}
 use Rattle.protocol.specs.Program.{Stamps, Medium, BAD_BLOCK, BUSY, TOO_FEW, Verdict, clear, because, Own, Kind, creating, starting, logging, storing, labelling, Memory, nothing, idle, doing, Input, create, start, read-block, write, take-out, begin, rebuild-on, scrub-stripe, step, Reply, accepted, beyond, mask, may, may-start, may-create, asked-start, asked-create, asked-write, asked-out, asked-begin, asked-on, asked-heal, asked-raise, at-least-one, last-batch, answer, from-idle, from-doing, one-step, meanwhile, scrubbed, program}
 use Rattle.protocol.specs.Machine.{at, effect, Event, swap, ask, power-cut, program-dies, from-outside, from-host, View, sure, open-write, kept-write, Goes, Views, same, next}
 use Rattle.protocol.specs.Invariant.{Ghost, Left, Pends, Ready, Ends, Busy, Invariant}
-use Rattle.protocol.specs.Promise.{ready-early, beyond-in, beyond-none, mask-present, accept-f, same-label, spared, start-ends, create-tests, Zeros, zeros-off, zeros-same, copy-zeros, simulate}
+use Rattle.protocol.specs.Promise.{ready-early, beyond-in, beyond-none, mask-present, accept-f, same-label, spared, start-safe, create-tests, Zeros, zeros-off, zeros-same, copy-zeros, simulate}
 use Rattle.protocol.specs.Exchange as Exchange
 use Rattle.protocol.specs.Exchange.{Disks, Room, room, noted, exchanged, with-disk, pile, Strange, Familiar, Newest, Asked, Befalls, Befell}
 use Rattle.protocol.specs.Apart.{same-nat, Lying, aside-copy, lying-next, strange-lying, Whole, AtHome, whole-home, asked-low, unborn, meets, settled-lying}
@@ -393,7 +393,7 @@ module _ {X : Type 0} (z : Size) (W : Quorum (z .n)) (C : LabelCodec X) (K : Rec
         let seen = mask z W C K E S R A' (w .cur) in
         let g = h .ghost in
         let agree : (k : Place) → A' (slot k) ≡ false → seen k ≡ w .cur k = λ k a. mask-present z W C K E S R A' (w .cur) k a in
-        let r = start-ends z W C K E S R A' seen ok w agree (λ d a. beyond-in (z .n) A d a) g All (h .sane) (h .early) (h .left) p (h .pends) (λ f q a y u. meets z W C K E S R g p x A' f y u (low A' asks f q a y u)) in
+        let r = start-safe z W C K E S R A' seen ok w agree (λ d a. beyond-in (z .n) A d a) g All (h .sane) (h .early) (h .left) p (h .pends) (λ f q a y u. meets z W C K E S R g p x A' f y u (low A' asks f q a y u)) in
         let there = accept-f z W C K E S R A' seen ok (w .cur) agree in
         let y = always-cur All w (h .sane) (h .left) in
         let lying = settled-lying z W C K E S R g p x A' (w .cur) there y (low A' asks (w .cur) (h .sane) (λ k a. refl) there y) in

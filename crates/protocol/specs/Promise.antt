@@ -304,18 +304,18 @@ module _ {X : Type 0} (z : Size) (W : Quorum (z .n)) (C : LabelCodec X) (K : Rec
         decided v v' up true r = inr (start-ready g early up v' (run w start-list) r)
         decided v v' up false r = inl (start-ready g early up v (run w start-list) r)
 
-        pub start-ends : (p : View X) → Pends z W C K E S R g p → Meets (Under z W C K E S R g p) → During w start-list P × Ends z W C K E S R g starting p (run w start-list) (started z W C K E S R A seen) (started z W C K E S R A seen)
-        start-ends (sure v) b m =
+        pub start-safe : (p : View X) → Pends z W C K E S R g p → Meets (Under z W C K E S R g p) → During w start-list P × Ends z W C K E S R g starting p (run w start-list) (started z W C K E S R A seen) (started z W C K E S R A seen)
+        start-safe (sure v) b m =
             let r = from-here (tableOf v) (λ f q a x. let ok = accept-f f (to-f f a) in start-quiet z W C K (g .history) A f ok (g .base) (g .u) P (tableOf v) (m f q a ok x)) in
             (r .0, start-ready g early (above (Under z W C K E S R g (sure v)) (quiet-framed K (g .history) (g .u) (tableOf v)) m) v (run w start-list) (r .1))
-        start-ends (open-write v v') b m =
+        start-safe (open-write v v') b m =
             let yes = decision K (belief z (settled z C K A seen)) seen (g .u) in
             let r = from-here (cond yes (tableOf v') (tableOf v)) (λ f q a x.
             let ok = accept-f f (to-f f a) in
             subst (λ (y : Bool). During (after f) (startup z C K A f) P × Always (run (after f) (startup z C K A f)) (Rest z W C K (g .history) (g .u) (settled z C K A f) (cond y (tableOf v') (tableOf v)))) (sym (start-decision-same z W C K A seen f (to-f f a) some (g .u) (b .pos)))
             (start-mid z W C K (g .history) A f ok (g .base) (g .u) P (b .pos) (b .inside) (b .broad) (tableOf v) (tableOf v') (b .wrote) (m f q a ok x))) in
             (r .0, decided v v' (above (Under z W C K E S R g (open-write v v')) (mid-framed K (g .history) (g .u) (tableOf v) (tableOf v')) m) yes (r .1))
-        start-ends (kept-write v') b m =
+        start-safe (kept-write v') b m =
             let r = from-here (tableOf v') (λ f q a x. let ok = accept-f f (to-f f a) in start-new z W C K (g .history) A f ok (g .base) (g .u) P (b .1 .pos) (b .1 .inside) (b .1 .broad) (tableOf v') (m f q a ok x)) in
             (r .0, start-ready g early (above (Under z W C K E S R g (kept-write v')) (new-framed K (g .history) (g .u) (tableOf v')) m) v' (run w start-list) (r .1))
 
@@ -323,7 +323,7 @@ module _ {X : Type 0} (z : Size) (W : Quorum (z .n)) (C : LabelCodec X) (K : Rec
       start-any p h =
           let g = h .ghost in
           let D = Under z W C K E S R g p in
-          let r = start-ends g (Left z W C K E S R g p) (h .sane) (h .early) (h .left) p (h .pends) (λ f q a ok x. meets-shelf z W C K (g .history) A f ok (g .base) D (under-framed g p) x) in
+          let r = start-safe g (Left z W C K E S R g p) (h .sane) (h .early) (h .left) p (h .pends) (λ f q a ok x. meets-shelf z W C K (g .history) A f ok (g .base) D (under-framed g p) x) in
           record { sane = h .sane; ghost = g; based = tt; early = h .early; pends = h .pends; during = r .0; ends = r .1; spares = spared; reads = tt }
 
   -- CREATE
