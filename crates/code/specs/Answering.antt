@@ -1,20 +1,20 @@
 -- Each way out of encode, rebuild and repair meets its contract. Assumes nothing.
-use mathlib.Core.Path.{_≡_, refl, sym, ap, ap₂, _∙_, subst}
-use mathlib.Core.Bool.{Bool, true, false, cond}
+use mathlib.Core.Path.{_≡_, refl, sym, _∙_, subst}
+use mathlib.Core.Bool.{true, false}
 use mathlib.Core.List.{List, [], _∷_}
-use Prim.Native.Nat.{ℕ, zero, suc, _+_, _*_, _≤_, _<_}
+use Prim.Native.Nat.{ℕ, zero, suc, _+_, _≤_, _<_}
 use native.Mathlib.Omega.{arith}
-use lib.Dec.{eqb, leb}
 use lib.ListN.{length, getD, take}
-use borrow.Author.Tests.{le-leb, lt-leb, ne-eqb}
+use lib.Seq.{getD-take}
+use borrow.Author.Tests.{le-leb, lt-leb}
 use Rattle.codeword.specs.Unique.{AllBytes}
 use Rattle.codeword.specs.Stripe.{InRange, has}
-use Rattle.field.specs.declared.Answer.{Answer}
+use Rattle.codeword.specs.Named.{has-none}
 use Rattle.field.specs.declared.Answer.the-variants.{Done, Refused}
 use Rattle.field.specs.declared.Refusal.the-variants.{BadShape, TooMany, BadShard}
-use Rattle.code.specs.Shape.{shapedOf, shardsOf, encodeAnswer, rebuildAnswer}
+use Rattle.code.specs.Shape.{shapedOf, shardsOf, rebuildAnswer}
 use Rattle.code.specs.Lost.{Lost}
-use Rattle.code.specs.Lists.{shards-lost}
+use Rattle.code.specs.Lists.{shards-lost, shaped-means}
 use Rattle.code.specs.Stripes.{Encoded, Rebuilt}
 use Rattle.code.specs.Blame.{Filled}
 use Rattle.code.specs.Filling.{filled-rebuilt, filled-sound, filled-goes-by}
@@ -37,17 +37,17 @@ module _ (k m len : ℕ) (missing s : List ℕ) where
       → Rebuilt k m len missing (Refused BadShard) s s
   rebuilt-shard e h q = refused-is BadShard (simp (e, le-leb (length missing) m h, q))
 
-  pub rebuilt-done : (t : List ℕ) → shapedOf k m len (length s) ≡ true → length missing ≤ m → shardsOf (k + m) missing ≡ true → AllBytes t
+  pub rebuilt-done : (t : List ℕ) → shapedOf k m len (length s) ≡ true → length missing ≤ m → shardsOf (k + m) missing ≡ true → AllBytes s → AllBytes t
       → Filled k m len missing s t → Rebuilt k m len missing Done s t
-  rebuilt-done t e h q b f =
+  rebuilt-done t e h q bs b f =
       record {
         answers = simp (e, le-leb (length missing) m h, q);
         same = f .same;
         refused = λ x z. not-done x (sym z);
         survivors = λ z. f .survivors;
-        rebuilt = λ z o bo so ag. filled-rebuilt k m len missing s t o (shards-lost k m missing h q) b bo f so ag;
+        rebuilt = λ z. filled-rebuilt k m len missing s t (shards-lost k m missing h q) b f;
         sound = λ z n. filled-sound k m len missing s t b n f;
-        goes-by = λ z. filled-goes-by k m len missing s t (shards-lost k m missing h q) b f;
+        goes-by = λ z. filled-goes-by k m len missing s t (shards-lost k m missing h q) b f (shaped-means k m len (length s) e .len-least) bs;
       }
 
 -- ---- the parity shards, as a list
@@ -68,13 +68,6 @@ parity-at k (suc zero) h = refl
 parity-at k (suc (suc zero)) h = refl
 parity-at k (suc (suc (suc c))) h = absurd (omega arith)
 
-take-at : (l : List ℕ) (m c : ℕ) → c < m → getD (take m l) c 0 ≡ getD l c 0
-take-at [] zero c h = absurd (omega arith)
-take-at [] (suc m) c h = refl
-take-at (x ∷ l) zero c h = absurd (omega arith)
-take-at (x ∷ l) (suc m) zero h = refl
-take-at (x ∷ l) (suc m) (suc c) h = take-at l m c (omega arith)
-
 pub parities-lost : (k m : ℕ) → InRange k m → Lost k m (parities k m)
 parities-lost k m g =
     record {
@@ -85,21 +78,15 @@ parities-lost k m g =
   where
     at : (c : ℕ) → c < length (parities k m) → getD (parities k m) c 0 ≡ k + c
     at c h =
-        take-at (k ∷ (k + 1) ∷ (k + 2) ∷ []) m c (omega (arith, parities-many k m g))
+        getD-take m (k ∷ (k + 1) ∷ (k + 2) ∷ []) c 0 (omega (arith, parities-many k m g))
         ∙ parity-at k c (omega (arith, parities-many k m g, g .m-most))
-
-not-there : (l : List ℕ) (r : ℕ) → ((c : ℕ) → c < length l → r < getD l c 0) → has l r ≡ false
-not-there [] r h = refl
-not-there (a ∷ l) r h =
-    ap (λ (b : Bool). cond b true (has l r)) (ne-eqb a r (λ q. omega (arith, h 0 (omega arith))))
-    ∙ not-there l r (λ c g. h (suc c) (omega arith))
 
 pub parities-off : (k m r : ℕ) → InRange k m → r < k → has (parities k m) r ≡ false
 parities-off k m r g h =
-    not-there (parities k m) r
-    (λ c i. omega (
+    has-none (parities k m) r
+    (λ c i q. omega (
       arith,
-      take-at (k ∷ (k + 1) ∷ (k + 2) ∷ []) m c (omega (arith, parities-many k m g)),
+      getD-take m (k ∷ (k + 1) ∷ (k + 2) ∷ []) c 0 (omega (arith, parities-many k m g)),
       parity-at k c (omega (arith, parities-many k m g, g .m-most)),
     ))
 

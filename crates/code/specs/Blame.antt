@@ -3,16 +3,15 @@ use mathlib.Core.Path.{_≡_, sym, subst}
 use mathlib.Core.Bool.{Bool, true, false}
 use mathlib.Core.List.{List, [], _∷_}
 use mathlib.Core.Logic.{_≢_, _⊎_, inl, inr}
-use Prim.Native.Nat.{ℕ, suc, _+_, _*_, _≤_, _<_}
+use Prim.Native.Nat.{ℕ, _+_, _*_, _≤_, _<_}
 use native.Mathlib.Nat.{suc-mul, mul-le-mul-right, eq-or-lt-of-le}
 use native.Mathlib.Omega.{arith}
-use lib.Dec.{lit<}
-use lib.ListN.{length, getD}
-use Rattle.codeword.specs.Stripe.{Bytes, Holds, byteAt, Sound, AgreeOff, has}
+use lib.ListN.{length}
+use Rattle.codeword.specs.Stripe.{byteAt, Sound, AgreeOff}
 use Rattle.codeword.specs.Table.{rowSum, SolvedFor}
-use Rattle.codeword.specs.Mend.{Mended, mends, blamed, others, others-byte}
+use Rattle.codeword.specs.Mend.{mends, blamed, others, others-byte}
 use Rattle.codeword.specs.Unique.{AllBytes}
-use Rattle.code.specs.Spare.{Unread}
+use Rattle.code.specs.Padded.{padded}
 use Rattle.code.specs.Stripes.{Accuses}
 use Rattle.code.specs.declared.Verdict.{Verdict}
 use Rattle.code.specs.declared.Verdict.the-variants as verdict
@@ -42,13 +41,13 @@ Judged k m len s verdict.Sound = Sound k m len s
 Judged k m len s (verdict.Accused r) = (Sound k m len s → ⊥) × (2 ≤ m) × Accuses k m len s r
 Judged k m len s verdict.Unsound = (Sound k m len s → ⊥) × (2 ≤ m → (r : ℕ) → Accuses k m len s r → ⊥)
 
--- the lost shards are filled in from the others: by a table solved for them whose first rows, one for each, are now 0
+-- the lost shards are filled in from the k least of the others: by a table solved for all but these, whose first rows, one for each
+-- lost shard, are now 0
 pub record Filled (k m len : ℕ) (lost before after : List ℕ) : Type 0 where
   pub same : length after ≡ length before
   pub survivors : AgreeOff (k + m) len lost after before
   pub table : List ℕ
-  pub solved : SolvedFor k m lost table
-  pub unread : Unread k m lost table
+  pub solved : SolvedFor k m (padded k m lost) table
   pub rows : (c : ℕ) → c < length lost → (p : ℕ) → p < len → rowSum (k + m) table c (byteAt len after p) ≡ 0
 
 -- row j of m rows of n

@@ -1,51 +1,26 @@
 -- The scrub's and the repair's answers in the other direction: what is so of a stripe is what is said of it. A shard is accused
 -- exactly where some sound stripe has the other shards; so at most one is, and two wrong shards of three parities accuse nobody.
 -- Assumes nothing.
-use mathlib.Core.Path.{_≡_, refl, sym, ap, ap₂, _∙_, subst}
+use mathlib.Core.Path.{_≡_, refl, sym, ap, _∙_}
 use mathlib.Core.Bool.{Bool, true, false, cond}
 use mathlib.Core.List.{List, [], _∷_}
 use mathlib.Core.Logic.{_≢_}
-use Prim.Native.Nat.{ℕ, zero, suc, _+_, _*_, _/_, _%_, _≤_, _<_}
-use native.Mathlib.Nat.{mod-lt}
+use Prim.Native.Nat.{ℕ, zero, suc, _+_, _*_, _≤_, _<_}
 use native.Mathlib.Omega.{arith}
-use lib.Arith.{digits-lt, digits-div, digits-mod}
 use lib.Dec.{eqb, lit<}
-use lib.ListN.{length, getD, set}
-use borrow.Author.Tests.{eq-eqb, ne-eqb, eqb-true, eqb-false}
-use Rattle.field.specs.Field.{mulOf, powerOf}
-use Rattle.codeword.specs.Sum.{total, total-ext}
-use Rattle.codeword.specs.Stripe.{InRange, coef, Holds, byteAt, Sound, has, AgreeOff, Agree}
+use lib.ListN.{length, set}
+use borrow.Author.Tests.{eqb-true, eqb-false}
+use Rattle.codeword.specs.Stripe.{byteAt, Sound, has, AgreeOff, Agree}
 use Rattle.codeword.specs.Unique.{AllBytes}
-use Rattle.codeword.specs.Liars.{Differ, one-accused, innocent, repaired-once, found, third-accused, third-alone}
-use Rattle.codeword.specs.Mend.{put, put-at, put-off}
+use Rattle.codeword.specs.Liars.{Differ, one-accused, innocent, repaired-once, found, first-sum, third-accused, third-alone}
+use Rattle.codeword.specs.Named.{has-not}
+use Rattle.codeword.specs.Laid.{laid, laid-at, laid-bytes, laid-sound, holds-ext}
+use Rattle.codeword.specs.Mend.{put, put-at, put-off, put-bytes}
 use Rattle.code.specs.Shape.{shapedOf, Shaped}
 use Rattle.code.specs.Lists.{shaped-means}
 use Rattle.code.specs.Stripes.{Accuses, Says, Repaired}
 use Rattle.code.specs.declared.Verdict.{Verdict}
 use Rattle.code.specs.declared.Verdict.the-variants as verdict
-
--- f 0, f 1, .. f (n - 1)
-build : ℕ → (ℕ → ℕ) → List ℕ
-build zero f = []
-build (suc n) f = f 0 ∷ build n (λ i. f (suc i))
-
-build-at : (n : ℕ) (f : ℕ → ℕ) (i : ℕ) → i < n → getD (build n f) i 0 ≡ f i
-unfolding build
-build-at zero f i h = absurd (omega arith)
-build-at (suc n) f zero h = refl
-build-at (suc n) f (suc i) h = build-at n (λ i. f (suc i)) i (omega arith)
-
-build-bytes : (n : ℕ) (f : ℕ → ℕ) → ((i : ℕ) → f i < 256) → AllBytes (build n f)
-unfolding build
-build-bytes zero f h i = lit< tt
-build-bytes (suc n) f h zero = h 0
-build-bytes (suc n) f h (suc i) = build-bytes n (λ i. f (suc i)) (λ i. h (suc i)) i
-
--- equations of bytes that are equal one by one
-holds-ext : (k m : ℕ) (x y : ℕ → ℕ) → ((r : ℕ) → r < k + m → x r ≡ y r) → Holds k m x → Holds k m y
-holds-ext k m x y e h j hj =
-    sym (e (k + j) (omega arith)) ∙ h j hj
-    ∙ total-ext k (λ i. mulOf (coef m j i) (x i)) (λ i. mulOf (coef m j i) (y i)) (λ i hi. ap (mulOf (coef m j i)) (e i (omega arith)))
 
 module _ (k m len : ℕ) (s : List ℕ) (r : ℕ) where
   -- a sound stripe that agrees with s but for shard r
@@ -53,53 +28,20 @@ module _ (k m len : ℕ) (s : List ℕ) (r : ℕ) where
   Remedy = (t : List ℕ) × AllBytes t × Sound k m len t × AgreeOff (k + m) len (r ∷ []) s t
 
   pub remedy : 1 ≤ len → AllBytes s → Accuses k m len s r → Remedy
-  remedy hl b a = (t, build-bytes n f bytes-of, sound, agree)
+  remedy hl b a = (laid (k + m) len x, laid-bytes (k + m) len x hl x-bytes, laid-sound k m len x (λ p hp. a .1 .1 p hp .1), agree)
     where
-      n : ℕ
-      n = (k + m) * len
-
       v : ℕ → ℕ
       v = a .1 .0
 
-      f : ℕ → ℕ
-      f i = cond (eqb (i / len) r) (v (i % len)) (getD s i 0)
+      x : ℕ → ℕ → ℕ
+      x p = put r (v p) (byteAt len s p)
 
-      t : List ℕ
-      t = build n f
+      x-bytes : (p q : ℕ) → p < len → x p q < 256
+      x-bytes p q hp = put-bytes r (v p) (byteAt len s p) (a .1 .1 p hp .0) (λ i. b (i * len + p)) q
 
-      bytes-of : (i : ℕ) → f i < 256
-      bytes-of i = go (eqb (i / len) r)
-        where
-          go : (c : Bool) → cond c (v (i % len)) (getD s i 0) < 256
-          go true = a .1 .1 (i % len) (mod-lt i (omega arith)) .0
-          go false = b i
-
-      at : (p q : ℕ) → p < len → q < k + m → byteAt len t p q ≡ cond (eqb q r) (v p) (byteAt len s p q)
-      at p q hp hq =
-          build-at n f (q * len + p) (digits-lt hq hp)
-          ∙ ap₂ (λ (x y : ℕ). cond (eqb x r) (v y) (getD s (q * len + p) 0)) (digits-div q hp) (digits-mod q hp)
-
-      same : (p q : ℕ) → p < len → q < k + m → put r (v p) (byteAt len s p) q ≡ byteAt len t p q
-      same p q hp hq = go (eqb q r) refl
-        where
-          go : (c : Bool) → eqb q r ≡ c → put r (v p) (byteAt len s p) q ≡ byteAt len t p q
-          go true e =
-              ap (put r (v p) (byteAt len s p)) (eqb-true q r e) ∙ put-at r (v p) (byteAt len s p)
-              ∙ sym (at p q hp hq ∙ ap (λ (c : Bool). cond c (v p) (byteAt len s p q)) e)
-          go false e =
-              put-off r (v p) q (byteAt len s p) (eqb-false q r e)
-              ∙ sym (at p q hp hq ∙ ap (λ (c : Bool). cond c (v p) (byteAt len s p q)) e)
-
-      sound : Sound k m len t
-      sound p hp = holds-ext k m (put r (v p) (byteAt len s p)) (byteAt len t p) (λ q hq. same p q hp hq) (a .1 .1 p hp .1)
-
-      agree : AgreeOff (k + m) len (r ∷ []) s t
+      agree : AgreeOff (k + m) len (r ∷ []) s (laid (k + m) len x)
       agree q hq h p hp =
-          sym (at p q hp hq ∙ ap (λ (c : Bool). cond c (v p) (byteAt len s p q)) (ne-eqb q r (λ e. wrong (sym e))))
-        where
-          wrong : r ≡ q → ⊥
-          wrong e = let z : _≡_ {A = Bool} true false = sym (ap (λ (c : Bool). cond c true false) (eq-eqb r q e)) ∙ h in
-              let y : _≡_ {A = ℕ} 0 1 = cc in omega arith
+          sym (laid-at (k + m) len x p q hp hq ∙ put-off r (v p) q (byteAt len s p) (λ e. has-not (r ∷ []) q 0 h (lit< tt) (sym e)))
 
 -- and the other way round
 pub accused-by : (k m len : ℕ) (s : List ℕ) (r : ℕ) → r < k + m → Remedy k m len s r → Accuses k m len s r
@@ -183,8 +125,7 @@ mended-bytes (suc (suc (suc (suc (suc zero))))) = lit< tt
 mended-bytes (suc (suc (suc (suc (suc (suc i)))))) = lit< tt
 
 pub innocent-third : (Sound 4 2 1 found → ⊥) × Accuses 4 2 1 found 3
-unfolding coef total mulOf powerOf
 innocent-third = (
-  λ h. let z : _≡_ {A = ℕ} 0 0x7a = h 0 (lit< tt) 0 (lit< tt) in omega arith,
+  λ h. let z : _≡_ {A = ℕ} 0 0x7a = h 0 (lit< tt) 0 (lit< tt) ∙ first-sum 0 (lit< tt) in omega arith,
   accused-by 4 2 1 found 3 (lit< tt) (mended, mended-bytes, third-accused, third-alone),
 )

@@ -1,26 +1,28 @@
 -- From rows of a table to stripes: what filling in, scrubbing and mending come to. Assumes nothing.
-use mathlib.Core.Path.{_≡_, refl, sym, ap, ap₂, _∙_, subst}
+use mathlib.Core.Path.{_≡_, refl, sym, ap, _∙_, subst}
 use mathlib.Core.Bool.{Bool, true, false, cond}
 use mathlib.Core.List.{List, [], _∷_}
 use mathlib.Core.Logic.{_≢_, _⊎_, inl, inr, ⊎-elim}
-use Prim.Native.Nat.{ℕ, zero, suc, _+_, _*_, _≤_, _<_}
+use Prim.Native.Nat.{ℕ, _+_, _*_, _≤_, _<_}
 use native.Mathlib.Nat.{suc-mul, mul-le-mul-right, eq-or-lt-of-le, eq-zero-or-pos}
 use native.Mathlib.Omega.{arith}
 use lib.Dec.{lit<, eqb}
-use lib.Bits.{bitXor}
-use lib.ListN.{length, getD, take}
-use borrow.Author.Tests.{eq-eqb, ne-eqb, eqb-true, eqb-false}
+use lib.ListN.{length, getD}
+use borrow.Author.Tests.{eqb-true, eqb-false}
 use Rattle.field.specs.Field.{mulOf}
 use Rattle.field.specs.Bytes.{bytes}
-use Rattle.codeword.specs.Sum.{total, total-ext, except, except-at, except-off, except-ext}
-use Rattle.codeword.specs.Stripe.{Bytes, Holds, byteAt, Sound, AgreeOff, Agree, has}
-use Rattle.codeword.specs.Table.{unit, entry, rowSum, AllZero, Equivalent, SolvedFor}
-use Rattle.codeword.specs.Unit.{sum-zero, unit-same, unit-other}
-use Rattle.codeword.specs.Mend.{Mended, put, put-at, put-off, others, others-byte, row-is, by-one, by-zero, solved-row, solved-other, mends, blamed}
+use Rattle.codeword.specs.Sum.{total, total-ext, except, except-at, except-off}
+use Rattle.codeword.specs.Stripe.{Bytes, byteAt, Sound, AgreeOff, Agree, has}
+use Rattle.codeword.specs.Table.{entry, rowSum, Equivalent, SolvedFor}
+use Rattle.codeword.specs.Unit.{unit-other}
+use Rattle.codeword.specs.Named.{has-not, has-index}
+use Rattle.codeword.specs.Complete.{completed, completed-bytes, completed-off, completed-rows, completed-holds, row-same}
+use Rattle.codeword.specs.Laid.{laid, laid-at, laid-bytes, laid-sound}
+use Rattle.codeword.specs.Mend.{put, put-at, put-off, others, others-byte, by-zero, solved-row, solved-other, blamed}
 use Rattle.code.specs.Shape.{shapedOf}
 use Rattle.code.specs.Lost.{Lost}
-use Rattle.code.specs.Spare.{Unread}
-use Rattle.code.specs.Lists.{has-not}
+use Rattle.code.specs.Lists.{below-or-not, lost-one}
+use Rattle.code.specs.Padded.{padded, padded-length, padded-first, padded-lost, padded-off, solved-first}
 use Rattle.code.specs.Kernel.{weight, Combined}
 use Rattle.codeword.specs.Unique.{AllBytes}
 use Rattle.code.specs.Stripes.{GoesBy, Accuses, Says, Mends}
@@ -63,14 +65,8 @@ shard-above r a len p h =
     omega arith
 
 less-or-more : (r a : ℕ) → r ≢ a → (r < a) ⊎ (a < r)
-less-or-more r a n = go (eqb-cases r a)
+less-or-more r a n = go (below-or-not r a)
   where
-    eqb-cases : (r a : ℕ) → (r < a) ⊎ (a ≤ r)
-    eqb-cases zero zero = inr (omega arith)
-    eqb-cases zero (suc a) = inl (omega arith)
-    eqb-cases (suc r) zero = inr (omega arith)
-    eqb-cases (suc r) (suc a) = ⊎-elim (λ (h : r < a). inl (omega arith)) (λ (h : a ≤ r). inr (omega arith)) (eqb-cases r a)
-
     go : (r < a) ⊎ (a ≤ r) → (r < a) ⊎ (a < r)
     go (inl h) = inl h
     go (inr h) = ⊎-elim (λ (e : a ≡ r). absurd (n (sym e))) (λ (l : a < r). inr l) (eq-or-lt-of-le h)
@@ -158,100 +154,68 @@ filled-to-turn k m len c lost e before now after l s h f w =
         solved-other k m lost e s c i (others (k + m) e c a (byteAt len now p)) (byteAt len now p) h (omega arith) (λ z. omega arith) ha
         ∙ f .rows i q p hp
 
-pub filled-to-done : (k m len c : ℕ) (lost e before now : List ℕ) → SolvedFor k m lost e → Unread k m lost e → length lost ≤ c → FilledTo k m len c lost e before now
+pub filled-to-done : (k m len c : ℕ) (lost e before now : List ℕ) → SolvedFor k m (padded k m lost) e → length lost ≤ c → FilledTo k m len c lost e before now
     → Filled k m len lost before now
-filled-to-done k m len c lost e before now s u h f =
-    record { same = f .same; survivors = f .survivors; table = e; solved = s; unread = u; rows = λ i hi p hp. f .rows i (omega arith) p hp }
+filled-to-done k m len c lost e before now s h f =
+    record { same = f .same; survivors = f .survivors; table = e; solved = s; rows = λ i hi p hp. f .rows i (omega arith) p hp }
 
--- ---- what is filled in is the shards of every sound stripe with these survivors
+-- ---- what is filled in goes by the k least of the others
 
-pub has-index : (l : List ℕ) (r : ℕ) → has l r ≡ true → (c : ℕ) × (c < length l) × (getD l c 0 ≡ r)
-has-index [] r e = absurd (let z : _≡_ {A = ℕ} 0 1 = cc in omega arith)
-has-index (a ∷ l) r e = go (eqb a r) refl e (has-index l r)
-  where
-    go : (b : Bool) → eqb a r ≡ b → cond b true (has l r) ≡ true → (has l r ≡ true → (c : ℕ) × (c < length l) × (getD l c 0 ≡ r))
-        → (c : ℕ) × (c < suc (length l)) × (getD (a ∷ l) c 0 ≡ r)
-    go true q t ih = (0, omega arith, eqb-true a r q)
-    go false q t ih = let i = ih t in (suc (i .0), omega arith, i .2)
+module _ (k m len : ℕ) (lost before after : List ℕ) (l : Lost k m lost) (b : AllBytes after) (f : Filled k m len lost before after) where
+  -- a position that row c is 0 of and that has these k bytes has the byte that was filled in
+  filled-row : (c p : ℕ) (y : ℕ → ℕ) → c < length lost → p < len → Bytes y → rowSum (k + m) (f .table) c y ≡ 0
+      → ((r : ℕ) → r < k + m → has (padded k m lost) r ≡ false → byteAt len before p r ≡ y r) → byteAt len after p (getD lost c 0) ≡ y (getD lost c 0)
+  filled-row c p y hc hp by z ag =
+      subst (λ (a : ℕ). byteAt len after p a ≡ y a) (padded-first k m lost l c hc)
+      (row-same k m (padded k m lost) (f .table) (f .solved) (padded-lost k m lost l .few) (padded-lost k m lost l .shards) c (byteAt len after p) y
+      (omega (arith, padded-length k m lost l, l .few)) (λ r. b (r * len + p)) by (f .rows c hc p hp) z
+      (λ r hr n. f .survivors r hr (padded-off k m lost l r n) p hp ∙ ag r hr n))
 
--- x in shard a is the row's sum over the others
-row-zero-gives : (k m c : ℕ) (lost e : List ℕ) (x : ℕ → ℕ) → SolvedFor k m lost e → c < length lost → c < m → getD lost c 0 < k + m
-    → x (getD lost c 0) < 256 → rowSum (k + m) e c x ≡ 0 → x (getD lost c 0) ≡ others (k + m) e c (getD lost c 0) x
-row-zero-gives k m c lost e x s hc hm ha hx z =
-    let a : ℕ = getD lost c 0 in
-    sum-zero (x a) (others (k + m) e c a x)
-    (ap (λ (z : ℕ). bitXor z (others (k + m) e c a x)) (sym (by-one (entry (k + m) e c a) (x a) hx (s .units c hc c hm ∙ unit-same c)))
-    ∙ sym (row-is (k + m) e c a x ha) ∙ z)
-
-module _ (k m len : ℕ) (lost before after o : List ℕ) (l : Lost k m lost) (b : AllBytes after) (bo : AllBytes o) (f : Filled k m len lost before after)
-    (so : Sound k m len o) where
-  -- a shard that row c reads is a survivor, and none of the spare ones
-  read : (c i : ℕ) → c < length lost → i ≢ getD lost c 0 → entry (k + m) (f .table) c i ≢ 0
-      → (has lost i ≡ false) × ((j : ℕ) → length lost ≤ j → j < m → i ≢ f .unread .shard j)
-  read c i hc q n = (go (has lost i) refl, λ j h g e. n (ap (entry (k + m) (f .table) c) e ∙ f .unread .zero j h g c hc))
-    where
-      go : (t : Bool) → has lost i ≡ t → has lost i ≡ false
-      go false e = e
-      go true e =
-          let d = has-index lost i e in
-          absurd (n (ap (entry (k + m) (f .table) c) (sym (d .2)) ∙ f .solved .units (d .0) (d .1) c (omega (arith, l .few))
-          ∙ unit-other c (d .0) (λ g. q (sym (d .2) ∙ ap (λ (z : ℕ). getD lost z 0) (sym g)))))
-
-  pub filled-fixed : ((r : ℕ) → r < k + m → has lost r ≡ false → ((j : ℕ) → length lost ≤ j → j < m → r ≢ f .unread .shard j)
-      → (p : ℕ) → p < len → byteAt len before p r ≡ byteAt len o p r)
-      → (c : ℕ) → c < length lost → (p : ℕ) → p < len → byteAt len after p (getD lost c 0) ≡ byteAt len o p (getD lost c 0)
-  filled-fixed ag c hc p hp =
-      row-zero-gives k m c lost e x (f .solved) hc hm (l .shards c hc) (b (a * len + p)) (f .rows c hc p hp)
-      ∙ total-ext (k + m) (except a (λ i. mulOf (entry (k + m) e c i) (x i))) (except a (λ i. mulOf (entry (k + m) e c i) (y i)))
-      (λ i hi. except-ext a (λ i. mulOf (entry (k + m) e c i) (x i)) (λ i. mulOf (entry (k + m) e c i) (y i)) i
-      (λ q. term i hi q (eqb (entry (k + m) e c i) 0) refl))
-      ∙ sym (row-zero-gives k m c lost e y (f .solved) hc hm (l .shards c hc) (bo (a * len + p))
-      (f .solved .same .forth y (λ i. bo (i * len + p)) (so p hp) c hm))
-    where
-      e : List ℕ
-      e = f .table
-
-      a : ℕ
-      a = getD lost c 0
-
-      hm : c < m
-      hm = omega (arith, l .few)
-
-      x : ℕ → ℕ
-      x = byteAt len after p
-
-      y : ℕ → ℕ
-      y = byteAt len o p
-
-      term : (i : ℕ) → i < k + m → i ≢ a → (t : Bool) → eqb (entry (k + m) e c i) 0 ≡ t
-          → mulOf (entry (k + m) e c i) (x i) ≡ mulOf (entry (k + m) e c i) (y i)
-      term i hi q true z =
-          by-zero (entry (k + m) e c i) (x i) (eqb-true (entry (k + m) e c i) 0 z)
-          ∙ sym (by-zero (entry (k + m) e c i) (y i) (eqb-true (entry (k + m) e c i) 0 z))
-      term i hi q false z =
-          let r = read c i hc q (eqb-false (entry (k + m) e c i) 0 z) in
-          ap (mulOf (entry (k + m) e c i)) (f .survivors i hi (r .0) p hp ∙ ag i hi (r .0) (r .1) p hp)
-
-  pub filled-rebuilt : AgreeOff (k + m) len lost before o → Agree (k + m) len after o
-  filled-rebuilt ag r hr t p hp = go (has lost r) refl
+  -- what is filled in is the shards of every sound stripe with these survivors
+  pub filled-rebuilt : (o : List ℕ) → AllBytes o → Sound k m len o → AgreeOff (k + m) len lost before o → Agree (k + m) len after o
+  filled-rebuilt o bo so ag r hr t p hp = go (has lost r) refl
     where
       go : (t : Bool) → has lost r ≡ t → byteAt len after p r ≡ byteAt len o p r
       go false n = f .survivors r hr n p hp ∙ ag r hr n p hp
       go true n =
           let d = has-index lost r n in
           subst (λ (z : ℕ). byteAt len after p z ≡ byteAt len o p z) (d .2)
-          (filled-fixed (λ i hi g h q hq. ag i hi g q hq) (d .0) (d .1) p hp)
+          (filled-row (d .0) p (byteAt len o p) (d .1) hp (λ i. bo (i * len + p))
+          (f .solved .same .forth (byteAt len o p) (λ i. bo (i * len + p)) (so p hp) (d .0) (omega (arith, l .few)))
+          (λ i hi g. ag i hi (padded-off k m lost l i g) p hp))
 
-pub filled-goes-by : (k m len : ℕ) (lost before after : List ℕ) → Lost k m lost → AllBytes after → Filled k m len lost before after
-    → GoesBy k m len lost before after
-filled-goes-by k m len lost before after l b f =
-    record {
-      spare = f .unread .shard;
-      parity = f .unread .parity;
-      distinct = f .unread .distinct;
-      survives = f .unread .survives;
-      fixed = λ o bo so ag. filled-fixed k m len lost before after o l b bo f so ag;
-    }
+  pub filled-goes-by : 1 ≤ len → AllBytes before → GoesBy k m len lost before after
+  filled-goes-by hl bb =
+      record {
+        stripe = laid (k + m) len whole;
+        bytes = laid-bytes (k + m) len whole hl (λ p r hp. whole-bytes p r);
+        sound = laid-sound k m len whole (λ p hp. completed-holds k m all e (f .solved) (known .few) (known .shards) (byteAt len before p) (λ r. bb (r * len + p)) (padded-length k m lost l));
+        agrees = λ r hr n p hp. sym (laid-at (k + m) len whole p r hp hr ∙ off p r n);
+        filled = λ c hc p hp.
+            filled-row c p (whole p) hc hp (whole-bytes p)
+            (completed-rows k m all e (f .solved) (known .few) (known .shards) (byteAt len before p) (λ r. bb (r * len + p)) (length all) (omega arith) c (omega (arith, padded-length k m lost l, l .few)))
+            (λ r hr n. sym (off p r n))
+            ∙ sym (laid-at (k + m) len whole p (getD lost c 0) hp (l .shards c hc));
+      }
+    where
+      all : List ℕ
+      all = padded k m lost
+
+      known : Lost k m all
+      known = padded-lost k m lost l
+
+      e : List ℕ
+      e = f .table
+
+      -- the k bytes of a position, and what the table gives from them
+      whole : ℕ → ℕ → ℕ
+      whole p = completed (k + m) all e (byteAt len before p) (length all)
+
+      whole-bytes : (p : ℕ) → Bytes (whole p)
+      whole-bytes p = completed-bytes k m all e (f .solved) (known .few) (known .shards) (byteAt len before p) (λ r. bb (r * len + p)) (length all)
+
+      off : (p r : ℕ) → has all r ≡ false → whole p r ≡ byteAt len before p r
+      off p r n = completed-off k m all e (f .solved) (known .few) (known .shards) (byteAt len before p) (λ r. bb (r * len + p)) (length all) (omega arith) r n
 
 -- where as many are filled in as there are rows, the stripe is sound
 pub filled-sound : (k m len : ℕ) (lost before after : List ℕ) → AllBytes after → length lost ≡ m → Filled k m len lost before after → Sound k m len after
@@ -266,6 +230,9 @@ filled-mends k m len r before after hm bb ba a f = (f .same, λ q hq n p hp. sym
     e : List ℕ
     e = f .table
 
+    solved : SolvedFor k m (r ∷ []) e
+    solved = solved-first k m (r ∷ []) (lost-one k m r hm (a .0)) e (f .solved)
+
     same-row : (p j : ℕ) → p < len → 1 ≤ j → j < m → rowSum (k + m) e j (byteAt len after p) ≡ rowSum (k + m) e j (byteAt len before p)
     same-row p j hp l hj =
         total-ext (k + m) (λ i. mulOf (entry (k + m) e j i) (byteAt len after p i)) (λ i. mulOf (entry (k + m) e j i) (byteAt len before p i))
@@ -274,7 +241,7 @@ filled-mends k m len r before after hm bb ba a f = (f .same, λ q hq n p hp. sym
         at : (i : ℕ) → i < k + m → (b : Bool) → eqb r i ≡ b → mulOf (entry (k + m) e j i) (byteAt len after p i) ≡ mulOf (entry (k + m) e j i) (byteAt len before p i)
         at i hi true q =
             let z : entry (k + m) e j i ≡ 0 =
-            ap (entry (k + m) e j) (sym (eqb-true r i q)) ∙ f .solved .units 0 (lit< tt) j hj ∙ unit-other j 0 (λ g. omega arith) in
+            ap (entry (k + m) e j) (sym (eqb-true r i q)) ∙ solved .units 0 (lit< tt) j hj ∙ unit-other j 0 (λ g. omega arith) in
             by-zero (entry (k + m) e j i) (byteAt len after p i) z ∙ sym (by-zero (entry (k + m) e j i) (byteAt len before p i) z)
         at i hi false q =
             ap (mulOf (entry (k + m) e j i)) (f .survivors i hi (ap (λ (b : Bool). cond b true false) q) p hp)
@@ -283,7 +250,7 @@ filled-mends k m len r before after hm bb ba a f = (f .same, λ q hq n p hp. sym
     row p j hp hj (inl q) = ap (λ (z : ℕ). rowSum (k + m) e z (byteAt len after p)) q ∙ f .rows 0 (lit< tt) p hp
     row p j hp hj (inr l) =
         same-row p j hp l hj
-        ∙ blamed k m r e (f .solved) hm (a .0) (byteAt len before p) (λ i. bb (i * len + p)) (a .1 .0 p, a .1 .1 p hp .0, a .1 .1 p hp .1) j l hj
+        ∙ blamed k m r e solved hm (a .0) (byteAt len before p) (λ i. bb (i * len + p)) (a .1 .0 p, a .1 .1 p hp .0, a .1 .1 p hp .1) j l hj
 
     sound : Sound k m len after
     sound p hp = f .solved .same .back (byteAt len after p) (λ i. ba (i * len + p)) (λ j hj. row p j hp hj (eq-zero-or-pos j))

@@ -11,12 +11,12 @@ use lib.Arith.{digits-lt}
 use lib.ListN.{length, getD, set, length-set}
 use lib.Seq.{getD-set-same, getD-set-other}
 use borrow.Author.Tests.{eq-eqb, ne-eqb}
-use lib.Bits.{bitXor, xor-shifted, xor-comm, xor-zero-r}
+use lib.Bits.{bitXor, xor-shifted, xor-comm}
 use Rattle.algebra.specs.Ring.{_⊗_}
 use Rattle.algebra.specs.Field.{X, Y, Z}
 use Rattle.bits.specs.Xor.{bit-ind}
-use Rattle.field.specs.Field.{mulOf, g, pick, reduction}
-use Rattle.field.specs.Power.{mul-g}
+use Rattle.field.specs.Field.{mulOf, g, pick}
+use Rattle.field.specs.Power.{twice}
 use Rattle.field.specs.Bytes.{bytes}
 use Rattle.field.specs.Turns.{double-byte}
 use Rattle.field.specs.Solve.{solve}
@@ -29,13 +29,6 @@ use Rattle.code.specs.Kernel.{MultiplesOf, timesOf, Replaced, added, Mul
 
 pick-times : (b c : ℕ) → b < 2 → c < 256 → mulOf c b ≡ pick b c
 pick-times b c h l = bit-ind (λ b. mulOf c b ≡ pick b c) (bytes .mul-zero c) (bytes .mul-one c l) b h
-
--- below 128, twice in the field is twice
-twice : (y : ℕ) → y < 128 → mulOf g y ≡ y * 2
-twice y h =
-    let d : y / 128 ≡ 0 = omega arith in
-    let m : y * 2 % 256 ≡ y * 2 = omega arith in
-    mul-g y (omega arith) ∙ ap₂ (λ (u v : ℕ). bitXor u (pick (v % 2) reduction)) m d ∙ xor-zero-r (y * 2)
 
 -- the lowest bit of y, and the rest
 pub peel : (c d y : ℕ) → c < 256 → y < 256 → d ≡ mulOf g c → mulOf c y ≡ bitXor (pick (y % 2) c) (mulOf d (y / 2))

@@ -7,13 +7,15 @@ pub mod Steps
 pub mod StepsTurns
 pub mod Rows
 pub mod Own
-pub mod Spare
 pub mod Solving
 pub mod Pivot
 pub mod SolveTurns
 pub mod Lists
+pub mod Padded
+pub mod PadTurns
 pub mod Stripes
 pub mod Blame
 pub mod Filling
 pub mod Answering
 pub mod Exact
+pub mod Least

@@ -1,17 +1,18 @@
 -- The turns of the loops over a list of shards, and what a list that is taken means. Assumes nothing.
-use mathlib.Core.Path.{_≡_, refl, sym, ap, ap₂, _∙_, subst}
+use mathlib.Core.Path.{_≡_, refl, sym, ap, ap₂, _∙_}
 use mathlib.Core.Bool.{Bool, true, false, cond, not, _&&_}
 use mathlib.Core.List.{List, [], _∷_}
-use mathlib.Core.Logic.{_≢_}
-use Prim.Native.Nat.{ℕ, zero, suc, _+_, _*_, _≤_, _<_}
-use native.Mathlib.Nat.{mul-le-mul, min-eq-left}
+use mathlib.Core.Logic.{_≢_, _⊎_, inl, inr, ⊎-elim}
+use Prim.Native.Nat.{ℕ, zero, suc, _+_, _-_, _*_, _≤_, _<_}
+use native.Mathlib.Nat.{mul-le-mul, min-eq-left, eq-zero-or-pos}
 use native.Mathlib.Numerals.{add-one}
 use native.Mathlib.Omega.{arith}
 use lib.Dec.{eqb, leb, ltb}
 use lib.ListN.{length, getD, take, drop, drop-of-length-le, length-take}
 use lib.Seq.{drop-cons}
-use borrow.Author.Tests.{eq-eqb, ne-eqb, lt-ltb, le-ltb, ltb-true, leb-true, eqb-true, eqb-false, not-true}
+use borrow.Author.Tests.{eq-eqb, ne-eqb, lt-ltb, le-ltb, ltb-true, leb-true, eqb-true, not-true}
 use Rattle.codeword.specs.Stripe.{kLeast, kMost, mLeast, mMost, lenMost, InRange, has}
+use Rattle.codeword.specs.Named.{has-not}
 use Rattle.code.specs.Shape.{shapedOf, shardsOf, Shaped}
 use Rattle.code.specs.Lost.{Lost}
 
@@ -50,6 +51,9 @@ module _ (l : List ℕ) (i : ℕ) where
 
 -- ---- what the tests mean
 
+pub below-or-not : (c n : ℕ) → (c < n) ⊎ (n ≤ c)
+below-or-not c n = ⊎-elim (λ (e : n - c ≡ 0). inr (omega arith)) (λ (l : 0 < n - c). inl (omega arith)) (eq-zero-or-pos (n - c))
+
 pub and-left : (a b : Bool) → (a && b) ≡ true → a ≡ true
 and-left true b e = refl
 and-left false b e = e
@@ -57,18 +61,6 @@ and-left false b e = e
 pub and-right : (a b : Bool) → (a && b) ≡ true → b ≡ true
 and-right true b e = e
 and-right false b e = absurd (let z : _≡_ {A = ℕ} 0 1 = cc in omega arith)
-
-pub has-not : (l : List ℕ) (a c : ℕ) → has l a ≡ false → c < length l → getD l c 0 ≢ a
-has-not [] a c h l e = omega arith
-has-not (b ∷ l) a zero h k e =
-    let z : _≡_ {A = Bool} true false = sym (ap (λ (t : Bool). cond t true (has l a)) (eq-eqb b a e)) ∙ h in
-    let y : _≡_ {A = ℕ} 0 1 = cc in
-    omega arith
-has-not (b ∷ l) a (suc c) h k e = has-not l a c (go (eqb b a) h) (omega arith) e
-  where
-    go : (t : Bool) → cond t true (has l a) ≡ false → has l a ≡ false
-    go true q = absurd (let y : _≡_ {A = ℕ} 0 1 = cc in omega arith)
-    go false q = q
 
 pub shards-inside : (n : ℕ) (l : List ℕ) → shardsOf n l ≡ true → (c : ℕ) → c < length l → getD l c 0 < n
 shards-inside n [] e c h = absurd (omega arith)

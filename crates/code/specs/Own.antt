@@ -17,7 +17,7 @@ use Rattle.codeword.specs.Unit.{one-times, zero-times, sum-zero, unit-same, uni
 column-is : (k m r j : ℕ) (b : Bool) → ltb r k ≡ b → column k m r j ≡ cond b (coef m j r) (unit r (k + j))
 column-is k m r j b q = ap (λ (b : Bool). cond b (coef m j r) (unit r (k + j))) q
 
-pub column-parity : (k m i j : ℕ) → column k m (k + i) j ≡ unit (k + i) (k + j)
+column-parity : (k m i j : ℕ) → column k m (k + i) j ≡ unit (k + i) (k + j)
 column-parity k m i j = column-is k m (k + i) j false (le-ltb (k + i) k (omega arith))
 
 columns-sum : (k m : ℕ) (e : List ℕ) → Columns k m e → (x : ℕ → ℕ) → Bytes x → (j : ℕ) → j < m

@@ -4,7 +4,7 @@ use mathlib.Core.Path.{_≡_, refl, sym, ap, ap₂, _∙_, subst}
 use mathlib.Core.Bool.{Bool, true, false, cond}
 use mathlib.Core.List.{List, [], _∷_}
 use mathlib.Core.Logic.{_≢_, _⊎_, inl, inr, ⊎-elim}
-use Prim.Native.Nat.{ℕ, _+_, _-_, _*_, _/_, _%_, _≤_, _<_}
+use Prim.Native.Nat.{ℕ, _+_, _-_, _*_, _/_, _%_, _<_}
 use lib.Dec.{lit<, eqb}
 use lib.ListN.{length}
 use lib.Bits.{bitXor}
@@ -145,21 +145,8 @@ by-swap c j P p q f i = go (same-or-not i c) (same-or-not i j)
         subst (λ (t : Bool). P i (cond t j (cond (eqb i j) c i))) (sym (ne-eqb i c a))
         (subst (λ (t : Bool). P i (cond t c i)) (sym (ne-eqb i j b)) (f i a b))
 
-pub swap-from : (b c j : ℕ) → b ≤ c → b ≤ j → (i : ℕ) → b ≤ i → b ≤ swap c j i
-swap-from b c j hc hj = by-swap c j (λ i s. b ≤ i → b ≤ s) (λ l. hj) (λ l. hc) (λ i p q l. l)
-
 pub swap-row : (m c j : ℕ) → c < m → j < m → (i : ℕ) → i < m → swap c j i < m
 swap-row m c j hc hj = by-swap c j (λ i s. i < m → s < m) (λ l. hj) (λ l. hc) (λ i p q l. l)
-
-swap-back : (c j i : ℕ) → swap c j (swap c j i) ≡ i
-swap-back c j =
-    by-swap c j (λ i s. swap c j s ≡ i)
-    (by-swap c j (λ i s. i ≡ j → s ≡ c) (λ q. sym q) (λ q. refl) (λ i p q z. absurd (q z)) j refl)
-    (by-swap c j (λ i s. i ≡ c → s ≡ j) (λ q. refl) (λ q. sym q) (λ i p q z. absurd (p z)) c refl)
-    (λ i p q. by-swap c j (λ x s. x ≡ i → s ≡ i) (λ z. absurd (p (sym z))) (λ z. absurd (q (sym z))) (λ x a b z. z) i refl)
-
-pub swap-same : (c j a b : ℕ) → swap c j a ≡ swap c j b → a ≡ b
-swap-same c j a b q = sym (swap-back c j a) ∙ ap (swap c j) q ∙ swap-back c j b
 
 pub exchanged-each : (n c j : ℕ) (e new : List ℕ) → Exchanged n c j e new → (i r : ℕ) → r < n → entry n new i r ≡ entry n e (swap c j i) r
 exchanged-each n c j e new w i =

@@ -17,7 +17,6 @@ use Rattle.codeword.specs.Unit.{unit-same, unit-other}
 use Rattle.code.specs.Rows.{Added, Exchanged, Turned, only, swap, by-swap, swap-row, cancel-first, same-or-not, turned-stays, turned-kept, added-turned, exchanged-each, exchanged-kept}
 use Rattle.code.specs.Lost.{Lost}
 use Rattle.code.specs.Own.{columns-same}
-use Rattle.code.specs.Spare.{Spare, spare-first, spare-exchanged, spare-turned, spare-less}
 
 -- a table that is solved for the list's first c shards
 pub record SolvedTo (k m c : ℕ) (lost e : List ℕ) : Type 0 where
@@ -25,20 +24,14 @@ pub record SolvedTo (k m c : ℕ) (lost e : List ℕ) : Type 0 where
   pub same : Equivalent k m e
   pub units : (i : ℕ) → i < c → (j : ℕ) → j < m → entry (k + m) e j (getD lost i 0) ≡ unit j i
 
--- what holds after c steps
-pub record Reached (k m c : ℕ) (lost e : List ℕ) : Type 0 where
-  pub solved : SolvedTo k m c lost e
-  pub spare : Spare k m c e
-
 -- the multiple of row c that makes row j's entry at column a that of row c's unit column
 abbrev pub clearing : ℕ → ℕ → ℕ → List ℕ → ℕ → ℕ
 clearing n c a e j = bitXor (entry n e j a) (unit j c)
 
 -- ---- before the first step, and after the last
 
-pub reached-first : (k m : ℕ) (lost e : List ℕ) → length e ≡ m * (k + m) → Columns k m e → Reached k m 0 lost e
-reached-first k m lost e s w =
-    record { solved = record { size = s; same = columns-same k m e w; units = λ i h. absurd (omega arith) }; spare = spare-first k m e w }
+pub solved-none : (k m : ℕ) (lost e : List ℕ) → length e ≡ m * (k + m) → Columns k m e → SolvedTo k m 0 lost e
+solved-none k m lost e s w = record { size = s; same = columns-same k m e w; units = λ i h. absurd (omega arith) }
 
 pub solved-last : (k m c : ℕ) (lost e : List ℕ) → SolvedTo k m c lost e → length lost ≤ c → SolvedFor k m lost e
 solved-last k m c lost e t h = record { same = t .same; units = λ i l. t .units i (omega arith) }
@@ -63,21 +56,17 @@ unit-byte j c =
 
 module _ (k m c : ℕ) (lost : List ℕ) (s : Lost k m lost) (h : c < length lost) where
   -- rows from c on may change places: they are 0 at the columns that are solved
-  pub exchanged-reached : (j : ℕ) (e new : List ℕ) → Reached k m c lost e → c ≤ j → j < m → Exchanged (k + m) c j e new → Reached k m c lost new
-  exchanged-reached j e new t le l w =
+  pub exchanged-solved : (j : ℕ) (e new : List ℕ) → SolvedTo k m c lost e → c ≤ j → j < m → Exchanged (k + m) c j e new → SolvedTo k m c lost new
+  exchanged-solved j e new t le l w =
       record {
-        solved =
-            record {
-              size = w .same ∙ t .solved .size;
-              same = exchanged-kept k m c j e new w (omega (arith, s .few)) l (t .solved .same);
-              units =
-                  λ i q r p.
-                  exchanged-each (k + m) c j e new w r (getD lost i 0) (s .shards i (omega arith))
-                  ∙ t .solved .units i q (swap c j r) (swap-row m c j (omega (arith, s .few)) l r p)
-                  ∙ by-swap c j (λ r s. unit s i ≡ unit r i) (later i j q le ∙ sym (later i c q (omega arith)))
-                  (later i c q (omega arith) ∙ sym (later i j q le)) (λ r a b. refl) r;
-            };
-        spare = spare-exchanged k m c j e new w le l (t .spare);
+        size = w .same ∙ t .size;
+        same = exchanged-kept k m c j e new w (omega (arith, s .few)) l (t .same);
+        units =
+            λ i q r p.
+            exchanged-each (k + m) c j e new w r (getD lost i 0) (s .shards i (omega arith))
+            ∙ t .units i q (swap c j r) (swap-row m c j (omega (arith, s .few)) l r p)
+            ∙ by-swap c j (λ r s. unit s i ≡ unit r i) (later i j q le ∙ sym (later i c q (omega arith)))
+            (later i c q (omega arith) ∙ sym (later i j q le)) (λ r a b. refl) r;
       }
     where
       later : (i r : ℕ) → i < c → c ≤ r → unit r i ≡ 0
@@ -127,17 +116,11 @@ module _ (k m c : ℕ) (lost : List ℕ) (s : Lost k m lost) (h : c < length los
           (bytes .mul-one (bitXor x (unit j c)) (bytes .add-byte x (unit j c) (b (j * (k + m) + getD lost c 0)) (unit-byte j c)) ∙ bytes .add-comm x (unit j c))
           ∙ cancel-first x (unit j c)
 
-  pub step-reached : (q : ℕ) (e next new : List ℕ) → Reached k m c lost e → q < 256 → entry (k + m) e c (getD lost c 0) < 256
+  pub step-solved : (q : ℕ) (e next new : List ℕ) → SolvedTo k m c lost e → q < 256 → entry (k + m) e c (getD lost c 0) < 256
       → mulOf (entry (k + m) e c (getD lost c 0)) q ≡ bitXor 1 (entry (k + m) e c (getD lost c 0)) → Added (k + m) c c q e next
-      → ((p : ℕ) → getD next p 0 < 256) → Turned m (k + m) c (clearing (k + m) c (getD lost c 0) next) next new → Reached k m (c + 1) lost new
-  step-reached q e next new t b bx f w bn u =
+      → ((p : ℕ) → getD next p 0 < 256) → Turned m (k + m) c (clearing (k + m) c (getD lost c 0) next) next new → SolvedTo k m (c + 1) lost new
+  step-solved q e next new t b bx f w bn u =
       let a : ℕ = getD lost c 0 in
-      record {
-        solved =
-            cleared-solved next new
-            (scaled-solved q e next (t .solved) b (scaled-not-one (entry (k + m) e c a) q bx f) w) bn
-            (scaled-one (k + m) c a q e next (s .shards c h) f w) u;
-        spare =
-            spare-turned k m c (clearing (k + m) c a next) next new u (omega (arith, s .few))
-            (spare-turned k m c (only c q) e next (added-turned m (k + m) c c q e next w) (omega (arith, s .few)) (spare-less k m c e (t .spare)));
-      }
+      cleared-solved next new
+      (scaled-solved q e next t b (scaled-not-one (entry (k + m) e c a) q bx f) w) bn
+      (scaled-one (k + m) c a q e next (s .shards c h) f w) u

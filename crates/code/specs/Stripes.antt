@@ -1,9 +1,8 @@
 -- What encode, rebuild, scrub and repair do to a stripe, in the words of document 01, sections 2 to 4. Assumes nothing.
 use mathlib.Core.Path.{_≡_}
-use mathlib.Core.Bool.{Bool, true, false}
+use mathlib.Core.Bool.{true, false}
 use mathlib.Core.List.{List, [], _∷_}
-use mathlib.Core.Logic.{_≢_}
-use Prim.Native.Nat.{ℕ, _+_, _*_, _≤_, _<_}
+use Prim.Native.Nat.{ℕ, _+_, _≤_, _<_}
 use lib.ListN.{length, getD}
 use Rattle.field.specs.declared.Answer.{Answer}
 use Rattle.field.specs.declared.Answer.the-variants.{Done, Refused}
@@ -12,6 +11,7 @@ use Rattle.field.specs.declared.Refusal.the-variants.{BadShape}
 use Rattle.codeword.specs.Stripe.{byteAt, Holds, Sound, has, AgreeOff, Agree}
 use Rattle.codeword.specs.Unique.{AllBytes}
 use Rattle.codeword.specs.Mend.{put}
+use Rattle.code.specs.Padded.{padded}
 use Rattle.code.specs.Shape.{shapedOf, encodeAnswer, rebuildAnswer}
 use Rattle.code.specs.declared.Verdict.{Verdict}
 use Rattle.code.specs.declared.Verdict.the-variants as verdict
@@ -24,17 +24,14 @@ pub record Encoded (k m len : ℕ) (answer : Answer) (before after : List ℕ) :
   pub kept : answer ≡ Done → (r : ℕ) → r < k → (p : ℕ) → p < len → byteAt len after p r ≡ byteAt len before p r
   pub sound : answer ≡ Done → Sound k m len after
 
--- rebuild, where the survivors contradict each other: it goes by k of them, the surviving data shards and as many surviving parity
--- shards as are wanted. The others, `spare j`, it doesn't look at: a sound stripe that has the k shards has the shards filled in
+-- rebuild, where survivors contradict each other: it goes by the k least of them. There is a sound stripe that has these k, and the
+-- shards filled in are its shards (only one stripe is that: specs/Least.antt)
 pub record GoesBy (k m len : ℕ) (missing before after : List ℕ) : Type 0 where
-  pub spare : ℕ → ℕ
-  pub parity : (j : ℕ) → length missing ≤ j → j < m → (k ≤ spare j) × (spare j < k + m)
-  pub distinct : (i j : ℕ) → length missing ≤ i → i < m → length missing ≤ j → j < m → spare i ≡ spare j → i ≡ j
-  pub survives : (j : ℕ) → length missing ≤ j → j < m → (c : ℕ) → c < length missing → spare j ≢ getD missing c 0
-  pub fixed : (o : List ℕ) → AllBytes o → Sound k m len o
-      → ((r : ℕ) → r < k + m → has missing r ≡ false → ((j : ℕ) → length missing ≤ j → j < m → r ≢ spare j) → (p : ℕ) → p < len
-      → byteAt len before p r ≡ byteAt len o p r)
-      → (c : ℕ) → c < length missing → (p : ℕ) → p < len → byteAt len after p (getD missing c 0) ≡ byteAt len o p (getD missing c 0)
+  pub stripe : List ℕ
+  pub bytes : AllBytes stripe
+  pub sound : Sound k m len stripe
+  pub agrees : AgreeOff (k + m) len (padded k m missing) before stripe
+  pub filled : (c : ℕ) → c < length missing → (p : ℕ) → p < len → byteAt len after p (getD missing c 0) ≡ byteAt len stripe p (getD missing c 0)
 
 -- rebuild: the survivors stay, and every sound stripe that has these survivors is the result. With m missing the result is sound,
 -- whatever the survivors are

@@ -11,6 +11,8 @@ ghost use Rattle.codeword.specs.Stripe.{InRange, has, byteAt};
 ghost use Rattle.codeword.specs.Table.{SolvedFor};
 ghost use Rattle.code.specs.Shape.{shapedOf, shardsOf, Shaped};
 ghost use Rattle.code.specs.Lost.{Lost};
+ghost use Rattle.code.specs.Padded.{padded};
+ghost use Rattle.code.specs.PadTurns.{Copied};
 ghost use Rattle.code.specs.Blame.{RowsZero, Blamed, Located, Judged, Filled};
 ghost use Rattle.code.specs.Stripes.{Encoded, Rebuilt, Accuses, Says, Mends, Repaired};
 
@@ -167,12 +169,51 @@ pub fn scrub(k: usize, m: usize, len: usize, stripe: &[u8]) -> Verdict
     scrub_with(k, m, len, stripe, &mut table[..size])
 }
 
-// Fills the lost shards in from the others, with a table to work in.
-fn fill_with(k: usize, m: usize, len: usize, lost: &[u8], stripe: &mut [u8], table: &mut [u8])
-    requires { ⌜ Shaped k m len (length (now stripe)) × Lost k m (now lost) × (length (now table) ≡ m * (k + m)) ⌝ }
+// Copies a list to the beginning of another, which is no shorter.
+fn copy(from: &[u8], to: &mut [u8])
+    requires { ⌜ length (now from) ≤ length (now to) ⌝ }
+    ensures { λ r. ⌜ Copied (now (from .entry)) (now (to .entry)) (now (to .exit)) ⌝ }
+{
+    let mut i = 0;
+    while i < from.len() {
+        to[i] = from[i];
+        i += 1;
+    }
+}
+
+// Writes to `all` the lost shards, and after them the others from the greatest down, as many as there is room for.
+fn pad(k: usize, m: usize, lost: &[u8], all: &mut [u8])
+    requires { ⌜ InRange k m × Lost k m (now lost) × (length (now all) ≡ m) ⌝ }
+    ensures { λ r. ⌜ now (all .exit) ≡ padded k m (now (lost .entry)) ⌝ }
+{
+    let n = k + m;
+    copy(lost, all);
+    let mut c = lost.len();
+    let mut i = 1;
+    while c < m {
+        let a = (n - i) as u8;
+        if !named(lost, 0, a) {
+            all[c] = a;
+            c += 1;
+        }
+        i += 1;
+    }
+}
+
+// Fills the lost shards in from those that are not in `all`, with a table to work in.
+fn fill_with(
+    k: usize,
+    m: usize,
+    len: usize,
+    lost: &[u8],
+    all: &[u8],
+    stripe: &mut [u8],
+    table: &mut [u8],
+)
+    requires { ⌜ Shaped k m len (length (now stripe)) × Lost k m (now lost) × (now all ≡ padded k m (now lost)) × (length (now table) ≡ m * (k + m)) ⌝ }
     ensures { λ r. ⌜ Filled k m len (now (lost .entry)) (now (stripe .entry)) (now (stripe .exit)) ⌝ }
 {
-    solve::solve(k, m, lost, table);
+    solve::solve(k, m, all, table);
     let mut c = 0;
     while c < lost.len() {
         let a = lost[c];
@@ -181,14 +222,16 @@ fn fill_with(k: usize, m: usize, len: usize, lost: &[u8], stripe: &mut [u8], tab
     }
 }
 
-// Fills the lost shards in from the others.
+// Fills the lost shards in from the k least of the others.
 fn fill_in(k: usize, m: usize, len: usize, lost: &[u8], stripe: &mut [u8])
     requires { ⌜ Shaped k m len (length (now stripe)) × Lost k m (now lost) ⌝ }
     ensures { λ r. ⌜ Filled k m len (now (lost .entry)) (now (stripe .entry)) (now (stripe .exit)) ⌝ }
 {
     let size = m * (k + m);
+    let mut all = [0u8; M_MOST];
     let mut table = [0u8; TABLE];
-    fill_with(k, m, len, lost, stripe, &mut table[..size]);
+    pad(k, m, lost, &mut all[..m]);
+    fill_with(k, m, len, lost, &all[..m], stripe, &mut table[..size]);
 }
 
 // Gives an accused shard the content that makes the stripe sound.

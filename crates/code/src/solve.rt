@@ -10,8 +10,7 @@ ghost use Rattle.codeword.specs.Table.{unit, column, entry, Columns, SolvedFor}
 ghost use Rattle.code.specs.Rows.{Added, Exchanged, Turned};
 ghost use Rattle.code.specs.Lost.{Lost};
 ghost use Rattle.code.specs.Pivot.{Pivot};
-ghost use Rattle.code.specs.Spare.{Unread};
-ghost use Rattle.code.specs.Solving.{Reached, clearing};
+ghost use Rattle.code.specs.Solving.{SolvedTo, clearing};
 
 // The coefficient of data shard i in parity shard j, of m.
 pub(crate) fn coefficient(m: usize, j: usize, i: usize) -> u8
@@ -133,8 +132,8 @@ fn lead(k: usize, m: usize, lost: &[u8], c: usize, e: &mut [u8])
     requires { ⌜ InRange k m ⌝ }
     requires { ⌜ Lost k m (now lost) ⌝ }
     requires { ⌜ c < length (now lost) ⌝ }
-    requires { ⌜ Reached k m c (now lost) (now e) ⌝ }
-    ensures { λ r. ⌜ Reached k m c (now (lost .entry)) (now (e .exit)) ⌝ }
+    requires { ⌜ SolvedTo k m c (now lost) (now e) ⌝ }
+    ensures { λ r. ⌜ SolvedTo k m c (now (lost .entry)) (now (e .exit)) ⌝ }
     ensures { λ r. ⌜ entry (k + m) (now (e .exit)) c (getD (now (lost .entry)) c 0) ≢ 0 ⌝ }
 {
     let n = k + m;
@@ -149,8 +148,8 @@ fn step(k: usize, m: usize, lost: &[u8], c: usize, e: &mut [u8])
     requires { ⌜ InRange k m ⌝ }
     requires { ⌜ Lost k m (now lost) ⌝ }
     requires { ⌜ c < length (now lost) ⌝ }
-    requires { ⌜ Reached k m c (now lost) (now e) ⌝ }
-    ensures { λ r. ⌜ Reached k m (c + 1) (now (lost .entry)) (now (e .exit)) ⌝ }
+    requires { ⌜ SolvedTo k m c (now lost) (now e) ⌝ }
+    ensures { λ r. ⌜ SolvedTo k m (c + 1) (now (lost .entry)) (now (e .exit)) ⌝ }
 {
     lead(k, m, lost, c, e);
     let n = k + m;
@@ -160,13 +159,12 @@ fn step(k: usize, m: usize, lost: &[u8], c: usize, e: &mut [u8])
     clear_column(e, n, m, c, a);
 }
 
-// Writes the code's table, solved for the shards of the list: row c gives shard c of the list from k shards that are not in it.
+// Writes the code's table, solved for the shards of the list: row c gives shard c of the list from shards that are not in it.
 pub(crate) fn eliminate(k: usize, m: usize, lost: &[u8], e: &mut [u8])
     requires { ⌜ InRange k m ⌝ }
     requires { ⌜ Lost k m (now lost) ⌝ }
     requires { ⌜ length (now e) ≡ m * (k + m) ⌝ }
-    ensures solved { λ r. ⌜ SolvedFor k m (now (lost .entry)) (now (e .exit)) ⌝ }
-    ensures unread { λ r. ⌜ Unread k m (now (lost .entry)) (now (e .exit)) ⌝ }
+    ensures { λ r. ⌜ SolvedFor k m (now (lost .entry)) (now (e .exit)) ⌝ }
 {
     fill(k, m, e);
     let mut c = 0;
@@ -179,8 +177,7 @@ pub(crate) fn eliminate(k: usize, m: usize, lost: &[u8], e: &mut [u8])
 // The same, with what it keeps.
 pub(crate) fn solve(k: usize, m: usize, lost: &[u8], e: &mut [u8])
     requires { ⌜ InRange k m × Lost k m (now lost) × (length (now e) ≡ m * (k + m)) ⌝ }
-    ensures { λ r. ⌜ SolvedFor k m (now (lost .entry)) (now (e .exit)) × (length (now (e .exit)) ≡ length (now (e .entry)))
-        × Unread k m (now (lost .entry)) (now (e .exit)) ⌝ }
+    ensures { λ r. ⌜ SolvedFor k m (now (lost .entry)) (now (e .exit)) × (length (now (e .exit)) ≡ length (now (e .entry))) ⌝ }
 {
     eliminate(k, m, lost, e);
 }

@@ -6,7 +6,7 @@ use mathlib.Core.Logic.{⊎-elim}
 use mathlib.Core.List.{List, [], _∷_}
 use mathlib.Core.Bool.{Bool, true, false, cond, not, _&&_}
 use Prim.Native.Nat.{ℕ, suc, _+_, _≤_, _<_, _%_, _^_}
-use native.Mathlib.Nat.{mod-lt, eq-or-lt-of-le}
+use native.Mathlib.Nat.{eq-or-lt-of-le}
 use native.Mathlib.Omega.{arith}
 use lib.Dec.{eqb, ltb, leb}
 use borrow.Author.Tests.{eqb-true, eqb-false, eq-eqb, ne-eqb, leb-true, le-leb, ltb-true, lt-ltb}
@@ -15,7 +15,7 @@ use Rattle.crc32c.specs.Crc.{crcOf}
 use Rattle.disk.specs.Limits.{mostK, mostM}
 use Rattle.disk.specs.Number.{bytesOf}
 use Rattle.disk.specs.Image.{lt-or-ge}
-use Rattle.disk.specs.Mask.{inMask, in-past}
+use Rattle.disk.specs.Mask.{inMask, in-past, maskOf, mask-lt, mask-below, mask-past}
 use Rattle.disk.specs.Geometry.{inRangeWith, stripesOf}
 use Rattle.disk.specs.declared.geometry.Geometry.{Geometry}
 use Rattle.label.specs.Fields.{noSlot, mostGeneration, geometryOf, rebuildFits, fitsOf}
@@ -31,8 +31,7 @@ use Rattle.label.proofs.Laws.{decode-encode, zeros-nothing, Meant, decode-says}
 use Rattle.protocol.specs.Label.{Label, LabelCodec}
 use Rattle.protocol.specs.Program.{Proper}
 use Rattle.codecs.specs.Sector.{Sector, Bytes, zeros, bytes-none, bytes-append, bytes-number}
-use Rattle.codecs.specs.Masks.{maskOf, mask-lt, mask-below, mask-past}
-use Rattle.codecs.specs.Shelf.{Shelf, slots, geometry, size, few-data, few-parity, some-slots, few-slots}
+use Rattle.codecs.specs.Shelf.{Shelf, slots, geometry, size, few-data, few-parity, few-slots}
 
 -- sector 1 for an odd generation, sector 0 for an even one
 abbrev pub sideOf : ℕ → Bool
@@ -50,13 +49,13 @@ slotByte n r = cond (eqb r n) noSlot r
 abbrev pub slotMeant : ℕ → ℕ → ℕ
 slotMeant n r = cond (eqb r noSlot) n r
 
--- the row of numbers that the sector tells. (Slots from n on do not occur: each is taken as one below n, so that the codec is total.)
+-- the row of numbers that the sector tells
 abbrev pub fieldsOf : Shelf → ℕ → Label → bytes.Label
 fieldsOf z d l =
     record {
       k = z .k;
       m = z .m;
-      slot = d % slots z;
+      slot = d;
       c = z .c;
       sectors = z .sectors;
       shelf = z .number;
@@ -96,12 +95,11 @@ meant z Nothing = noLabel z
 meant z (Valid a) = cond (ours z a) (labelOf z a) (noLabel z)
 
 unfoldable pub decodeLabel : Shelf → ℕ → Bool → Sector → Label
-decodeLabel z d b x = meant z (decodeOf (x .bytes) (d % slots z) (sectorOf b))
+decodeLabel z d b x = meant z (decodeOf (x .bytes) d (sectorOf b))
 
--- ---- what a label has to be for its bytes to tell it: proper, with no mark where none is being rebuilt, and of a generation from 1 to 2^63 - 1
+-- ---- what a label has to be for its bytes to tell it: proper, and of a generation from 1 to 2^63 - 1
 pub record Fitting (z : Shelf) (l : Label) : Type 0 where
   pub sound : Proper (size z) l
-  pub unmarked : l .rebuilding ≡ slots z → l .mark ≡ 0
   pub from-one : 1 ≤ l .generation
   pub not-last : l .generation ≤ mostGeneration
 
@@ -130,14 +128,14 @@ module _ (z : Shelf) where
   pub record Told (d : ℕ) (b : Bool) (x : Sector) : Type 0 where
     pub fields : bytes.Label
     pub same : ours z fields ≡ true
-    pub means : Meant (x .bytes) (d % slots z) (sectorOf b) fields
+    pub means : Meant (x .bytes) d (sectorOf b) fields
     pub is : decodeLabel z d b x ≡ labelOf z fields
 
   told : (d : ℕ) (b : Bool) (x : Sector) → 0 < decodeLabel z d b x .generation → Told d b x
   unfolding decodeLabel
-  told d b x = by (decodeOf (x .bytes) (d % slots z) (sectorOf b)) refl
+  told d b x = by (decodeOf (x .bytes) d (sectorOf b)) refl
     where
-      by : (r : Decoded) → decodeOf (x .bytes) (d % slots z) (sectorOf b) ≡ r → 0 < meant z r .generation → Told d b x
+      by : (r : Decoded) → decodeOf (x .bytes) d (sectorOf b) ≡ r → 0 < meant z r .generation → Told d b x
       by Nothing e p = absurd (omega arith)
       by (Valid a) e p = go (ours z a) refl p
         where
@@ -146,7 +144,7 @@ module _ (z : Shelf) where
               record {
                 fields = a;
                 same = q;
-                means = decode-says (x .bytes) (d % slots z) (sectorOf b) a e;
+                means = decode-says (x .bytes) d (sectorOf b) a e;
                 is = ap (meant z) e ∙ ap (λ (s : Bool). cond s (labelOf z a) (noLabel z)) q;
               }
           go false q p = absurd (omega arith)
@@ -158,7 +156,7 @@ module _ (z : Shelf) where
 
   pub decode-zeros : (d : ℕ) (b : Bool) → decodeLabel z d b zeros .generation ≡ 0
   unfolding decodeLabel
-  decode-zeros d b = ap (λ (r : Decoded). meant z r .generation) (zeros-nothing (d % slots z) (sectorOf b))
+  decode-zeros d b = ap (λ (r : Decoded). meant z r .generation) (zeros-nothing d (sectorOf b))
 
   -- a label of this shelf has its n and T
   shelf-same : (a : bytes.Label) → ours z a ≡ true → geometryOf a ≡ geometry z
@@ -225,8 +223,8 @@ module _ (z : Shelf) where
       slot-or-none = r .low;
       also-out = r .also;
       mark-T = r .most;
+      unmarked = r .none;
     };
-    unmarked = r .none;
     from-one = f .from-one;
     not-last = f .not-last;
   })
@@ -280,7 +278,7 @@ module _ (z : Shelf) where
 
       by : (b : Bool) → eqb r (slots z) ≡ b
           → cond (eqb (cond b noSlot r) noSlot) (eqb (l .mark) 0) (ltb (cond b noSlot r) (slots z) && (inMask M (cond b noSlot r) && leb (l .mark) T)) ≡ true
-      by true e = eq-eqb (l .mark) 0 (f .unmarked (eqb-true r (slots z) e))
+      by true e = eq-eqb (l .mark) 0 (f .sound .unmarked (eqb-true r (slots z) e))
       by false e =
           let other : r ≡ slots z → ⊥ = eqb-false r (slots z) e in
           let below : r < slots z = ⊎-elim (λ (q : r ≡ slots z). absurd (other q)) (λ (q : r < slots z). q) (eq-or-lt-of-le (f .sound .slot-or-none)) in
@@ -288,13 +286,13 @@ module _ (z : Shelf) where
           ∙ both (ltb r (slots z)) _ (lt-ltb r (slots z) below)
           (both (inMask M r) _ (mask-below (l .out) (slots z) r below ∙ f .sound .also-out below) (le-leb (l .mark) T (f .sound .mark-T)))
 
-  fields-fit : (d : ℕ) (l : Label) → Fitting z l → fitsOf (fieldsOf z d l) ≡ true
+  fields-fit : (d : ℕ) (l : Label) → d < slots z → Fitting z l → fitsOf (fieldsOf z d l) ≡ true
   unfolding fitsOf
-  fields-fit d l f =
+  fields-fit d l i f =
       both (leb (z .k) mostK) _ (le-leb (z .k) mostK (few-data z))
       (both (leb (z .m) mostM) _ (le-leb (z .m) mostM (few-parity z))
       (both (inRangeWith (geometry z) (z .k)) _ (z .range)
-      (both (ltb (d % slots z) (slots z)) _ (lt-ltb (d % slots z) (slots z) (mod-lt d (some-slots z)))
+      (both (ltb d (slots z)) _ (lt-ltb d (slots z) i)
       (both (leb 1 (l .generation)) _ (le-leb 1 (l .generation) (f .from-one))
       (both (leb (l .generation) mostGeneration) _ (le-leb (l .generation) mostGeneration (f .not-last))
       (both (ltb (maskOf (l .out) (slots z)) (2 ^ slots z)) _ (lt-ltb (maskOf (l .out) (slots z)) (2 ^ slots z) (mask-lt (l .out) (slots z))) (rebuild-fits d l f)))))))
@@ -307,17 +305,17 @@ module _ (z : Shelf) where
       (both (eqb (z .c) (z .c)) _ (eq-eqb (z .c) (z .c) refl)
       (both (eqb (z .sectors) (z .sectors)) _ (eq-eqb (z .sectors) (z .sectors) refl) (eq-eqb (z .number) (z .number) refl))))
 
-  pub encode-back : (d : ℕ) (l : Label) → Fitting z l → decodeLabel z d (sideOf (l .generation)) (encodeLabel z d l) ≡ l
+  pub encode-back : (d : ℕ) (l : Label) → d < slots z → Fitting z l → decodeLabel z d (sideOf (l .generation)) (encodeLabel z d l) ≡ l
   unfolding decodeLabel encodeLabel
-  encode-back d l f =
+  encode-back d l i f =
       let a : bytes.Label = fieldsOf z d l in
-      ap (λ (s : ℕ). meant z (decodeOf (sealed a) (d % slots z) s)) (sector-side (l .generation))
-      ∙ ap (meant z) (decode-encode a (fields-fit d l f) (z .number-fits))
+      ap (λ (s : ℕ). meant z (decodeOf (sealed a) d s)) (sector-side (l .generation))
+      ∙ ap (meant z) (decode-encode a (fields-fit d l i f) (z .number-fits))
       ∙ ap (λ (b : Bool). cond b (labelOf z a) (noLabel z)) (own-shelf d l)
       ∙ label-back d l f
 
 -- the codec of this shelf's labels
-abbrev pub labels : Shelf → LabelCodec Sector
+abbrev pub labels : (z : Shelf) → LabelCodec Sector (slots z)
 labels z =
     record {
       Fits = Fitting z;

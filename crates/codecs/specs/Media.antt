@@ -1,5 +1,6 @@
 -- What the protocol asks of its medium beyond the two codecs, as far as it is about bytes: which labels and records fit,
--- which stamps belong to an epoch, and what zeros are. Assumes nothing.
+-- which stamps belong to an epoch, and what zeros are; and so the medium as a whole, for every code that makes zeros of zeros.
+-- Assumes nothing.
 use mathlib.Core.Path.{_≡_, refl, ap, ap₂, _∙_}
 use mathlib.Core.Bool.{Bool, true}
 use mathlib.Core.List.{List, [], _∷_}
@@ -13,8 +14,9 @@ use Rattle.disk.specs.Tests.{and-left, and-right}
 use Rattle.label.specs.Fields.{mostGeneration}
 use Rattle.label.specs.Bytes.{allZero}
 use Rattle.protocol.specs.Log.{Write}
-use Rattle.protocol.specs.Label.{Label}
-use Rattle.protocol.specs.Program.{Stamps, Proper}
+use Rattle.protocol.specs.Label.{Label, Quorum}
+use Rattle.protocol.specs.Host.{Code}
+use Rattle.protocol.specs.Program.{Stamps, Proper, Medium}
 use Rattle.codecs.specs.Sector.{Sector, zeros, sector-path}
 use Rattle.codecs.specs.Shelf.{Shelf, slots, size}
 use Rattle.codecs.specs.Labels.{labels}
@@ -25,9 +27,9 @@ abbrev pub stamps : Stamps
 stamps = record { base = λ e. e * counts; rises = λ e. omega (arith, suc-mul e counts); grows = λ e g l. mul-le-mul-right counts l }
 
 module _ (z : Shelf) where
-  -- a proper label fits, if it has no mark where no slot is being rebuilt
-  pub label-fits : (l : Label) → Proper (size z) l → (l .rebuilding ≡ slots z → l .mark ≡ 0) → 0 < l .generation → l .generation ≤ mostGeneration → labels z .Fits l
-  label-fits l p u a b = record { sound = p; unmarked = u; from-one = a; not-last = b }
+  -- every proper label fits
+  pub label-fits : (l : Label) → Proper (size z) l → 0 < l .generation → l .generation ≤ mostGeneration → labels z .Fits l
+  label-fits l p a b = record { sound = p; from-one = a; not-last = b }
 
   pub is-proper : (l : Label) → labels z .Fits l → Proper (size z) l × (l .generation ≤ mostGeneration)
   is-proper l f = (f .sound, f .not-last)
@@ -58,3 +60,22 @@ zeros-of x e = sector-path x zeros (all-zero (x .bytes) e ∙ ap (λ (n : ℕ). 
 pub zeros-are : isZeros zeros ≡ true
 unfolding isZeros allZero
 zeros-are = refl
+
+-- ---- the medium
+
+-- the sectors of every shelf hold what the protocol asks for, with any code that makes shards of zeros from blocks of zeros
+unfoldable pub medium : (z : Shelf) (W : Quorum (slots z)) (E : Code Sector (slots z) (z .c) W) → ((t d j : ℕ) → d < slots z → j < z .c → E .shard t (λ i l. zeros) d j ≡ zeros)
+    → Medium (size z) W (labels z) (records z) E stamps
+medium z W E h =
+    record {
+      greatest = mostGeneration;
+      fits = label-fits z;
+      is-proper = is-proper z;
+      fits-record = record-fits z;
+      is-zeros = isZeros;
+      zeros-of = zeros-of;
+      zeros-are = zeros-are;
+      same-zeros = same-zeros z;
+      zeros-label = zeros-label z;
+      zeros-shard = h;
+    }

@@ -67,6 +67,6 @@ module _ (z : Shelf) where
   strips-fit = and-left (stripLength (z .c)) _ (and-right (leb (slots z) mostN) _ (and-right (leb leastN (slots z)) _ in-limits))
 
 -- there are such shelves: the least one has two data disks, one for parity, and one strip of one sector
-pub least : Shelf
+unfoldable pub least : Shelf
 unfolding inRangeWith inRange stripLength splits
 least = record { k = 2; m = 1; c = 1; sectors = 67; number = 0; range = refl; number-fits = lit< tt }

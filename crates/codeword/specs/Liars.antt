@@ -6,13 +6,17 @@ use mathlib.Core.List.{List, [], _∷_}
 use mathlib.Core.Logic.{_≢_}
 use Prim.Native.Nat.{ℕ, zero, suc, _+_, _*_, _≤_, _<_}
 use native.Mathlib.Omega.{arith}
-use lib.Dec.{eqb}
+use lib.Dec.{eqb, lit<}
 use lib.ListN.{length, set}
 use lib.Seq.{getD-set-other}
+use lib.Bits.{bitXor}
 use borrow.Author.Tests.{eqb-true, eqb-false, eq-eqb, ne-eqb}
 use Rattle.field.specs.Field.{mulOf, powerOf}
-use Rattle.codeword.specs.Sum.{total, total-ext}
-use Rattle.codeword.specs.Stripe.{InRange, coef, byteAt, Sound, has, AgreeOff, Agree}
+use Rattle.field.specs.Bytes.{bytes}
+use Rattle.field.specs.Vectors.{power-bit, g-times-7b, g3-times-7a}
+use Rattle.codeword.specs.Sum.{total-ext, total-four}
+use Rattle.codeword.specs.Stripe.{InRange, coef, parityOf, byteAt, Sound, has, AgreeOff, Agree}
+use Rattle.codeword.specs.Unit.{one-times}
 use Rattle.codeword.specs.Unique.{AllBytes, determined}
 
 -- s and t differ somewhere in shard r
@@ -95,11 +99,29 @@ module _ (k m len : ℕ) (range : InRange k m) where
 abbrev pub found : List ℕ
 found = 0x01 ∷ 0x7b ∷ 0 ∷ 0 ∷ 0 ∷ 0 ∷ []
 
+-- g^0 times a byte is the byte
+plain : (a : ℕ) → a < 256 → mulOf (powerOf 0) a ≡ a
+plain a h = ap (λ (c : ℕ). mulOf c a) (bytes .power-zero) ∙ one-times a h
+
+-- the sums of its two rows with d for shard 3: the syndromes 0x7a and 0xf7, and what d adds to them
+pub first-sum : (d : ℕ) → d < 256 → parityOf 4 2 0 (byteAt 1 (set found 3 d) 0) ≡ bitXor 0x7a d
+unfolding coef
+first-sum d h =
+    total-four (λ i. mulOf (coef 2 0 i) (byteAt 1 (set found 3 d) 0 i)) (plain 0x01 (lit< tt)) (plain 0x7b (lit< tt)) (plain 0 (lit< tt)) (plain d h)
+
+second-sum : (d : ℕ) → parityOf 4 2 1 (byteAt 1 (set found 3 d) 0) ≡ bitXor 0xf7 (mulOf 8 d)
+unfolding coef
+second-sum d =
+    total-four (λ i. mulOf (coef 2 1 i) (byteAt 1 (set found 3 d) 0 i))
+    (plain 0x01 (lit< tt))
+    (ap (λ (c : ℕ). mulOf c 0x7b) (bytes .power-one) ∙ g-times-7b)
+    (bytes .mul-zero (powerOf 2))
+    (ap (λ (c : ℕ). mulOf c d) (power-bit 3 (lit< tt)))
+
 pub third-accused : Sound 4 2 1 (set found 3 0x7a)
-unfolding coef total mulOf powerOf
 third-accused (suc p) l j h = absurd (omega arith)
-third-accused zero l zero h = refl
-third-accused zero l (suc zero) h = refl
+third-accused zero l zero h = sym (first-sum 0x7a (lit< tt))
+third-accused zero l (suc zero) h = sym (second-sum 0x7a ∙ ap (bitXor 0xf7) g3-times-7a)
 third-accused zero l (suc (suc j)) h = absurd (omega arith)
 
 pub third-alone : AgreeOff 6 1 (3 ∷ []) found (set found 3 0x7a)

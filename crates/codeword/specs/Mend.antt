@@ -3,8 +3,8 @@
 use mathlib.Core.Path.{_≡_, refl, sym, ap, ap₂, _∙_, subst}
 use mathlib.Core.Bool.{Bool, true, false, cond}
 use mathlib.Core.List.{List, [], _∷_}
-use mathlib.Core.Logic.{_≢_, _⊎_, inl, inr, ⊎-elim}
-use Prim.Native.Nat.{ℕ, zero, suc, _+_, _*_, _≤_, _<_}
+use mathlib.Core.Logic.{_≢_, _⊎_, inl, inr}
+use Prim.Native.Nat.{ℕ, _+_, _≤_, _<_}
 use native.Mathlib.Nat.{eq-zero-or-pos}
 use native.Mathlib.Omega.{arith}
 use lib.Dec.{lit<, eqb}
@@ -16,7 +16,7 @@ use Rattle.field.specs.Bytes.{bytes}
 use Rattle.codeword.specs.Sum.{total, total-ext, total-byte, except, except-byte, except-ext, total-except}
 use Rattle.codeword.specs.Stripe.{Holds, Bytes}
 use Rattle.codeword.specs.Unit.{one-times, zero-times, sum-zero, unit-same, unit-other}
-use Rattle.codeword.specs.Table.{unit, entry, rowSum, AllZero, Equivalent, SolvedFor}
+use Rattle.codeword.specs.Table.{entry, rowSum, SolvedFor}
 
 -- x with v for shard a
 unfoldable pub put : ℕ → ℕ → (ℕ → ℕ) → ℕ → ℕ
@@ -90,13 +90,14 @@ module _ (k m : ℕ) (lost e : List ℕ) (s : SolvedFor k m lost e) where
       ∙ ap₂ bitXor (by-zero (entry (k + m) e j a) (put a v x a) z ∙ sym (by-zero (entry (k + m) e j a) (x a) z)) (others-put (k + m) e j a v x)
       ∙ sym (row-is (k + m) e j a x ha)
 
-  pub row-gives : (c : ℕ) (x : ℕ → ℕ) → c < length lost → c < m → getD lost c 0 < k + m → Bytes x → Holds k m x
-      → x (getD lost c 0) ≡ others (k + m) e c (getD lost c 0) x
-  row-gives c x hc hm ha b h =
+  -- the shard is the row's sum over the others, where the row is 0
+  pub row-gives : (c : ℕ) (x : ℕ → ℕ) → c < length lost → c < m → getD lost c 0 < k + m → x (getD lost c 0) < 256
+      → rowSum (k + m) e c x ≡ 0 → x (getD lost c 0) ≡ others (k + m) e c (getD lost c 0) x
+  row-gives c x hc hm ha b z =
       let a : ℕ = getD lost c 0 in
       sum-zero (x a) (others (k + m) e c a x)
-      (ap (λ (z : ℕ). bitXor z (others (k + m) e c a x)) (sym (by-one (entry (k + m) e c a) (x a) (b a) (s .units c hc c hm ∙ unit-same c)))
-      ∙ sym (row-is (k + m) e c a x ha) ∙ s .same .forth x b h c hm)
+      (ap (λ (z : ℕ). bitXor z (others (k + m) e c a x)) (sym (by-one (entry (k + m) e c a) (x a) b (s .units c hc c hm ∙ unit-same c)))
+      ∙ sym (row-is (k + m) e c a x ha) ∙ z)
 
 -- ---- a table solved for one shard: it is to blame exactly where the other rows are 0
 

@@ -36,6 +36,11 @@ unfolding total
 total-zero zero f h = refl
 total-zero (suc n) f h = ap₂ bitXor (total-zero n f (λ i l. h i (omega arith))) (h n (omega arith))
 
+-- a sum of four terms, by their values
+pub total-four : (f : ℕ → ℕ) {a b c d : ℕ} → f 0 ≡ a → f 1 ≡ b → f 2 ≡ c → f 3 ≡ d → total 4 f ≡ bitXor (bitXor (bitXor a b) c) d
+unfolding total
+total-four f ea eb ec ed = ap₂ bitXor (ap₂ bitXor (ap₂ bitXor ea eb) ec) ed
+
 -- the sum of sums
 pub total-add : (n : ℕ) (f g : ℕ → ℕ) → total n (λ i. bitXor (f i) (g i)) ≡ bitXor (total n f) (total n g)
 unfolding total

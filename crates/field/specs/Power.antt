@@ -7,15 +7,22 @@ use Prim.Native.Nat.{ℕ, zero, suc, _+_, _*_, _/_, _%_, _<_}
 use native.Mathlib.Nat.{div-add-mod', mod-eq-of-lt, suc-add, zero-add}
 use native.Mathlib.Omega.{arith}
 use lib.Dec.{T, eqb, eqb→eq, lit<}
-use lib.Bits.{xor-zero-r}
+use lib.Bits.{bitXor, xor-zero-r}
 use Rattle.bits.specs.Below.{below, at}
-use Rattle.field.specs.Field.{doubleOf, mulOf, g, powerOf}
+use Rattle.field.specs.Field.{reduction, pick, doubleOf, mulOf, g, powerOf}
 use Rattle.field.specs.Product.{product-comm, product-assoc, one-product, product-lt, double-lt}
 
 -- g times a byte is its double
 pub mul-g : (a : ℕ) → a < 256 → mulOf g a ≡ doubleOf a
 unfolding mulOf
 mul-g a h = product-comm g a ∙ xor-zero-r (doubleOf (a % 256)) ∙ ap doubleOf (mod-eq-of-lt h)
+
+-- below 128, that is twice the number
+pub twice : (a : ℕ) → a < 128 → mulOf g a ≡ a * 2
+twice a h =
+    let d : a / 128 ≡ 0 = omega arith in
+    let m : a * 2 % 256 ≡ a * 2 = omega arith in
+    mul-g a (omega arith) ∙ ap₂ (λ (u v : ℕ). bitXor u (pick (v % 2) reduction)) m d ∙ xor-zero-r (a * 2)
 
 pub power-lt : (n : ℕ) → powerOf n < 256
 unfolding powerOf

@@ -46,7 +46,7 @@ module _ {X : Type 0} where
   pub chosen-inn : (x : Disks X) (f : Image X) → f ≡ chosen (x .inn) (pile x f)
   chosen-inn x f = fun-ext (λ k. sym (pile-in x f (x .inn (slot k)) k refl))
 
-module _ {X : Type 0} (z : Size) (W : Quorum (z .n)) (C : LabelCodec X) where
+module _ {X : Type 0} (z : Size) (W : Quorum (z .n)) (C : LabelCodec X (z .n)) where
   -- every disk of a slot but the chosen one is aside
   abbrev pub Apart : Label → Label → ℕ → (ℕ → ℕ) → (ℕ → Image X) → Type 0
   Apart Q N top virt P = (d i : ℕ) (b : Bool) → d < z .n → i ≢ virt d → Aside z W C Q N top d (copy C (P i) d b)
@@ -91,7 +91,7 @@ module _ {X : Type 0} (z : Size) (W : Quorum (z .n)) (C : LabelCodec X) where
       let e = h .unlabelled d i b dn n in
       record { cap = omega (arith, e); fine = λ p q. absurd (omega (arith, e)); own = λ p q. absurd (omega (arith, e)); near = λ p q. absurd (omega (arith, e)) }
 
-module _ {X : Type 0} (z : Size) (W : Quorum (z .n)) (C : LabelCodec X) (K : RecordCodec X) (E : Code X (z .n) (K .c) W) (S : Stamps) (R : Medium z W C K E S) where
+module _ {X : Type 0} (z : Size) (W : Quorum (z .n)) (C : LabelCodec X (z .n)) (K : RecordCodec X) (E : Code X (z .n) (K .c) W) (S : Stamps) (R : Medium z W C K E S) where
   -- OF ALL DISKS, whatever a cut leaves in the bays. virt d: the disk of slot d that belongs to the shelf.
   pub record Whole (g : Ghost X) (p : View X) (home : ℕ → ℕ) (P : ℕ → Image X) : Type 0 where
     pub virt : ℕ → ℕ

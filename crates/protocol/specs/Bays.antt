@@ -36,7 +36,7 @@ module _ {X : Type 0} (odd : ℕ → Bool) (last : Image X) where
       ⊎-elim (λ q. subst (λ (x : Place). front (update f k v) x ≡ update (front f) k v x) (sym q) (front-in (update f k v) k o ∙ (update-here f k v ∙ sym (update-here (front f) k v))))
       (λ n. front-other f k v j n ∙ sym (update-other (front f) k v j n)) (same-or-not j k)
 
-module _ {X : Type 0} (z : Size) (W : Quorum (z .n)) (C : LabelCodec X) where
+module _ {X : Type 0} (z : Size) (W : Quorum (z .n)) (C : LabelCodec X (z .n)) where
   -- What a label l may be that lies on a disk of slot d, but not on its last one. cap, fine: as on every disk.
   -- own: if it is of Q's generation or newer, it calls its own slot plainly out. near: if it is one generation older, it does so or Q does.
   pub record Aside (Q N : Label) (top d : ℕ) (l : Label) : Type 0 where
@@ -90,7 +90,7 @@ module _ {X : Type 0} (z : Size) (W : Quorum (z .n)) (C : LabelCodec X) where
     bays-put f l d fit a b c ok dark h =
         record {
           lasts = go (odd d) refl;
-          odds = λ e s i o. copy-told C (Aside Q N top e) l d f fit e s (λ q. record { cap = b; fine = λ x y. ok; own = λ x y. subst (λ (x : ℕ). odd x ≡ true → looked z l x ≡ true → ⊥) (sym q) dark o; near = λ x y. absurd (omega arith) }) (h .odds e s i o);
+          odds = λ e s i o. copy-told C (Aside Q N top e) l d f fit e s i (λ q. record { cap = b; fine = λ x y. ok; own = λ x y. subst (λ (x : ℕ). odd x ≡ true → looked z l x ≡ true → ⊥) (sym q) dark o; near = λ x y. absurd (omega arith) }) (h .odds e s i o);
         }
       where
         k : Place

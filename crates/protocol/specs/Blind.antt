@@ -116,7 +116,7 @@ module _ {X : Type 0} (K : RecordCodec X) (B : Belief) (f g : Image X) (same : (
       go zero e = ap (λ (x : Bool). x && whole K B f) (none (Redo.key K B f (Redo.lead K B f)) e) ∙ sym (ap (λ (x : Bool). x && whole K B g) (none (Redo.key K B g (Redo.lead K B g)) (sym top-same ∙ e)))
       go (suc κ) e = let l = lit κ (B .look (Redo.lead K B f)) refl e in λ i. eqb (top-same i) u && whole-same l i
 
-module _ {X : Type 0} (z : Size) (W : Quorum (z .n)) (C : LabelCodec X) (K : RecordCodec X) (absent : ℕ → Bool) (f g : Image X) (same : (k : Place) → absent (slot k) ≡ false → f k ≡ g k) (some : 0 < M z C absent f) where
+module _ {X : Type 0} (z : Size) (W : Quorum (z .n)) (C : LabelCodec X (z .n)) (K : RecordCodec X) (absent : ℕ → Bool) (f g : Image X) (same : (k : Place) → absent (slot k) ≡ false → f k ≡ g k) (some : 0 < M z C absent f) where
   newest-same : (d : ℕ) → absent d ≡ false → newest z C absent f d ≡ newest z C absent g d
   unfolding copy
   newest-same d a =

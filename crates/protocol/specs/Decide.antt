@@ -75,11 +75,11 @@ module _ {X : Type 0} (K : RecordCodec X) (history : ℕ → Write X) (u : ℕ) 
   new-framed s B B' i f g a o = new-frame K B B' history i f g a u s o
 
 -- puts elsewhere leave the labels alone
-pub labels-data : {X : Type 0} (z : Size) (W : Quorum (z .n)) (C : LabelCodec X) (Q N : Label) (top : ℕ) (far : ℕ → Bool) (f : Image X) (k : Place) (v : X) → data-place k ≡ true → Labels z W C Q N top far f → Labels z W C Q N top far (update f k v)
+pub labels-data : {X : Type 0} (z : Size) (W : Quorum (z .n)) (C : LabelCodec X (z .n)) (Q N : Label) (top : ℕ) (far : ℕ → Bool) (f : Image X) (k : Place) (v : X) → data-place k ≡ true → Labels z W C Q N top far f → Labels z W C Q N top far (update f k v)
 labels-data z W C Q N top far f k v p o = labels-same z W C Q N top far f (update f k v) (λ d b. update-other f k v (label d b) (λ q. false≢true (ap data-place q ∙ p))) o
 
 -- at rest under the label Q with the table s: nothing is undecided, every strip that is believed is the table's, whatever a cut leaves
-pub record Rest {X : Type 0} (z : Size) (W : Quorum (z .n)) (C : LabelCodec X) (K : RecordCodec X) (history : ℕ → Write X) (u : ℕ) (Q : Label) (s : Table X) (f : Image X) : Type 0 where
+pub record Rest {X : Type 0} (z : Size) (W : Quorum (z .n)) (C : LabelCodec X (z .n)) (K : RecordCodec X) (history : ℕ → Write X) (u : ℕ) (Q : Label) (s : Table X) (f : Image X) : Type 0 where
   pub labels : Labels z W C Q Q (Q .generation) (Q .out) f
   pub quiet : Quiet K (belief z Q) history u s f
 
@@ -96,7 +96,7 @@ module _ {X : Type 0} where
   unfolding in-turn
   turn-during P w labels logs a b = during-append P w labels logs a b
 
-module _ {X : Type 0} (z : Size) (C : LabelCodec X) (K : RecordCodec X) (absent : ℕ → Bool) (f0 : Image X) where
+module _ {X : Type 0} (z : Size) (C : LabelCodec X (z .n)) (K : RecordCodec X) (absent : ℕ → Bool) (f0 : Image X) where
   -- the label that start-up settles
   abbrev pub settled : Label
   settled = next z C absent f0 (suc (suc (M z C absent f0)))
@@ -106,7 +106,7 @@ module _ {X : Type 0} (z : Size) (C : LabelCodec X) (K : RecordCodec X) (absent 
   startup = in-turn (rounds z C absent f0) (redo K (belief z settled) f0)
 
 -- start-up is not refused: at most m slots are absent, out or stale, and the labels to be written fit (their generations are below the greatest)
-pub record Accepted {X : Type 0} (z : Size) (W : Quorum (z .n)) (C : LabelCodec X) (absent : ℕ → Bool) (f0 : Image X) : Type 0 where
+pub record Accepted {X : Type 0} (z : Size) (W : Quorum (z .n)) (C : LabelCodec X (z .n)) (absent : ℕ → Bool) (f0 : Image X) : Type 0 where
   pub enough : W .few (λ d. L z C absent f0 .out d || gone z C absent f0 d) ≡ true
   pub labels-there : labelled z C absent f0 ≡ true
   pub fits1 : C .Fits (again (L z C absent f0) (suc (M z C absent f0)))
@@ -115,7 +115,7 @@ pub record Accepted {X : Type 0} (z : Size) (W : Quorum (z .n)) (C : LabelCodec 
 
 -- WHAT START-UP MEETS, with P to be kept. Some slots are odd: their bays hold another disk than their last; the last disks make a shelf, as ever, with D under Q and under N. Some
 -- present disk has a label that is no older than Q (low). before: while Q and N stand on the last disks, P holds. later: when the new label is settled on the disks in the bays, P holds.
-pub record Met {X : Type 0} (z : Size) (W : Quorum (z .n)) (C : LabelCodec X) (K : RecordCodec X) (absent : ℕ → Bool) (base : Label) (D : Belief → Image X → Type 0) (P : Image X → Type 0) (f0 : Image X) : Type 0 where
+pub record Met {X : Type 0} (z : Size) (W : Quorum (z .n)) (C : LabelCodec X (z .n)) (K : RecordCodec X) (absent : ℕ → Bool) (base : Label) (D : Belief → Image X → Type 0) (P : Image X → Type 0) (f0 : Image X) : Type 0 where
   pub odd : ℕ → Bool
   pub last : Image X
   pub Q : Label
@@ -130,10 +130,10 @@ pub record Met {X : Type 0} (z : Size) (W : Quorum (z .n)) (C : LabelCodec X) (K
   pub before : (t : ℕ) (fr : ℕ → Bool) (f : Image X) → top ≤ t → Bays z W C Q N t fr odd last f → Same f0 f → P f
   pub later : Settles z odd Q N top (settled z C K absent f0) → (f : Image X) → Labels z W C (settled z C K absent f0) (settled z C K absent f0) (settled z C K absent f0 .generation) (settled z C K absent f0 .out) f → D (belief z (settled z C K absent f0)) f → P f
 
-pub base-below : {X : Type 0} (z : Size) (W : Quorum (z .n)) (C : LabelCodec X) (base : Label) (D : Belief → Image X → Type 0) (f : Image X) → (h : Shelf z W C base D f) → base .generation ≤ h .Q .generation
+pub base-below : {X : Type 0} (z : Size) (W : Quorum (z .n)) (C : LabelCodec X (z .n)) (base : Label) (D : Belief → Image X → Type 0) (f : Image X) → (h : Shelf z W C base D f) → base .generation ≤ h .Q .generation
 base-below z W C base D f h = ⊎-elim (λ q. omega (arith, ap (λ (l : Label). l .generation) q)) (λ i. omega arith) (h .since)
 
-module _ {X : Type 0} (z : Size) (W : Quorum (z .n)) (C : LabelCodec X) (K : RecordCodec X) (history : ℕ → Write X) (absent : ℕ → Bool) (f0 : Image X) (yes-go : Accepted z W C absent f0) where
+module _ {X : Type 0} (z : Size) (W : Quorum (z .n)) (C : LabelCodec X (z .n)) (K : RecordCodec X) (history : ℕ → Write X) (absent : ℕ → Bool) (f0 : Image X) (yes-go : Accepted z W C absent f0) where
   pub few-absent : W .few absent ≡ true
   few-absent = W .part absent (λ d. L z C absent f0 .out d || gone z C absent f0 d) (λ d i e. rw (absent-gone z W C absent f0 d i e, or-true)) (yes-go .enough)
 

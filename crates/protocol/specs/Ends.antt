@@ -30,7 +30,7 @@ abbrev pub carried : {X : Type 0} → List (Action X) → List (Event X) → Lis
 carried [] r = r
 carried (a ∷ l) r = ask step (did a) ∷ carried l r
 
-module _ {X : Type 0} (z : Size) (W : Quorum (z .n)) (C : LabelCodec X) (K : RecordCodec X) (E : Code X (z .n) (K .c) W) (S : Stamps) (R : Medium z W C K E S) where
+module _ {X : Type 0} (z : Size) (W : Quorum (z .n)) (C : LabelCodec X (z .n)) (K : RecordCodec X) (E : Code X (z .n) (K .c) W) (S : Stamps) (R : Medium z W C K E S) where
   carries : (k : Kind X) (w : World X) (l : List (Action X)) (o o' : Own) (r : List (Event X)) (m : Machine X) → Runs z W C K E S R (at (run w l) (doing k [] o o')) r m → Runs z W C K E S R (at w (doing k l o o')) (carried l r) m
   unfolding program
   carries k w [] o o' r m h = h
@@ -126,7 +126,7 @@ module _ {X : Type 0} (K : RecordCodec X) (B : Belief) where
   unfolding involved
   members-n w = slots-length (B .n) (λ d. B .believe d (w .stripe) && w .changes d)
 
-module _ {X : Type 0} (C : LabelCodec X) where
+module _ {X : Type 0} {n : ℕ} (C : LabelCodec X n) where
   one-each : (mk : ℕ → ℕ → Place) (ds : List ℕ) → length (rows mk (0 ∷ []) ds) ≡ length ds
   one-each mk ds = omega (arith, rows-length mk (0 ∷ []) ds)
 
@@ -175,7 +175,7 @@ module _ {X : Type 0} (K : RecordCodec X) (B : Belief) where
       go false true = forwards f
       go false false = kills f
 
-module _ {X : Type 0} (z : Size) (W : Quorum (z .n)) (C : LabelCodec X) (K : RecordCodec X) (E : Code X (z .n) (K .c) W) (S : Stamps) (R : Medium z W C K E S) where
+module _ {X : Type 0} (z : Size) (W : Quorum (z .n)) (C : LabelCodec X (z .n)) (K : RecordCodec X) (E : Code X (z .n) (K .c) W) (S : Stamps) (R : Medium z W C K E S) where
   -- START-UP: at most n (c + 13) actions
   pub start-actions : (A : ℕ → Bool) (f : Image X) → length (flushes {X = X} (flushed-first z W C K E S R A) ++ startup z C K A f) ≤ z .n * K .c + 13 * z .n
   unfolding startup in-turn rounds level-to again-to last-to belief flushed-first

@@ -19,7 +19,7 @@ use Rattle.protocol.specs.Exchange.{Disks, Room, room, noted, exchanged,
 use Rattle.protocol.specs.Apart.{same-nat}
 use Rattle.protocol.specs.Exchanged.{Made, Holds, made-or-not, back, back-possible, back-other, exchange-simulate}
 
-module _ {X : Type 0} (z : Size) (W : Quorum (z .n)) (C : LabelCodec X) (K : RecordCodec X) (E : Code X (z .n) (K .c) W) (S : Stamps) (R : Medium z W C K E S) where
+module _ {X : Type 0} (z : Size) (W : Quorum (z .n)) (C : LabelCodec X (z .n)) (K : RecordCodec X) (E : Code X (z .n) (K .c) W) (S : Stamps) (R : Medium z W C K E S) where
   -- the disks that lie around
   abbrev pub ShapedStock : Disks X → Type 0
   ShapedStock x = (d i : ℕ) → d < z .n → i ≢ x .inn d → Shape C (x .stock i) d
@@ -48,13 +48,13 @@ module _ {X : Type 0} (z : Size) (W : Quorum (z .n)) (C : LabelCodec X) (K : Rec
 
   -- another disk
   module _ (w : World X) (x : Disks X) (d i : ℕ) (g : Image X) (other : i ≢ x .inn d) (left : Possible w g) (stock : ShapedStock x) where
-    kept : (f : Image X) → Possible (with-disk w d (x .stock i)) f → Shapes C (z .n) (back z W C K E S R w x d i g other left f) → Shapes C (z .n) f
+    kept : (f : Image X) → Possible (with-disk w d (x .stock i)) f → Shapes C (back z W C K E S R w x d i g other left f) → Shapes C f
     unfolding Possible
     kept f q h e n =
         ⊎-elim (λ y. shape-same z W C K (x .stock i) f e (λ b. q (label e b) .0 y) (stock e i n (λ u. other (u ∙ ap (x .inn) y))))
         (λ y. shape-same z W C K (back z W C K E S R w x d i g other left f) f e (λ b. back-other z W C K E S R w x d i g other left f (label e b) y) (h e n)) (same-nat e d)
 
-    put-aside : Shapes C (z .n) g → ShapedStock (exchanged x d i g)
+    put-aside : Shapes C g → ShapedStock (exchanged x d i g)
     put-aside h e j n m = ⊎-elim here there (same-nat e d)
       where
         there : e ≢ d → Shape C (exchanged x d i g .stock j) e
@@ -65,7 +65,7 @@ module _ {X : Type 0} (z : Size) (W : Quorum (z .n)) (C : LabelCodec X) (K : Rec
             ⊎-elim (λ u. shape-same z W C K g (exchanged x d i g .stock j) e (λ b. rw (eq-eqb e d y, eq-eqb j (x .inn d) u)) (h e n))
             (λ u. shape-same z W C K (x .stock j) (exchanged x d i g .stock j) e (λ b. rw (eq-eqb e d y, ne-eqb j (x .inn d) u)) (stock e j n (λ v. u (v ∙ ap (x .inn) y)))) (same-nat j (x .inn d))
 
-    off : Always w (Shapes C (z .n)) → Always (with-disk w d (x .stock i)) (Shapes C (z .n))
+    off : Always w (Shapes C) → Always (with-disk w d (x .stock i)) (Shapes C)
     unfolding Always
     off h f q = kept f q (h (back z W C K E S R w x d i g other left f) (back-possible z W C K E S R w x d i g other left f q))
 
@@ -87,7 +87,7 @@ module _ {X : Type 0} (z : Size) (W : Quorum (z .n)) (C : LabelCodec X) (K : Rec
   -- EACH EVENT keeps the shape of every disk
   pub shaped-everywhere : {r r' : Room X} {e : Event X} (b : Befalls z W C K E S R r e r') → Tidy b → (p : View X) → Holds z W C K E S R r p → ShapedAll r → ShapedAll r'
   unfolding Always
-  shaped-everywhere (Exchange.power-cut {w = w} {m = m} f q) u p inv h = (always-after (Shapes C (z .n)) f (shaped-off z W C K E S R w m (h .0) f q), h .1)
+  shaped-everywhere (Exchange.power-cut {w = w} {m = m} f q) u p inv h = (always-after (Shapes C) f (shaped-off z W C K E S R w m (h .0) f q), h .1)
   shaped-everywhere (Exchange.program-dies {w = w} {m = m}) u p inv h = (shaped-off z W C K E S R w m (h .0), h .1)
   shaped-everywhere (Exchange.swapped-off {w = w} {x = x} d i g e n q) u p inv h = (off w x d i g n q (h .1) (h .0), put-aside w x d i g n q (h .1) (h .0 g q))
   shaped-everywhere (Exchange.swapped-on {w = w} {o = o} {x = x} d i g a n q) u p inv h = (on w x d i g n q (h .1) o u (h .0), noted-stock (idle o) (exchanged x d i g) (put-aside w x d i g n q (h .1) (h .0 g q .0)))

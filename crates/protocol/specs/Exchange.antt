@@ -61,11 +61,11 @@ module _ {X : Type 0} where
   pile x f i k = cond (eqb i (x .inn (slot k))) (f k) (x .stock i k)
 
 -- strange disks, that no program of this shelf wrote to: they hold no label of it
-pub record Strange {X : Type 0} (z : Size) (C : LabelCodec X) (x : Disks X) : Type 0 where
+pub record Strange {X : Type 0} (z : Size) (C : LabelCodec X (z .n)) (x : Disks X) : Type 0 where
   pub at-home : (d : ℕ) → d < z .n → x .inn d ≡ x .home d
   pub unlabelled : (d i : ℕ) (b : Bool) → d < z .n → i ≢ x .inn d → copy C (x .stock i) d b .generation ≡ 0
 
-module _ {X : Type 0} (z : Size) (W : Quorum (z .n)) (C : LabelCodec X) (K : RecordCodec X) (E : Code X (z .n) (K .c) W) (S : Stamps) (R : Medium z W C K E S) where
+module _ {X : Type 0} (z : Size) (W : Quorum (z .n)) (C : LabelCodec X (z .n)) (K : RecordCodec X) (E : Code X (z .n) (K .c) W) (S : Stamps) (R : Medium z W C K E S) where
   -- ALL THAT IS ASKED OF THE WORLD, at a start-up that is not refused. Either: if the absent slots are few (at most m), they are few together with those that hold another disk than
   -- their last. (A start-up that is not refused has few absent ones, so with no disk exchanged nothing is asked. Slots that are out do not count.)
   abbrev pub Familiar : (ℕ → Bool) → Disks X → Type 0

@@ -26,7 +26,7 @@ use Rattle.protocol.specs.Exchange as Exchange
 use Rattle.protocol.specs.Exchange.{Disks, Room, room, noted, exchanged, with-disk, pile, Strange, Familiar, Newest, Asked, Befalls, Befell}
 use Rattle.protocol.specs.Apart.{same-nat, Lying, aside-copy, lying-next, strange-lying, Whole, AtHome, whole-home, asked-low, unborn, meets, settled-lying}
 
-module _ {X : Type 0} (z : Size) (W : Quorum (z .n)) (C : LabelCodec X) (K : RecordCodec X) (E : Code X (z .n) (K .c) W) (S : Stamps) (R : Medium z W C K E S) where
+module _ {X : Type 0} (z : Size) (W : Quorum (z .n)) (C : LabelCodec X (z .n)) (K : RecordCodec X) (E : Code X (z .n) (K .c) W) (S : Stamps) (R : Medium z W C K E S) where
   -- no program runs
   pub record OffAll (p : View X) (w : World X) (x : Disks X) : Type 0 where
     pub sane : Sane w

@@ -30,7 +30,7 @@ pub record Ghost (X : Type 0) : Type 0 where
   pub u : ℕ
   pub base : Label
 
-module _ {X : Type 0} (z : Size) (W : Quorum (z .n)) (C : LabelCodec X) (K : RecordCodec X) (E : Code X (z .n) (K .c) W) (S : Stamps) (R : Medium z W C K E S) where
+module _ {X : Type 0} (z : Size) (W : Quorum (z .n)) (C : LabelCodec X (z .n)) (K : RecordCodec X) (E : Code X (z .n) (K .c) W) (S : Stamps) (R : Medium z W C K E S) where
   -- what is known of the log and the strips under a label that may rule
   abbrev pub Under : Ghost X → View X → Belief → Image X → Type 0
   Under g (sure v) = λ B f. Quiet K B (g .history) (g .u) (table z W K E v) f

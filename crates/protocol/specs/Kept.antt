@@ -29,7 +29,7 @@ is-label (label d b) = true
 is-label (log d j) = false
 is-label (strip d t j) = false
 
-module _ {X : Type 0} (z : Size) (W : Quorum (z .n)) (C : LabelCodec X) (K : RecordCodec X) (E : Code X (z .n) (K .c) W) (S : Stamps) (R : Medium z W C K E S) where
+module _ {X : Type 0} (z : Size) (W : Quorum (z .n)) (C : LabelCodec X (z .n)) (K : RecordCodec X) (E : Code X (z .n) (K .c) W) (S : Stamps) (R : Medium z W C K E S) where
   -- FROM ZEROS ON. A shelf begins with disks of zeros and no program; whatever happens then, in any order and as often as it likes (create, start-ups,
   -- requests, reads, steps, cuts, deaths, swapped disks), the host's view goes on as it is allowed to, beginning with the list of zeros.
   pub promised : (w : World X) → Sane w → W .few (λ d. false) ≡ true → Always w (Zeros z W C K E S R) → {m : Machine X} {l : List (Event X)} → Runs z W C K E S R (at w nothing) l m → (p : View X) × Views (K .c) (sure (λ t i j. K .zeros)) l p × Invariant z W C K E S R m p

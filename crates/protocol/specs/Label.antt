@@ -104,20 +104,20 @@ pub record Quorum (n : ℕ) : Type 0 where
   pub part : (a b : ℕ → Bool) → ((d : ℕ) → d < n → a d ≡ true → b d ≡ true) → few b ≡ true → few a ≡ true
   pub meet : (a b : ℕ → Bool) → few a ≡ true → few b ≡ true → (d : ℕ) × (d < n) × (a d ≡ false) × (b d ≡ false)
 
--- a label's bytes on the disk of slot d; the label of generation g lies in sector `side g`. What is no valid label reads as generation 0.
-pub record LabelCodec (X : Type 0) : Type 1 where
+-- a label's bytes on the disk of slot d, of n; the label of generation g lies in sector `side g`. What is no valid label reads as generation 0.
+pub record LabelCodec (X : Type 0) (n : ℕ) : Type 1 where
   pub Fits : Label → Type 0
   pub side : ℕ → Bool
   pub zeros : X
   pub encode : ℕ → Label → X
   pub decode : ℕ → Bool → X → Label
   pub decode-fits : (d : ℕ) (b : Bool) (x : X) → 0 < decode d b x .generation → Fits (decode d b x)
-  pub decode-encode : (d : ℕ) (l : Label) → Fits l → decode d (side (l .generation)) (encode d l) ≡ l
+  pub decode-encode : (d : ℕ) (l : Label) → d < n → Fits l → decode d (side (l .generation)) (encode d l) ≡ l
   pub decode-zeros : (d : ℕ) (b : Bool) → decode d b zeros .generation ≡ 0
   pub side-next : (g : ℕ) → side (suc g) ≡ not (side g)
   pub decode-side : (d : ℕ) (b : Bool) (x : X) → 0 < decode d b x .generation → b ≡ side (decode d b x .generation)
 
-module _ {X : Type 0} (C : LabelCodec X) where
+module _ {X : Type 0} {n : ℕ} (C : LabelCodec X n) where
   -- what the copy in sector b of slot d's disk says
   unfoldable pub copy : Image X → ℕ → Bool → Label
   copy f d b = C .decode d b (f (label d b))
@@ -180,49 +180,49 @@ module _ {X : Type 0} (C : LabelCodec X) where
   abbrev pub prep : Image X → ℕ → Label → List ℕ → List (Action X)
   prep f0 g l ds = actions (prep-batch f0 g l ds)
 
-  prep-decodes : (P : Label → Type 0) (f0 : Image X) (g : ℕ) (l : Label) (d : ℕ) → ((x : Label) → x .generation ≡ 0 → P x) → (C .Fits (again l g)) → P (again l g) → P (C .decode d (C .side g) (prep-value f0 g l (label d (C .side g))))
-  prep-decodes P f0 g l d none fit h = go (ltb 0 (copy f0 d (C .side (suc g)) .generation) || eqb (copy f0 d (C .side g) .generation) 0)
+  prep-decodes : (P : Label → Type 0) (f0 : Image X) (g : ℕ) (l : Label) (d : ℕ) → d < n → ((x : Label) → x .generation ≡ 0 → P x) → (C .Fits (again l g)) → P (again l g) → P (C .decode d (C .side g) (prep-value f0 g l (label d (C .side g))))
+  prep-decodes P f0 g l d i none fit h = go (ltb 0 (copy f0 d (C .side (suc g)) .generation) || eqb (copy f0 d (C .side g) .generation) 0)
     where
       go : (b : Bool) → P (C .decode d (C .side g) (cond b (C .zeros) (C .encode d (again l g))))
       go true = none (C .decode d (C .side g) (C .zeros)) (C .decode-zeros d (C .side g))
-      go false = rw (C .decode-encode d (again l g) fit) h
+      go false = rw (C .decode-encode d (again l g) i fit) h
 
   -- a copy after slot d was told l: it is that slot's and says l, or it says what it said
-  pub copy-told : (P : Label → Type 0) (l : Label) (d : ℕ) (f : Image X) → C .Fits l → (e : ℕ) (b : Bool) → (e ≡ d → P l) → P (copy f e b) → P (copy (update f (label d (C .side (l .generation))) (C .encode d l)) e b)
+  pub copy-told : (P : Label → Type 0) (l : Label) (d : ℕ) (f : Image X) → C .Fits l → (e : ℕ) (b : Bool) → e < n → (e ≡ d → P l) → P (copy f e b) → P (copy (update f (label d (C .side (l .generation))) (C .encode d l)) e b)
   unfolding copy
-  copy-told P l d f fit e b h g =
+  copy-told P l d f fit e b i h g =
       update-cases f (label d (C .side (l .generation))) (C .encode d l) (λ x. P (C .decode e b x)) (label e b)
-      (λ q. let x : e ≡ d = cc in let y : b ≡ C .side (l .generation) = cc in rw (x, y) (rw (C .decode-encode d l fit) (h x))) g
+      (λ q. let x : e ≡ d = cc in let y : b ≡ C .side (l .generation) = cc in rw (x, y) (rw (C .decode-encode d l (omega arith) fit) (h x))) g
 
-  copy-put : (P : Label → Type 0) (l : Label) (d : ℕ) (f : Image X) → C .Fits l → (e : ℕ) (b : Bool) → P l → P (copy f e b) → P (copy (update f (label d (C .side (l .generation))) (C .encode d l)) e b)
-  copy-put P l d f fit e b h g = copy-told P l d f fit e b (λ q. h) g
+  copy-put : (P : Label → Type 0) (l : Label) (d : ℕ) (f : Image X) → C .Fits l → (e : ℕ) (b : Bool) → e < n → P l → P (copy f e b) → P (copy (update f (label d (C .side (l .generation))) (C .encode d l)) e b)
+  copy-put P l d f fit e b i h g = copy-told P l d f fit e b i (λ q. h) g
 
-  aged-put : (g : ℕ) (l : Label) (d : ℕ) (f : Image X) → C .Fits l → (e : ℕ) → g ≤ l .generation → Aged f e g → Aged (update f (label d (C .side (l .generation))) (C .encode d l)) e g
+  aged-put : (g : ℕ) (l : Label) (d : ℕ) (f : Image X) → C .Fits l → (e : ℕ) → e < n → g ≤ l .generation → Aged f e g → Aged (update f (label d (C .side (l .generation))) (C .encode d l)) e g
   unfolding Aged
-  aged-put g l d f fit e h a = (a .0, copy-put (λ x. g ≤ x .generation) l d f fit e (a .0) h (a .1))
+  aged-put g l d f fit e i h a = (a .0, copy-put (λ x. g ≤ x .generation) l d f fit e (a .0) i h (a .1))
 
-  pub aged-told : (l : Label) (f : Image X) (d : ℕ) → C .Fits l → f (label d (C .side (l .generation))) ≡ C .encode d l → (g : ℕ) → g ≤ l .generation → Aged f d g
+  pub aged-told : (l : Label) (f : Image X) (d : ℕ) → d < n → C .Fits l → f (label d (C .side (l .generation))) ≡ C .encode d l → (g : ℕ) → g ≤ l .generation → Aged f d g
   unfolding Aged copy
-  aged-told l f d fit e g h = (C .side (l .generation), subst (λ (x : Label). g ≤ x .generation) (sym (ap (C .decode d (C .side (l .generation))) e ∙ C .decode-encode d l fit)) h)
+  aged-told l f d i fit e g h = (C .side (l .generation), subst (λ (x : Label). g ≤ x .generation) (sym (ap (C .decode d (C .side (l .generation))) e ∙ C .decode-encode d l i fit)) h)
 
   pub copy-same : (f g : Image X) (d : ℕ) (b : Bool) → g (label d b) ≡ f (label d b) → copy g d b ≡ copy f d b
   unfolding copy
   copy-same f g d b e = ap (C .decode d b) e
 
   -- A ROUND: what each of its puts keeps holds all the while; then each of its slots has the label
-  pub round-keeps : (P : Image X → Type 0) (l : Label) (ds : List ℕ) (w : World X) → Sane w → C .Fits l → ((d : ℕ) → List·Memᴰ d ds → (f : Image X) → P f → P (update f (label d (C .side (l .generation))) (C .encode d l))) → Always w P → During w (round l ds) P × Always (run w (round l ds)) (λ f. P f × ((d g : ℕ) → List·Memᴰ d ds → g ≤ l .generation → Aged f d g))
+  pub round-keeps : (P : Image X → Type 0) (l : Label) (ds : List ℕ) (w : World X) → Sane w → C .Fits l → ((d : ℕ) → List·Memᴰ d ds → (f : Image X) → P f → P (update f (label d (C .side (l .generation))) (C .encode d l))) → Always w P → During w (round l ds) P × Always (run w (round l ds)) (λ f. P f × ((d g : ℕ) → List·Memᴰ d ds → d < n → g ≤ l .generation → Aged f d g))
   unfolding round-batch Kept Covered Done
   round-keeps P l ds w sane fit kept h =
-      stage P (λ f. P f × ((d g : ℕ) → List·Memᴰ d ds → g ≤ l .generation → Aged f d g)) w (round-batch l ds) sane h
+      stage P (λ f. P f × ((d g : ℕ) → List·Memᴰ d ds → d < n → g ≤ l .generation → Aged f d g)) w (round-batch l ds) sane h
       (λ k m f o. let y = of-rows (there l) (0 ∷ []) ds k m in rw (y .4) (kept (y .0) (y .2) f o))
       (rows-slots (there l) (0 ∷ []) ds (λ d j. refl))
-      (λ f o done. (o, λ d g m i. aged-told l f d fit (done (label d (C .side (l .generation))) (in-rows (there l) (0 ∷ []) ds d 0 m (List·Memᴰ·head refl))) g i))
+      (λ f o done. (o, λ d g m j i. aged-told l f d j fit (done (label d (C .side (l .generation))) (in-rows (there l) (0 ∷ []) ds d 0 m (List·Memᴰ·head refl))) g i))
 
   pub aged-less : (f : Image X) (d g h : ℕ) → g ≤ h → Aged f d h → Aged f d g
   unfolding Aged
   aged-less f d g h i a = (a .0, omega (arith, a .1))
 
-module _ {X : Type 0} (z : Size) (W : Quorum (z .n)) (C : LabelCodec X) where
+module _ {X : Type 0} (z : Size) (W : Quorum (z .n)) (C : LabelCodec X (z .n)) where
   -- Q is settled; N is Q, or the label that a request was about to settle. A label that may come to rule: few slots are out in it, and it believes nothing that Q does not, or, if it
   -- is newer than Q, nothing that N does not.
   pub record MayRule (Q N l : Label) : Type 0 where
@@ -245,10 +245,10 @@ module _ {X : Type 0} (z : Size) (W : Quorum (z .n)) (C : LabelCodec X) where
       record {
         few-Q = h .few-Q;
         few-far = h .few-far;
-        low = λ e i o. aged-put C (Q .generation) l d f fit e a (h .low e i o);
-        cap = λ e s i. copy-put C (λ x. x .generation ≤ top) l d f fit e s b (h .cap e s i);
-        near = λ e g i o j. aged-put C g l d f fit e (omega arith) (h .near e g i o j);
-        fine = λ e s i. copy-put C (λ x. 0 < x .generation → Q .generation ≤ x .generation → MayRule Q N x) l d f fit e s (λ p q. ok) (h .fine e s i);
+        low = λ e i o. aged-put C (Q .generation) l d f fit e i a (h .low e i o);
+        cap = λ e s i. copy-put C (λ x. x .generation ≤ top) l d f fit e s i b (h .cap e s i);
+        near = λ e g i o j. aged-put C g l d f fit e i (omega arith) (h .near e g i o j);
+        fine = λ e s i. copy-put C (λ x. 0 < x .generation → Q .generation ≤ x .generation → MayRule Q N x) l d f fit e s i (λ p q. ok) (h .fine e s i);
       }
 
   -- copies of generation g or more are the label l
@@ -257,20 +257,20 @@ module _ {X : Type 0} (z : Size) (W : Quorum (z .n)) (C : LabelCodec X) where
 
   pub only-put : (g : ℕ) (l : Label) (d : ℕ) (f : Image X) → C .Fits l → Only g l f → Only g l (update f (label d (C .side (l .generation))) (C .encode d l))
   unfolding Only
-  only-put g l d f fit h e s i = copy-put C (λ x. g ≤ x .generation → x ≡ l) l d f fit e s (λ q. refl) (h e s i)
+  only-put g l d f fit h e s i = copy-put C (λ x. g ≤ x .generation → x ≡ l) l d f fit e s i (λ q. refl) (h e s i)
 
   -- a statement about other places than labels
   unfoldable pub Bare : (Image X → Type 0) → Type 0
   Bare E = (f : Image X) (d : ℕ) (b : Bool) (x : X) → E f → E (update f (label d b) x)
 
   -- a round of l, while Q and N stand
-  pub round-safe : (Q N : Label) (top : ℕ) (far : ℕ → Bool) (l : Label) (ds : List ℕ) (E : Image X → Type 0) → Bare E → (w : World X) → Sane w → C .Fits l → Q .generation ≤ l .generation → l .generation ≤ top → top ≤ suc (l .generation) → MayRule Q N l → Always w (λ f. Labels Q N top far f × E f) → During w (round C l ds) (λ f. Labels Q N top far f × E f) × Always (run w (round C l ds)) (λ f. (Labels Q N top far f × E f) × ((d g : ℕ) → List·Memᴰ d ds → g ≤ l .generation → Aged C f d g))
+  pub round-safe : (Q N : Label) (top : ℕ) (far : ℕ → Bool) (l : Label) (ds : List ℕ) (E : Image X → Type 0) → Bare E → (w : World X) → Sane w → C .Fits l → Q .generation ≤ l .generation → l .generation ≤ top → top ≤ suc (l .generation) → MayRule Q N l → Always w (λ f. Labels Q N top far f × E f) → During w (round C l ds) (λ f. Labels Q N top far f × E f) × Always (run w (round C l ds)) (λ f. (Labels Q N top far f × E f) × ((d g : ℕ) → List·Memᴰ d ds → d < z .n → g ≤ l .generation → Aged C f d g))
   unfolding Bare
   round-safe Q N top far l ds E bare w sane fit a b c ok h =
       round-keeps C (λ f. Labels Q N top far f × E f) l ds w sane fit (λ d m f o. (labels-put Q N top far f l d fit a b c ok (o .0), bare f d (C .side (l .generation)) (C .encode d l) (o .1))) h
 
   -- the same, where nobody has l's generation yet but from this round
-  pub round-only : (Q N : Label) (top : ℕ) (far : ℕ → Bool) (l : Label) (ds : List ℕ) (E : Image X → Type 0) → Bare E → (w : World X) → Sane w → C .Fits l → Q .generation ≤ l .generation → l .generation ≤ top → top ≤ suc (l .generation) → MayRule Q N l → Always w (λ f. Labels Q N top far f × E f × Only (l .generation) l f) → During w (round C l ds) (λ f. Labels Q N top far f × E f × Only (l .generation) l f) × Always (run w (round C l ds)) (λ f. (Labels Q N top far f × E f × Only (l .generation) l f) × ((d g : ℕ) → List·Memᴰ d ds → g ≤ l .generation → Aged C f d g))
+  pub round-only : (Q N : Label) (top : ℕ) (far : ℕ → Bool) (l : Label) (ds : List ℕ) (E : Image X → Type 0) → Bare E → (w : World X) → Sane w → C .Fits l → Q .generation ≤ l .generation → l .generation ≤ top → top ≤ suc (l .generation) → MayRule Q N l → Always w (λ f. Labels Q N top far f × E f × Only (l .generation) l f) → During w (round C l ds) (λ f. Labels Q N top far f × E f × Only (l .generation) l f) × Always (run w (round C l ds)) (λ f. (Labels Q N top far f × E f × Only (l .generation) l f) × ((d g : ℕ) → List·Memᴰ d ds → d < z .n → g ≤ l .generation → Aged C f d g))
   unfolding Bare
   round-only Q N top far l ds E bare w sane fit a b c ok h =
       round-keeps C (λ f. Labels Q N top far f × E f × Only (l .generation) l f) l ds w sane fit (λ d m f o. (labels-put Q N top far f l d fit a b c ok (o .0), bare f d (C .side (l .generation)) (C .encode d l) (o .1), only-put (l .generation) l d f fit (o .2))) h
@@ -303,16 +303,16 @@ module _ {X : Type 0} (z : Size) (W : Quorum (z .n)) (C : LabelCodec X) where
       }
 
   -- on a slot that is out and far, a label sector may hold anything that is old, or that may rule
-  pub labels-aside : (Q N : Label) (top : ℕ) (far : ℕ → Bool) (f : Image X) (d : ℕ) (b : Bool) (x : X) → Q .out d ≡ true → far d ≡ true → C .decode d b x .generation ≤ top → (0 < C .decode d b x .generation → Q .generation ≤ C .decode d b x .generation → MayRule Q N (C .decode d b x)) → Labels Q N top far f → Labels Q N top far (update f (label d b) x)
+  pub labels-aside : (Q N : Label) (top : ℕ) (far : ℕ → Bool) (f : Image X) (d : ℕ) (b : Bool) (x : X) → Q .out d ≡ true → far d ≡ true → (d < z .n → C .decode d b x .generation ≤ top) → (d < z .n → 0 < C .decode d b x .generation → Q .generation ≤ C .decode d b x .generation → MayRule Q N (C .decode d b x)) → Labels Q N top far f → Labels Q N top far (update f (label d b) x)
   unfolding copy Aged
   labels-aside Q N top far f d b x out away old ok o =
       record {
         few-Q = o .few-Q;
         few-far = o .few-far;
         low = λ e i q. let y = o .low e i q in (y .0, subst (λ (v : X). Q .generation ≤ C .decode e (y .0) v .generation) (sym (other e (y .0) (λ p. true≢false (sym out ∙ (ap (Q .out) (sym p) ∙ q))))) (y .1));
-        cap = λ e s i. update-cases f (label d b) x (λ v. C .decode e s v .generation ≤ top) (label e s) (λ q. let p : e ≡ d = cc in let r : s ≡ b = cc in rw (p, r) old) (o .cap e s i);
+        cap = λ e s i. update-cases f (label d b) x (λ v. C .decode e s v .generation ≤ top) (label e s) (λ q. let p : e ≡ d = cc in let r : s ≡ b = cc in rw (p, r) (old (omega arith))) (o .cap e s i);
         near = λ e g i q j. let y = o .near e g i q j in (y .0, subst (λ (v : X). g ≤ C .decode e (y .0) v .generation) (sym (other e (y .0) (λ p. true≢false (sym away ∙ (ap far (sym p) ∙ q))))) (y .1));
-        fine = λ e s i. update-cases f (label d b) x (λ v. 0 < C .decode e s v .generation → Q .generation ≤ C .decode e s v .generation → MayRule Q N (C .decode e s v)) (label e s) (λ q. let p : e ≡ d = cc in let r : s ≡ b = cc in rw (p, r) ok) (o .fine e s i);
+        fine = λ e s i. update-cases f (label d b) x (λ v. 0 < C .decode e s v .generation → Q .generation ≤ C .decode e s v .generation → MayRule Q N (C .decode e s v)) (label e s) (λ q. let p : e ≡ d = cc in let r : s ≡ b = cc in rw (p, r) (ok (omega arith))) (o .fine e s i);
       }
     where
       other : (e : ℕ) (s : Bool) → e ≢ d → update f (label d b) x (label e s) ≡ f (label e s)
@@ -329,8 +329,8 @@ module _ {X : Type 0} (z : Size) (W : Quorum (z .n)) (C : LabelCodec X) where
       let a = aside (y .0) (of-keep (λ d. not (prepared C f0 g d)) ds (y .0) (y .1) .0) in
       rw (y .2) (
         labels-aside Q N top far f (y .0) (C .side g) (prep-value C f0 g l (label (y .0) (C .side g))) (a .0) (a .1)
-            (prep-decodes C (λ x. x .generation ≤ top) f0 g l (y .0) (λ x q. omega arith) fit low)
-            (prep-decodes C (λ x. 0 < x .generation → Q .generation ≤ x .generation → MayRule Q N x) f0 g l (y .0) (λ x q p. absurd (omega arith)) fit (λ p q. ok q))
+            (λ i. prep-decodes C (λ x. x .generation ≤ top) f0 g l (y .0) i (λ x q. omega arith) fit low)
+            (λ i. prep-decodes C (λ x. 0 < x .generation → Q .generation ≤ x .generation → MayRule Q N x) f0 g l (y .0) i (λ x q p. absurd (omega arith)) fit (λ p q. ok q))
             (o .0),
         bare f (y .0) (C .side g) (prep-value C f0 g l (label (y .0) (C .side g))) (o .1),
       ))

@@ -24,7 +24,7 @@ always-any : {X : Type 0} (w : World X) → Always w (λ f. Unit {0})
 unfolding Always
 always-any w f p = tt
 
-module _ {X : Type 0} (z : Size) (W : Quorum (z .n)) (C : LabelCodec X) (K : RecordCodec X) (E : Code X (z .n) (K .c) W) (S : Stamps) (R : Medium z W C K E S) where
+module _ {X : Type 0} (z : Size) (W : Quorum (z .n)) (C : LabelCodec X (z .n)) (K : RecordCodec X) (E : Code X (z .n) (K .c) W) (S : Stamps) (R : Medium z W C K E S) where
   -- CREATE ON CACHED ZEROS. The disks read as zeros, and may hold anything else if power is lost. Once create is done, the shelf holds the list of zeros for good.
   pub create-cached : (w : World X) → Sane w → Zeros z W C K E S R (w .cur) → W .few (λ d. false) ≡ true → 1 ≤ R .greatest → Invariant z W C K E S R (at (run w (flushes (flushed-first z W C K E S R (beyond (z .n) (λ d. false))) ++ round C (new-label (z .n) 1) (from 0 (z .n)))) (idle (created z W C K E S R))) (sure (λ t i j. K .zeros))
   unfolding table

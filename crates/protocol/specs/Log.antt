@@ -27,7 +27,7 @@ pub record RecordCodec (X : Type 0) : Type 1 where
   pub changesOf : X → ℕ → Bool
   pub piece : X → X → ℕ → X
   pub stamp-zeros : stamp zeros ≡ 0
-  pub stamp-sector : (σ : ℕ) (w : Write X) (d j : ℕ) → Fits σ w → stamp (sector σ w d j) ≡ σ
+  pub stamp-sector : (σ : ℕ) (w : Write X) (d j : ℕ) → Fits σ w → j ≤ c → stamp (sector σ w d j) ≡ σ
   pub stripe-tail : (σ : ℕ) (w : Write X) (d : ℕ) → Fits σ w → stripeOf (sector σ w d c) ≡ w .stripe
   pub changes-tail : (σ : ℕ) (w : Write X) (d e : ℕ) → Fits σ w → changesOf (sector σ w d c) e ≡ w .changes e
   pub piece-back : (σ : ℕ) (w : Write X) (d j : ℕ) → Fits σ w → j < c → piece (sector σ w d c) (sector σ w d j) j ≡ w .new d j
@@ -108,10 +108,10 @@ module _ {X : Type 0} (K : RecordCodec X) (B : Belief) (history : ℕ → Write 
       }
     where
       le-u : K .stamp x ≤ u
-      le-u = ⊎-elim (λ q. omega arith) (λ q. omega (arith, ap (K .stamp) (q .0) ∙ K .stamp-sector u (history u) d j (q .3))) fit
+      le-u = ⊎-elim (λ q. omega arith) (λ q. omega (arith, ap (K .stamp) (q .0) ∙ K .stamp-sector u (history u) d j (q .3) h)) fit
 
       is-u : (τ : ℕ) → K .stamp x ≡ suc τ → (x ≡ K .sector u (history u) d j) × (history u .changes d ≡ true) × (B .believe d (history u .stripe) ≡ true) × (u ≡ suc τ) × K .Fits u (history u)
-      is-u τ z = ⊎-elim (λ q. absurd (omega arith)) (λ q. (q .0, q .1, q .2, sym (ap (K .stamp) (q .0) ∙ K .stamp-sector u (history u) d j (q .3)) ∙ z, q .3)) fit
+      is-u τ z = ⊎-elim (λ q. absurd (omega arith)) (λ q. (q .0, q .1, q .2, sym (ap (K .stamp) (q .0) ∙ K .stamp-sector u (history u) d j (q .3) h) ∙ z, q .3)) fit
 
       new-real : (e i τ : ℕ) → log e i ≡ log d j → K .stamp x ≡ suc τ → (x ≡ K .sector (suc τ) (history (suc τ)) e i) × (history (suc τ) .changes e ≡ true) × K .Fits (suc τ) (history (suc τ))
       new-real e i τ q z =

@@ -32,7 +32,7 @@ pub data Event (X : Type 0) : Type 0 where
   swap : Event X
   ask : Input X → Reply X → Event X
 
-module _ {X : Type 0} (z : Size) (W : Quorum (z .n)) (C : LabelCodec X) (K : RecordCodec X) (E : Code X (z .n) (K .c) W) (S : Stamps) (R : Medium z W C K E S) where
+module _ {X : Type 0} (z : Size) (W : Quorum (z .n)) (C : LabelCodec X (z .n)) (K : RecordCodec X) (E : Code X (z .n) (K .c) W) (S : Stamps) (R : Medium z W C K E S) where
   -- ALL THAT IS ASSUMED OF THE WORLD: beside the program's own actions nothing else happens to the disks than this.
   pub data Outside : Machine X → Event X → Machine X → Type 1 where
     -- power is lost at any moment: each sector then holds something that its cache allows, each by itself; all that the program knew is lost

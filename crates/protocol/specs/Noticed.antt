@@ -20,7 +20,7 @@ use Rattle.protocol.specs.Exchange.{Disks, room, moved, pile, Familiar, 
 use Rattle.protocol.specs.Apart.{same-nat, chosen, Whole, AtHome, settled-dark}
 use Rattle.protocol.specs.Exchanged.{OffAll, low, Made, Holds, made-or-not, ready-kin}
 
-module _ {X : Type 0} (z : Size) (W : Quorum (z .n)) (C : LabelCodec X) (K : RecordCodec X) (E : Code X (z .n) (K .c) W) (S : Stamps) (R : Medium z W C K E S) where
+module _ {X : Type 0} (z : Size) (W : Quorum (z .n)) (C : LabelCodec X (z .n)) (K : RecordCodec X) (E : Code X (z .n) (K .c) W) (S : Stamps) (R : Medium z W C K E S) where
   -- ANOTHER DISK IS NOTICED. No program runs, and then a start-up is not refused. A slot whose bay holds another disk than its last is not looked at by the label that this start-up
   -- settles: nothing of that disk is believed.
   pub noticed : (w : World X) (x : Disks X) (p : View X) (h : OffAll z W C K E S R p w x) → x .made ≡ true → (A : ℕ → Bool) → may-start z W C K E S R (beyond (z .n) A) (mask z W C K E S R (beyond (z .n) A) (w .cur)) ≡ clear → Familiar z W C K E S R (beyond (z .n) A) x ⊎ Newest z W C K E S R (beyond (z .n) A) w x → (d : ℕ) → moved x d ≡ true → looked z (settled z C K (beyond (z .n) A) (mask z W C K E S R (beyond (z .n) A) (w .cur))) d ≡ true → ⊥

@@ -27,7 +27,7 @@ plainly f (done k) = f
 plainly f (block b) = f
 plainly f (found x) = f
 
-module _ {X : Type 0} (z : Size) (W : Quorum (z .n)) (C : LabelCodec X) (K : RecordCodec X) (E : Code X (z .n) (K .c) W) (S : Stamps) (R : Medium z W C K E S) where
+module _ {X : Type 0} (z : Size) (W : Quorum (z .n)) (C : LabelCodec X (z .n)) (K : RecordCodec X) (E : Code X (z .n) (K .c) W) (S : Stamps) (R : Medium z W C K E S) where
   pub data Ordered : Image X → Memory X → List (Event X) → Image X → Memory X → Type 0 where
     ends : {f : Image X} {m : Memory X} → Ordered f m [] f m
     cuts : {f g : Image X} {m m' : Memory X} {l : List (Event X)} → Ordered f nothing l g m' → Ordered f m (cut ∷ l) g m'

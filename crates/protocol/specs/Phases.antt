@@ -64,7 +64,7 @@ module _ {X : Type 0} where
   advances (within w (flushing d (suc l)) ws) = onward w (flushing d (suc l)) ws
 
 -- the walks of the program's batches
-module _ {X : Type 0} (C : LabelCodec X) (K : RecordCodec X) where
+module _ {X : Type 0} {n : ℕ} (C : LabelCodec X n) (K : RecordCodec X) where
   abbrev pub label-phase : Label → ℕ → (ℕ → Bool) → Walk X
   label-phase l n p = record { a = 0; n = n; test = p; b = 0; c = 1; place = there C l; value = told C l; first-flush = 0; flushes-n = n; flush-test = p }
 
@@ -107,7 +107,7 @@ module _ {X : Type 0} (C : LabelCodec X) (K : RecordCodec X) where
       go false true = ap actions (store-walk C K B (K .stripeOf (tail K B f)) (K .changesOf (tail K B f)) (redone K B f)) ∙ sym (append-nil (actions (batch-of (store-phase B (K .stripeOf (tail K B f)) (K .changesOf (tail K B f)) (redone K B f)))))
       go false false = ap actions (kill-walk C K B f) ∙ sym (append-nil (actions (batch-of (kill-phase B f))))
 
-module _ {X : Type 0} (z : Size) (W : Quorum (z .n)) (C : LabelCodec X) (K : RecordCodec X) (E : Code X (z .n) (K .c) W) (S : Stamps) (R : Medium z W C K E S) where
+module _ {X : Type 0} (z : Size) (W : Quorum (z .n)) (C : LabelCodec X (z .n)) (K : RecordCodec X) (E : Code X (z .n) (K .c) W) (S : Stamps) (R : Medium z W C K E S) where
   -- A LABEL CHANGE: one round
   pub change-phases : (l : Label) (A : ℕ → Bool) → round C l (told-to z W C K E S R A) ≡ all-of (label-phase C K l (z .n) (λ d. not (A d)) ∷ [])
   unfolding told-to

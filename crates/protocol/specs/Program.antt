@@ -24,15 +24,16 @@ pub record Stamps : Type 0 where
   pub rises : (e : ℕ) → base e < base (suc e)
   pub grows : (e g : ℕ) → e ≤ g → base e ≤ base g
 
--- A label as document 03 has it: no slot beyond n is out, the slot being rebuilt is out, n stands for none, the mark is at most T.
+-- A label as document 03 has it: no slot beyond n is out, the slot being rebuilt is out, n stands for none, the mark is at most T, and 0 where none is being rebuilt.
 pub record Proper (z : Size) (l : Label) : Type 0 where
   pub inside : (d : ℕ) → z .n ≤ d → l .out d ≡ false
   pub slot-or-none : l .rebuilding ≤ z .n
   pub also-out : l .rebuilding < z .n → l .out (l .rebuilding) ≡ true
   pub mark-T : l .mark ≤ z .T
+  pub unmarked : l .rebuilding ≡ z .n → l .mark ≡ 0
 
 -- What the sectors can hold: every proper label up to the greatest generation, and every record up to the stamps of that epoch; and what zeros mean.
-pub record Medium {X : Type 0} (z : Size) (W : Quorum (z .n)) (C : LabelCodec X) (K : RecordCodec X) (E : Code X (z .n) (K .c) W) (S : Stamps) : Type 0 where
+pub record Medium {X : Type 0} (z : Size) (W : Quorum (z .n)) (C : LabelCodec X (z .n)) (K : RecordCodec X) (E : Code X (z .n) (K .c) W) (S : Stamps) : Type 0 where
   pub greatest : ℕ
   pub fits : (l : Label) → Proper z l → 0 < l .generation → l .generation ≤ greatest → C .Fits l
   pub is-proper : (l : Label) → C .Fits l → Proper z l × (l .generation ≤ greatest)
@@ -117,7 +118,7 @@ new-label n g = record { generation = g; out = λ d. false; rebuilding = n; mark
 abbrev pub beyond : ℕ → (ℕ → Bool) → ℕ → Bool
 beyond n absent d = absent d || not (ltb d n)
 
-module _ {X : Type 0} (z : Size) (W : Quorum (z .n)) (C : LabelCodec X) (K : RecordCodec X) (E : Code X (z .n) (K .c) W) (S : Stamps) (R : Medium z W C K E S) where
+module _ {X : Type 0} (z : Size) (W : Quorum (z .n)) (C : LabelCodec X (z .n)) (K : RecordCodec X) (E : Code X (z .n) (K .c) W) (S : Stamps) (R : Medium z W C K E S) where
   -- what is seen of an image
   unfoldable pub mask : (ℕ → Bool) → Image X → Image X
   mask absent f k = cond (absent (slot k)) (K .zeros) (f k)

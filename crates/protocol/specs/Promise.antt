@@ -75,6 +75,7 @@ module _ (z : Size) where
         slot-or-none = go1 (gone (l .rebuilding));
         also-out = λ i. go2 (gone (l .rebuilding)) i;
         mark-T = go3 (gone (l .rebuilding));
+        unmarked = go4 (gone (l .rebuilding));
       }
     where
       go1 : (b : Bool) → cond b (z .n) (l .rebuilding) ≤ z .n
@@ -89,22 +90,26 @@ module _ (z : Size) where
       go3 true = omega arith
       go3 false = p .mark-T
 
+      go4 : (b : Bool) → cond b (z .n) (l .rebuilding) ≡ z .n → cond b 0 (l .mark) ≡ 0
+      go4 true e = refl
+      go4 false e = p .unmarked e
+
   proper-again : (l : Label) (g : ℕ) → Proper z l → Proper z (again l g)
-  proper-again l g p = record { inside = p .inside; slot-or-none = p .slot-or-none; also-out = p .also-out; mark-T = p .mark-T }
+  proper-again l g p = record { inside = p .inside; slot-or-none = p .slot-or-none; also-out = p .also-out; mark-T = p .mark-T; unmarked = p .unmarked }
 
   pub proper-begun : (l : Label) (d : ℕ) → d < z .n → l .out d ≡ true → Proper z l → Proper z (begun l d)
-  proper-begun l d i o p = record { inside = p .inside; slot-or-none = omega arith; also-out = λ j. o; mark-T = omega arith }
+  proper-begun l d i o p = record { inside = p .inside; slot-or-none = omega arith; also-out = λ j. o; mark-T = omega arith; unmarked = λ e. refl }
 
-  pub proper-raised : (l : Label) (m : ℕ) → m ≤ z .T → Proper z l → Proper z (raised l m)
-  proper-raised l m i p = record { inside = p .inside; slot-or-none = p .slot-or-none; also-out = p .also-out; mark-T = i }
+  pub proper-raised : (l : Label) (m : ℕ) → l .rebuilding < z .n → m ≤ z .T → Proper z l → Proper z (raised l m)
+  proper-raised l m r i p = record { inside = p .inside; slot-or-none = p .slot-or-none; also-out = p .also-out; mark-T = i; unmarked = λ e. absurd (omega arith) }
 
   pub proper-healed : (l : Label) → Proper z l → Proper z (healed (z .n) l)
-  proper-healed l p = record { inside = λ d i. rw (p .inside d i); slot-or-none = omega arith; also-out = λ j. absurd (omega arith); mark-T = omega arith }
+  proper-healed l p = record { inside = λ d i. rw (p .inside d i); slot-or-none = omega arith; also-out = λ j. absurd (omega arith); mark-T = omega arith; unmarked = λ e. refl }
 
   pub proper-new : (g : ℕ) → Proper z (new-label (z .n) g)
-  proper-new g = record { inside = λ d i. refl; slot-or-none = omega arith; also-out = λ j. absurd (omega arith); mark-T = omega arith }
+  proper-new g = record { inside = λ d i. refl; slot-or-none = omega arith; also-out = λ j. absurd (omega arith); mark-T = omega arith; unmarked = λ e. refl }
 
-module _ {X : Type 0} (z : Size) (W : Quorum (z .n)) (C : LabelCodec X) (K : RecordCodec X) (E : Code X (z .n) (K .c) W) (S : Stamps) (R : Medium z W C K E S) where
+module _ {X : Type 0} (z : Size) (W : Quorum (z .n)) (C : LabelCodec X (z .n)) (K : RecordCodec X) (E : Code X (z .n) (K .c) W) (S : Stamps) (R : Medium z W C K E S) where
   abbrev tableOf : Host X → Table X
   tableOf = table z W K E
 
@@ -668,7 +673,7 @@ module _ {X : Type 0} (z : Size) (W : Quorum (z .n)) (C : LabelCodec X) (K : Rec
         let N = raised Q (Q .mark + more) in
         let ds = told-to z W C K E S R (o .absent) in
         let F = filling z W C K E S R o seen-o more in
-        let sound : Proper z N = proper-raised z Q (Q .mark + more) inT (h .sound) in
+        let sound : Proper z N = proper-raised z Q (Q .mark + more) i inT (h .sound) in
         label-busy (F ++ round C N ds) (relabelled z W C K E S R o N) refl refl refl room sound (λ e a l. h .dark e a l)
         (each-append (λ k. o .absent (slot k) ≡ false) (λ e. o .absent e ≡ false) F (round C N ds) (fill-spares z W C K (o .absent) Q (h .dark) i more (rebuilt z W K E Q seen-o (Q .rebuilding))) (round-spares z W C K (o .absent) N ds (told-present (o .absent))))
         (on-safe z W C K (h .history) (h .u) (tableOf v) Q N more (rebuilt z W K E Q seen-o (Q .rebuilding)) ds (h .sound .also-out i) (λ e l. l)

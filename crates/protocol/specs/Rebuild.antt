@@ -68,7 +68,7 @@ module _ {X : Type 0} (K : RecordCodec X) where
   unfolding flushed-at-begin
   begin-flushes d = List·Memᴰ·head refl
 
-  abbrev pub beginning : LabelCodec X → Image X → Label → ℕ → List ℕ → List (Action X)
+  abbrev pub beginning : {n : ℕ} → LabelCodec X n → Image X → Label → ℕ → List ℕ → List (Action X)
   beginning C f0 Q d ds = flushes (flushed-at-begin d) ++ (wipe d ++ (prep C f0 (Q .generation) Q (d ∷ []) ++ round C (begun Q d) ds))
 
   -- ON: the strips from the mark on, flush; then the round
@@ -88,7 +88,7 @@ module _ {X : Type 0} (K : RecordCodec X) where
   abbrev pub fill : Label → ℕ → (ℕ → ℕ → X) → List (Action X)
   fill Q more v = actions (fill-batch Q more v)
 
-module _ {X : Type 0} (z : Size) (W : Quorum (z .n)) (C : LabelCodec X) (K : RecordCodec X) (history : ℕ → Write X) (u : ℕ) (s : Table X) where
+module _ {X : Type 0} (z : Size) (W : Quorum (z .n)) (C : LabelCodec X (z .n)) (K : RecordCodec X) (history : ℕ → Write X) (u : ℕ) (s : Table X) where
   abbrev QuietB : Belief → Image X → Type 0
   QuietB B f = Quiet K B history u s f
 

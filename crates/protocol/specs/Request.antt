@@ -19,7 +19,7 @@ use Rattle.protocol.specs.Decide.{Touch, Looked, log-each, strips-each, 
 abbrev pub outed : ℕ → Label → ℕ → Label
 outed n Q d = without n Q (λ e. eqb e d) (suc (Q .generation))
 
-module _ {X : Type 0} (z : Size) (W : Quorum (z .n)) (C : LabelCodec X) (K : RecordCodec X) where
+module _ {X : Type 0} (z : Size) (W : Quorum (z .n)) (C : LabelCodec X (z .n)) (K : RecordCodec X) where
   -- WRITE, steps 2 and 3. All the while: old. Then: safe.
   pub log-rest : (history history' : ℕ → Write X) (u σ : ℕ) (s s' : Table X) (Q : Label) → u < σ → ((τ : ℕ) → τ ≤ u → history τ ≡ history' τ) → Wrote (z .n) (K .c) (history' σ) s s' → K .Fits σ (history' σ) → (w : World X) → Sane w → Always w (Rest z W C K history u Q s) → During w (log-write K (belief z Q) σ (history' σ)) (λ f. Labels z W C Q Q (Q .generation) (Q .out) f × Old K (belief z Q) history' σ σ s f) × Always (run w (log-write K (belief z Q) σ (history' σ))) (λ f. Labels z W C Q Q (Q .generation) (Q .out) f × New K (belief z Q) history' σ s' f)
   unfolding Always Touch belief
@@ -79,8 +79,8 @@ module _ {X : Type 0} (z : Size) (W : Quorum (z .n)) (C : LabelCodec X) (K : Rec
         )) h in
         let r = round-only z W C Q N (N .generation) (Q .out) N ds E bare w sane fit (omega arith) (omega arith) (omega arith) okN start in (
           during-map (λ f. Labels z W C Q N (N .generation) (Q .out) f × E f × Only z W C (N .generation) N f) (λ f. Shelf z W C Q QuietB f × QuietB (belief z Q) f) w (round C N ds) (λ f o. (record { Q = Q; since = inl refl; N = N; top = N .generation; far = Q .out; labels = o .0; under-Q = o .1 .0; under-N = o .1 .1 }, o .1 .0)) (r .0),
-          always-map (λ f. (Labels z W C Q N (N .generation) (Q .out) f × E f × Only z W C (N .generation) N f) × ((d x : ℕ) → List·Memᴰ d ds → x ≤ N .generation → Aged C f d x)) (Rest z W C K history u N s) (run w (round C N ds))
-              (λ f o. record { labels = labels-settle z W C N f few (λ d x i e j. o .1 d x (all d i e) j) (o .0 .2) (o .0 .0 .cap); quiet = o .0 .1 .1 }) (r .1),
+          always-map (λ f. (Labels z W C Q N (N .generation) (Q .out) f × E f × Only z W C (N .generation) N f) × ((d x : ℕ) → List·Memᴰ d ds → d < z .n → x ≤ N .generation → Aged C f d x)) (Rest z W C K history u N s) (run w (round C N ds))
+              (λ f o. record { labels = labels-settle z W C N f few (λ d x i e j. o .1 d x (all d i e) i j) (o .0 .2) (o .0 .0 .cap); quiet = o .0 .1 .1 }) (r .1),
         )
 
     -- TAKE SLOT d OUT

@@ -28,7 +28,7 @@ pub not-not : (b : Bool) → not (not b) ≡ b
 not-not true = refl
 not-not false = refl
 
-module _ {X : Type 0} (C : LabelCodec X) where
+module _ {X : Type 0} {n : ℕ} (C : LabelCodec X n) where
   -- zeros, or a valid copy
   abbrev pub Calm : Image X → ℕ → Bool → Type 0
   Calm f d b = (f (label d b) ≡ C .zeros) ⊎ (0 < copy C f d b .generation)
@@ -92,17 +92,17 @@ module _ {X : Type 0} (C : LabelCodec X) where
             (subst (λ (v : X). 0 < C .decode e y (f (label e y)) .generation → 0 < C .decode e (not y) v .generation → (C .decode e y (f (label e y)) .generation ≡ suc (C .decode e (not y) v .generation)) ⊎ (C .decode e (not y) v .generation ≡ suc (C .decode e y (f (label e y)) .generation))) (sym (s (not y))) (h .follow y));
       }
 
-  abbrev pub Shapes : ℕ → Image X → Type 0
-  Shapes n f = (d : ℕ) → d < n → Shape f d
+  abbrev pub Shapes : Image X → Type 0
+  Shapes f = (d : ℕ) → d < n → Shape f d
 
-  told-top : (l : Label) (g : ℕ) (f : Image X) (d : ℕ) → l .generation ≡ suc g → C .Fits l → f (label d (C .side (l .generation))) ≡ C .encode d l → copy C f d (C .side (suc g)) .generation ≡ suc g
+  told-top : (l : Label) (g : ℕ) (f : Image X) (d : ℕ) → d < n → l .generation ≡ suc g → C .Fits l → f (label d (C .side (l .generation))) ≡ C .encode d l → copy C f d (C .side (suc g)) .generation ≡ suc g
   unfolding copy
-  told-top l g f d e fit h =
-      let y : C .decode d (C .side (l .generation)) (f (label d (C .side (l .generation)))) .generation ≡ suc g = ap (λ (x : X). C .decode d (C .side (l .generation)) x .generation) h ∙ (ap (λ (x : Label). x .generation) (C .decode-encode d l fit) ∙ e) in
+  told-top l g f d i e fit h =
+      let y : C .decode d (C .side (l .generation)) (f (label d (C .side (l .generation)))) .generation ≡ suc g = ap (λ (x : X). C .decode d (C .side (l .generation)) x .generation) h ∙ (ap (λ (x : Label). x .generation) (C .decode-encode d l i fit) ∙ e) in
       subst (λ (a : ℕ). C .decode d (C .side a) (f (label d (C .side a))) .generation ≡ suc g) e y
 
-  shapes-put : (n : ℕ) (l : Label) (g : ℕ) (f : Image X) (d : ℕ) → l .generation ≡ suc g → C .Fits l → Low f d g → Shapes n f → Shapes n (update f (label d (C .side (l .generation))) (C .encode d l))
-  shapes-put n l g f d e fit low h x i = go (ℕ-discrete x d)
+  shapes-put : (l : Label) (g : ℕ) (f : Image X) (d : ℕ) → l .generation ≡ suc g → C .Fits l → Low f d g → Shapes f → Shapes (update f (label d (C .side (l .generation))) (C .encode d l))
+  shapes-put l g f d e fit low h x i = go (ℕ-discrete x d)
     where
       f' : Image X
       f' = update f (label d (C .side (l .generation))) (C .encode d l)
@@ -111,25 +111,25 @@ module _ {X : Type 0} (C : LabelCodec X) where
       lower = subst (λ (a : ℕ). Low (update f (label d (C .side a)) (C .encode d l)) d g) (sym e) (low-put f d g (C .encode d l) d low)
 
       go : Dec (x ≡ d) → Shape (update f (label d (C .side (l .generation))) (C .encode d l)) x
-      go (yes q) = subst (Shape f') (sym q) (top-shape f' d g (told-top l g f' d e fit (update-here f (label d (C .side (l .generation))) (C .encode d l)), lower))
+      go (yes q) = subst (Shape f') (sym q) (top-shape f' d g (told-top l g f' d (omega arith) e fit (update-here f (label d (C .side (l .generation))) (C .encode d l)), lower))
       go (no q) = shape-other f d (C .side (l .generation)) (C .encode d l) x q (h x i)
 
   -- A ROUND of generation g + 1 over disks that are ready for it keeps the shape of all. F: what labels of these disks leave alone.
-  pub round-shape : (n : ℕ) (l : Label) (g : ℕ) (ds : List ℕ) (F : Image X → Type 0) → ((f : Image X) (d : ℕ) (b : Bool) (x : X) → List·Memᴰ d ds → F f → F (update f (label d b) x)) → l .generation ≡ suc g → C .Fits l → (w : World X) → Sane w → Always w (λ f. Shapes n f × ((d : ℕ) → List·Memᴰ d ds → Low f d g) × F f) → During w (round C l ds) (λ f. Shapes n f × F f) × Always (run w (round C l ds)) (λ f. Shapes n f × ((d : ℕ) → List·Memᴰ d ds → Top f d g) × F f)
+  pub round-shape : (l : Label) (g : ℕ) (ds : List ℕ) (F : Image X → Type 0) → ((f : Image X) (d : ℕ) (b : Bool) (x : X) → List·Memᴰ d ds → F f → F (update f (label d b) x)) → l .generation ≡ suc g → C .Fits l → ((d : ℕ) → List·Memᴰ d ds → d < n) → (w : World X) → Sane w → Always w (λ f. Shapes f × ((d : ℕ) → List·Memᴰ d ds → Low f d g) × F f) → During w (round C l ds) (λ f. Shapes f × F f) × Always (run w (round C l ds)) (λ f. Shapes f × ((d : ℕ) → List·Memᴰ d ds → Top f d g) × F f)
   unfolding round-batch Kept Covered Done
-  round-shape n l g ds F keeps e fit w sane h =
-      let P : Image X → Type 0 = λ f. Shapes n f × ((d : ℕ) → List·Memᴰ d ds → Low f d g) × F f in
-      let r = stage P (λ f. Shapes n f × ((d : ℕ) → List·Memᴰ d ds → Top f d g) × F f) w (round-batch C l ds) sane h
+  round-shape l g ds F keeps e fit low w sane h =
+      let P : Image X → Type 0 = λ f. Shapes f × ((d : ℕ) → List·Memᴰ d ds → Low f d g) × F f in
+      let r = stage P (λ f. Shapes f × ((d : ℕ) → List·Memᴰ d ds → Top f d g) × F f) w (round-batch C l ds) sane h
       (λ k m f o.
       let y = of-rows (there C l) (0 ∷ []) ds k m in
       rw (y .4) (
-        shapes-put n l g f (y .0) e fit (o .1 (y .0) (y .2)) (o .0),
+        shapes-put l g f (y .0) e fit (o .1 (y .0) (y .2)) (o .0),
         (λ d i. subst (λ (a : ℕ). Low (update f (label (y .0) (C .side a)) (C .encode (y .0) l)) d g) (sym e) (low-put f (y .0) g (C .encode (y .0) l) d (o .1 d i))),
         keeps f (y .0) (C .side (l .generation)) (C .encode (y .0) l) (y .2) (o .2),
       ))
       (rows-slots (there C l) (0 ∷ []) ds (λ d j. refl))
-      (λ f o done. (o .0, (λ d i. (told-top l g f d e fit (done (label d (C .side (l .generation))) (in-rows (there C l) (0 ∷ []) ds d 0 i (List·Memᴰ·head refl))), o .1 d i)), o .2)) in
-      (during-map P (λ f. Shapes n f × F f) w (round C l ds) (λ f o. (o .0, o .2)) (r .0), r .1)
+      (λ f o done. (o .0, (λ d i. (told-top l g f d (low d i) e fit (done (label d (C .side (l .generation))) (in-rows (there C l) (0 ∷ []) ds d 0 i (List·Memᴰ·head refl))), o .1 d i)), o .2)) in
+      (during-map P (λ f. Shapes f × F f) w (round C l ds) (λ f o. (o .0, o .2)) (r .0), r .1)
 
   -- what prep puts: zeros, or a label of generation g where the other sector holds no valid copy
   prep-cases : (f0 : Image X) (g : ℕ) (l : Label) (d : ℕ) → (prep-value C f0 g l (label d (C .side g)) ≡ C .zeros) ⊎ ((prep-value C f0 g l (label d (C .side g)) ≡ C .encode d (again l g)) × (copy C f0 d (C .side (suc g)) .generation ≡ 0))
@@ -157,7 +157,7 @@ module _ {X : Type 0} (C : LabelCodec X) where
       none s (inr e) p q (inl y) = omega (arith, q, ap G (ap not e ∙ not-not (C .side g)), y)
       none s (inr e) p q (inr y) = omega (arith, p, ap G (e ∙ sym (C .side-next g)), y)
 
-  module _ (n : ℕ) (f0 : Image X) (g : ℕ) (l : Label) (ds : List ℕ) (F : Image X → Type 0) (keeps : (f : Image X) (d : ℕ) (b : Bool) (x : X) → List·Memᴰ d ds → F f → F (update f (label d b) x)) (pos : 0 < g) (fit : C .Fits (again l g)) (low : (d : ℕ) → List·Memᴰ d ds → d < n) where
+  module _ (f0 : Image X) (g : ℕ) (l : Label) (ds : List ℕ) (F : Image X → Type 0) (keeps : (f : Image X) (d : ℕ) (b : Bool) (x : X) → List·Memᴰ d ds → F f → F (update f (label d b) x)) (pos : 0 < g) (fit : C .Fits (again l g)) (low : (d : ℕ) → List·Memᴰ d ds → d < n) where
     abbrev value : ℕ → X
     value d = prep-value C f0 g l (label d (C .side g))
 
@@ -171,31 +171,31 @@ module _ {X : Type 0} (C : LabelCodec X) where
       update-other f (label d (C .side g)) (value d) (label e (C .side (suc g))) (λ q. let y : C .side (suc g) ≡ C .side g = cc in not-self (C .side g) (sym (C .side-next g) ∙ y)) ∙ h .1,
     )
 
-    value-copy : (f : Image X) (d : ℕ) → f (label d (C .side g)) ≡ value d → (f (label d (C .side g)) ≡ C .zeros) ⊎ ((copy C f d (C .side g) .generation ≡ g) × (copy C f0 d (C .side (suc g)) .generation ≡ 0))
+    value-copy : (f : Image X) (d : ℕ) → d < n → f (label d (C .side g)) ≡ value d → (f (label d (C .side g)) ≡ C .zeros) ⊎ ((copy C f d (C .side g) .generation ≡ g) × (copy C f0 d (C .side (suc g)) .generation ≡ 0))
     unfolding copy
-    value-copy f d e =
+    value-copy f d i e =
         ⊎-elim (λ q. inl (e ∙ q))
-        (λ q. inr (ap (λ (x : X). C .decode d (C .side g) x .generation) (e ∙ q .0) ∙ ap (λ (x : Label). x .generation) (C .decode-encode d (again l g) fit), q .1)) (prep-cases f0 g l d)
+        (λ q. inr (ap (λ (x : X). C .decode d (C .side g) x .generation) (e ∙ q .0) ∙ ap (λ (x : Label). x .generation) (C .decode-encode d (again l g) i fit), q .1)) (prep-cases f0 g l d)
 
-    put-shape : (f : Image X) (d : ℕ) → Half f d → Shape f d → Shape (update f (label d (C .side g)) (value d)) d
+    put-shape : (f : Image X) (d : ℕ) → d < n → Half f d → Shape f d → Shape (update f (label d (C .side g)) (value d)) d
     unfolding copy
-    put-shape f d h s =
+    put-shape f d i h s =
         let f' = update f (label d (C .side g)) (value d) in
         let here : f' (label d (C .side g)) ≡ value d = update-here f (label d (C .side g)) (value d) in
         let there : f' (label d (C .side (suc g))) ≡ f (label d (C .side (suc g))) = update-other f (label d (C .side g)) (value d) (label d (C .side (suc g))) (λ q. let y : C .side (suc g) ≡ C .side g = cc in not-self (C .side g) (sym (C .side-next g) ∙ y)) in
         let calm : Calm f' d (C .side (suc g)) = subst (λ (x : X). (x ≡ C .zeros) ⊎ (0 < C .decode d (C .side (suc g)) x .generation)) (sym there) (s .calm (C .side (suc g))) in
         ⊎-elim (λ q. lone f' d g (inl q) calm (inl (zero-copy f' d (C .side g) q)))
-        (λ q. lone f' d g (inr (omega (arith, q .0, pos))) calm (inr (ap (λ (x : X). C .decode d (C .side (suc g)) x .generation) (there ∙ h .1) ∙ q .1))) (value-copy f' d here)
+        (λ q. lone f' d g (inr (omega (arith, q .0, pos))) calm (inr (ap (λ (x : X). C .decode d (C .side (suc g)) x .generation) (there ∙ h .1) ∙ q .1))) (value-copy f' d i here)
 
     -- PREP keeps the shape, and readies its disks
-    pub prep-shape : (w : World X) → Sane w → Always w (λ f. Shapes n f × ((d : ℕ) (b : Bool) → List·Memᴰ d ds → f (label d b) ≡ f0 (label d b)) × F f) → During w (prep C f0 g l ds) (λ f. Shapes n f × F f) × Always (run w (prep C f0 g l ds)) (λ f. Shapes n f × ((d : ℕ) → List·Memᴰ d ds → Low f d g) × F f)
+    pub prep-shape : (w : World X) → Sane w → Always w (λ f. Shapes f × ((d : ℕ) (b : Bool) → List·Memᴰ d ds → f (label d b) ≡ f0 (label d b)) × F f) → During w (prep C f0 g l ds) (λ f. Shapes f × F f) × Always (run w (prep C f0 g l ds)) (λ f. Shapes f × ((d : ℕ) → List·Memᴰ d ds → Low f d g) × F f)
     unfolding prep-batch Kept Covered Done
     prep-shape w sane h =
         let un : ℕ → Bool = λ d. not (prepared C f0 g d) in
         let es = keep un ds in
-        let P : Image X → Type 0 = λ f. Shapes n f × ((d : ℕ) → List·Memᴰ d ds → Half f d) × F f in
-        let r = stage P (λ f. Shapes n f × ((d : ℕ) → List·Memᴰ d ds → Low f d g) × F f) w (prep-batch C f0 g l ds) sane
-        (always-map (λ f. Shapes n f × ((d : ℕ) (b : Bool) → List·Memᴰ d ds → f (label d b) ≡ f0 (label d b)) × F f) P w (λ f o. (o .0, (λ d m. (inl (o .1 d (C .side g) m), o .1 d (C .side (suc g)) m)), o .2)) h)
+        let P : Image X → Type 0 = λ f. Shapes f × ((d : ℕ) → List·Memᴰ d ds → Half f d) × F f in
+        let r = stage P (λ f. Shapes f × ((d : ℕ) → List·Memᴰ d ds → Low f d g) × F f) w (prep-batch C f0 g l ds) sane
+        (always-map (λ f. Shapes f × ((d : ℕ) (b : Bool) → List·Memᴰ d ds → f (label d b) ≡ f0 (label d b)) × F f) P w (λ f o. (o .0, (λ d m. (inl (o .1 d (C .side g) m), o .1 d (C .side (suc g)) m)), o .2)) h)
         (λ k m f o.
         let y = of-prep C g es k m in
         let i = of-keep un ds (y .0) (y .1) .0 in
@@ -206,14 +206,14 @@ module _ {X : Type 0} (C : LabelCodec X) where
         ))
         (prep-slots C g es)
         (λ f o done. (o .0, (λ d m. ready f d m (o .1 d m) (λ e. done (label d (C .side g)) (in-prep C g es d (in-keep un ds d m e))) (prepared C f0 g d) refl), o .2)) in
-        (during-map P (λ f. Shapes n f × F f) w (prep C f0 g l ds) (λ f o. (o .0, o .2)) (r .0), r .1)
+        (during-map P (λ f. Shapes f × F f) w (prep C f0 g l ds) (λ f o. (o .0, o .2)) (r .0), r .1)
       where
-        one : (f : Image X) (e : ℕ) → List·Memᴰ e ds → Half f e → Shapes n f → (d : ℕ) → d < n → Dec (d ≡ e) → Shape (update f (label e (C .side g)) (value e)) d
-        one f e i a s d j (yes q) = subst (Shape (update f (label e (C .side g)) (value e))) (sym q) (put-shape f e a (s e (low e i)))
+        one : (f : Image X) (e : ℕ) → List·Memᴰ e ds → Half f e → Shapes f → (d : ℕ) → d < n → Dec (d ≡ e) → Shape (update f (label e (C .side g)) (value e)) d
+        one f e i a s d j (yes q) = subst (Shape (update f (label e (C .side g)) (value e))) (sym q) (put-shape f e (low e i) a (s e (low e i)))
         one f e i a s d j (no q) = shape-other f e (C .side g) (value e) d q (s d j)
 
-        low-of : (f : Image X) (d : ℕ) → f (label d (C .side g)) ≡ value d → Low f d g
-        low-of f d e = ⊎-elim inl (λ q. inr (pos, q .0)) (value-copy f d e)
+        low-of : (f : Image X) (d : ℕ) → d < n → f (label d (C .side g)) ≡ value d → Low f d g
+        low-of f d i e = ⊎-elim inl (λ q. inr (pos, q .0)) (value-copy f d i e)
 
         old-of : (f : Image X) (d : ℕ) → prepared C f0 g d ≡ true → f (label d (C .side g)) ≡ f0 (label d (C .side g)) → Low f d g
         old-of f d p e = inr (pos, same-copy f d e ∙ eqb-true (copy C f0 d (C .side g) .generation) g p)
@@ -222,5 +222,5 @@ module _ {X : Type 0} (C : LabelCodec X) where
             same-copy f d e = ap (λ (x : Label). x .generation) (copy-same C f0 f d (C .side g) e)
 
         ready : (f : Image X) (d : ℕ) → List·Memᴰ d ds → Half f d → (not (prepared C f0 g d) ≡ true → f (label d (C .side g)) ≡ value d) → (b : Bool) → prepared C f0 g d ≡ b → Low f d g
-        ready f d m h put true e = ⊎-elim (λ q. old-of f d e q) (λ q. low-of f d q) (h .0)
-        ready f d m h put false e = low-of f d (put (rw e))
+        ready f d m h put true e = ⊎-elim (λ q. old-of f d e q) (λ q. low-of f d (low d m) q) (h .0)
+        ready f d m h put false e = low-of f d (low d m) (put (rw e))

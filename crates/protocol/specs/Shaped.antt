@@ -30,10 +30,10 @@ use Rattle.protocol.specs.Swap.{Swapped}
 use Rattle.protocol.specs.Shape.{Shape, Low, Top, Shapes, round-shape, prep-shape}
 use Rattle.protocol.specs.Tidy.{Has, has-low, labels-kept, shape-same, top-same, start-shape}
 
-module _ {X : Type 0} (z : Size) (W : Quorum (z .n)) (C : LabelCodec X) (K : RecordCodec X) (E : Code X (z .n) (K .c) W) (S : Stamps) (R : Medium z W C K E S) where
+module _ {X : Type 0} (z : Size) (W : Quorum (z .n)) (C : LabelCodec X (z .n)) (K : RecordCodec X) (E : Code X (z .n) (K .c) W) (S : Stamps) (R : Medium z W C K E S) where
   -- every present disk has the settled generation
   abbrev pub Current : Own → Image X → Type 0
-  Current o f = Shapes C (z .n) f × ((d : ℕ) → d < z .n → o .absent d ≡ false → Has z W C K f d (o .now .generation))
+  Current o f = Shapes C f × ((d : ℕ) → d < z .n → o .absent d ≡ false → Has z W C K f d (o .now .generation))
 
   -- actions that put data only
   abbrev Data : Place → Type 0
@@ -47,11 +47,11 @@ module _ {X : Type 0} (z : Size) (W : Quorum (z .n)) (C : LabelCodec X) (K : Rec
       each-during Data Any (Current o) (λ f k v t c. ((λ d i. shape-same z W C K f (update f k v) d (λ b. labels-kept z W C K f k v t d b) (c .0 d i)), λ d i a. let y = c .1 d i a in (y .0, y .1, top-same z W C K f (update f k v) d (y .0) (λ b. labels-kept z W C K f k v t d b) (y .2)))) w l sane h e
 
   -- one round over disks that all have the generation before, after whatever came first
-  round-current : (o o' : Own) (ds : List ℕ) → o' .now .generation ≡ suc (o .now .generation) → C .Fits (o' .now) → ((d : ℕ) → d < z .n → o' .absent d ≡ false → List·Memᴰ d ds) → (w : World X) → Sane w → Always w (λ f. Shapes C (z .n) f × ((d : ℕ) → List·Memᴰ d ds → Low C f d (o .now .generation))) → During w (round C (o' .now) ds) (Shapes C (z .n)) × Always (run w (round C (o' .now) ds)) (Current o')
-  round-current o o' ds g fit all w sane h =
-      let P = Shapes C (z .n) in
+  round-current : (o o' : Own) (ds : List ℕ) → o' .now .generation ≡ suc (o .now .generation) → C .Fits (o' .now) → ((d : ℕ) → List·Memᴰ d ds → d < z .n) → ((d : ℕ) → d < z .n → o' .absent d ≡ false → List·Memᴰ d ds) → (w : World X) → Sane w → Always w (λ f. Shapes C f × ((d : ℕ) → List·Memᴰ d ds → Low C f d (o .now .generation))) → During w (round C (o' .now) ds) (Shapes C) × Always (run w (round C (o' .now) ds)) (Current o')
+  round-current o o' ds g fit low all w sane h =
+      let P = Shapes C in
       let q = o .now .generation in
-      let r = round-shape C (z .n) (o' .now) q ds (λ f. Unit {0}) (λ f d b x m u. tt) g fit w sane (always-map (λ f. P f × ((d : ℕ) → List·Memᴰ d ds → Low C f d q)) (λ f. P f × ((d : ℕ) → List·Memᴰ d ds → Low C f d q) × Unit {0}) w (λ f c. (c .0, c .1, tt)) h) in (
+      let r = round-shape C (o' .now) q ds (λ f. Unit {0}) (λ f d b x m u. tt) g fit low w sane (always-map (λ f. P f × ((d : ℕ) → List·Memᴰ d ds → Low C f d q)) (λ f. P f × ((d : ℕ) → List·Memᴰ d ds → Low C f d q) × Unit {0}) w (λ f c. (c .0, c .1, tt)) h) in (
         during-map (λ f. P f × Unit {0}) P w (round C (o' .now) ds) (λ f c. c .0) (r .0),
         always-map (λ f. P f × ((d : ℕ) → List·Memᴰ d ds → Top C f d q) × Unit {0}) (Current o') (run w (round C (o' .now) ds)) (λ f c. (c .0, λ d i a. (q, g, c .1 d (all d i a)))) (r .1),
       )
@@ -74,20 +74,20 @@ module _ {X : Type 0} (z : Size) (W : Quorum (z .n)) (C : LabelCodec X) (K : Rec
   in-told A d i a = Promise.in-present z W C K E S R A d i a
 
   -- a label change of present disks
-  change-shape : (o o' : Own) (l : List (Action X)) → o' .absent ≡ o .absent → o' .now .generation ≡ suc (o .now .generation) → C .Fits (o' .now) → (w : World X) → Sane w → Each Data Any l → Always w (Current o) → During w (l ++ round C (o' .now) (told-to z W C K E S R (o .absent))) (Shapes C (z .n)) × Always (run w (l ++ round C (o' .now) (told-to z W C K E S R (o .absent)))) (Current o')
+  change-shape : (o o' : Own) (l : List (Action X)) → o' .absent ≡ o .absent → o' .now .generation ≡ suc (o .now .generation) → C .Fits (o' .now) → (w : World X) → Sane w → Each Data Any l → Always w (Current o) → During w (l ++ round C (o' .now) (told-to z W C K E S R (o .absent))) (Shapes C) × Always (run w (l ++ round C (o' .now) (told-to z W C K E S R (o .absent)))) (Current o')
   change-shape o o' l same g fit w sane e h =
       let ds = told-to z W C K E S R (o .absent) in
       let a = data-keeps o w l sane e h in
       let w1 = run w l in
-      let r = round-current o o' ds g fit (λ d i x. in-told (o .absent) d i (ap (λ (A : ℕ → Bool). A d) (sym same) ∙ x)) w1 (sane-run w l sane)
-      (always-map (Current o) (λ f. Shapes C (z .n) f × ((d : ℕ) → List·Memᴰ d ds → Low C f d (o .now .generation))) w1 (λ f c. (c .0, λ d m. let y = told-in (o .absent) d m in has-low z W C K f d (o .now .generation) (c .1 d (y .0) (y .1)))) (during-end (Current o) w l a)) in
-      (during-append (Shapes C (z .n)) w l (round C (o' .now) ds) (during-map (Current o) (Shapes C (z .n)) w l (λ f c. c .0) a) (r .0), rw run-append (r .1))
+      let r = round-current o o' ds g fit (λ d m. told-in (o .absent) d m .0) (λ d i x. in-told (o .absent) d i (ap (λ (A : ℕ → Bool). A d) (sym same) ∙ x)) w1 (sane-run w l sane)
+      (always-map (Current o) (λ f. Shapes C f × ((d : ℕ) → List·Memᴰ d ds → Low C f d (o .now .generation))) w1 (λ f c. (c .0, λ d m. let y = told-in (o .absent) d m in has-low z W C K f d (o .now .generation) (c .1 d (y .0) (y .1)))) (during-end (Current o) w l a)) in
+      (during-append (Shapes C) w l (round C (o' .now) ds) (during-map (Current o) (Shapes C) w l (λ f c. c .0) a) (r .0), rw run-append (r .1))
 
   -- begin to rebuild d: it is flushed, so that what was read of its labels is certain; then prep, and the round
-  begin-shape : (o : Own) (d : ℕ) (seen : Image X) (w : World X) → d < z .n → (back : ℕ → Bool) → ((e : ℕ) → back e ≡ false → (e ≡ d) ⊎ (o .absent e ≡ false)) → ((b : Bool) → seen (label d b) ≡ w .cur (label d b)) → 0 < o .now .generation → C .Fits (o .now) → C .Fits (begun (o .now) d) → Sane w → Always w (Current o) → During w (beginning K C seen (o .now) d (told-to z W C K E S R back)) (Shapes C (z .n)) × Always (run w (beginning K C seen (o .now) d (told-to z W C K E S R back))) (Current (record { now = begun (o .now) d; absent = back; epoch = o .epoch; count = o .count }))
+  begin-shape : (o : Own) (d : ℕ) (seen : Image X) (w : World X) → d < z .n → (back : ℕ → Bool) → ((e : ℕ) → back e ≡ false → (e ≡ d) ⊎ (o .absent e ≡ false)) → ((b : Bool) → seen (label d b) ≡ w .cur (label d b)) → 0 < o .now .generation → C .Fits (o .now) → C .Fits (begun (o .now) d) → Sane w → Always w (Current o) → During w (beginning K C seen (o .now) d (told-to z W C K E S R back)) (Shapes C) × Always (run w (beginning K C seen (o .now) d (told-to z W C K E S R back))) (Current (record { now = begun (o .now) d; absent = back; epoch = o .epoch; count = o .count }))
   unfolding Always
   begin-shape o d seen w i back members agree pos fits fit sane h =
-      let P = Shapes C (z .n) in
+      let P = Shapes C in
       let q = o .now .generation in
       let ds = told-to z W C K E S R back in
       let o' : Own = record { now = begun (o .now) d; absent = back; epoch = o .epoch; count = o .count } in
@@ -103,13 +103,13 @@ module _ {X : Type 0} (z : Size) (W : Quorum (z .n)) (C : LabelCodec X) (K : Rec
       let s1 = sane-run w0 A1 s0 in
       let A2 = prep C seen q (o .now) (d ∷ []) in
       let Others : Image X → Type 0 = λ f. (e : ℕ) → e < z .n → o .absent e ≡ false → e ≢ d → Has z W C K f e q in
-      let r2 = prep-shape C (z .n) seen q (o .now) (d ∷ []) Others
+      let r2 = prep-shape C seen q (o .now) (d ∷ []) Others
       (λ f e b x m c y j p n. let u = c y j p n in (u .0, u .1, top-same z W C K f (update f (label e b) x) y (u .0) (λ s. update-other f (label e b) x (label y s) (λ t. n (ap slot t ∙ List·Memᴰ·eq-of-singleton m))) (u .2)))
       pos fits (λ e m. let t : e ≡ d = List·Memᴰ·eq-of-singleton m in omega arith) w1 s1
       (always-map (λ f. Current o f × Certain f) (λ f. P f × ((e : ℕ) (b : Bool) → List·Memᴰ e (d ∷ []) → f (label e b) ≡ seen (label e b)) × Others f) w1
       (λ f c. (c .0 .0, (λ e b m. let t : e ≡ d = List·Memᴰ·eq-of-singleton m in subst (λ (y : ℕ). f (label y b) ≡ seen (label y b)) (sym t) (c .1 b)), λ e j p n. c .0 .1 e j p)) (during-end (λ f. Current o f × Certain f) w0 A1 a)) in
       let w2 = run w1 A2 in
-      let r3 = round-current o o' ds refl fit (λ e j x. in-told back e j x) w2 (sane-run w1 A2 s1)
+      let r3 = round-current o o' ds refl fit (λ e m. told-in back e m .0) (λ e j x. in-told back e j x) w2 (sane-run w1 A2 s1)
       (always-map (λ f. P f × ((e : ℕ) → List·Memᴰ e (d ∷ []) → Low C f e q) × Others f) (λ f. P f × ((e : ℕ) → List·Memᴰ e ds → Low C f e q)) w2
       (λ f c. (c .0, λ e m. let y = told-in back e m in one f (c .1) (c .2) e (y .0) (members e (y .1)) (ℕ-discrete e d))) (r2 .1)) in
       let A3 = round C (begun (o .now) d) ds in (
@@ -128,14 +128,14 @@ module _ {X : Type 0} (z : Size) (W : Quorum (z .n)) (C : LabelCodec X) (K : Rec
 
   -- THE SHAPE, in every state of the machine
   abbrev pub Shaped : Machine X → Type 0
-  Shaped (at w nothing) = Always w (Shapes C (z .n))
+  Shaped (at w nothing) = Always w (Shapes C)
   Shaped (at w (idle o)) = Always w (Current o)
-  Shaped (at w (doing k l o o')) = During w l (Shapes C (z .n)) × Always (run w l) (Current o')
+  Shaped (at w (doing k l o o')) = During w l (Shapes C) × Always (run w l) (Current o')
 
-  pub shaped-off : (w : World X) (m : Memory X) → Shaped (at w m) → Always w (Shapes C (z .n))
+  pub shaped-off : (w : World X) (m : Memory X) → Shaped (at w m) → Always w (Shapes C)
   shaped-off w nothing h = h
-  shaped-off w (idle o) h = always-map (Current o) (Shapes C (z .n)) w (λ f c. c .0) h
-  shaped-off w (doing k l o o') h = during-start (Shapes C (z .n)) w l (h .0)
+  shaped-off w (idle o) h = always-map (Current o) (Shapes C) w (λ f c. c .0) h
+  shaped-off w (doing k l o o') h = during-start (Shapes C) w l (h .0)
 
   abbrev After : World X → Memory X × Reply X → Type 0
   After w r = Shaped (at (effect w (r .1)) (r .0))
@@ -152,16 +152,16 @@ module _ {X : Type 0} (z : Size) (W : Quorum (z .n)) (C : LabelCodec X) (K : Rec
   unfolding Touch
   store-data B t ch v = each-map (Touch B) Data (Looked B) Any (λ k t. t .0) (λ d t. tt) (store K B t ch v) (strips-each K B t ch v)
 
-  shaped-start : (w : World X) (A : ℕ → Bool) → Sane w → Always w (Shapes C (z .n)) → may-start z W C K E S R (beyond (z .n) A) (mask z W C K E S R (beyond (z .n) A) (w .cur)) ≡ clear → Shaped (at w (asked-start z W C K E S R (beyond (z .n) A) (mask z W C K E S R (beyond (z .n) A) (w .cur))))
+  shaped-start : (w : World X) (A : ℕ → Bool) → Sane w → Always w (Shapes C) → may-start z W C K E S R (beyond (z .n) A) (mask z W C K E S R (beyond (z .n) A) (w .cur)) ≡ clear → Shaped (at w (asked-start z W C K E S R (beyond (z .n) A) (mask z W C K E S R (beyond (z .n) A) (w .cur))))
   shaped-start w A0 sane h e =
-      restart A (Shapes C (z .n)) (Current (started z W C K E S R A sn)) (flushed-first z W C K E S R A) (startup z C K A sn) (startup-spares z W C K A sn) (λ k a. Promise.in-flushed z W C K E S R A (slot k) (beyond-in (z .n) A0 (slot k) a) a) w sane h
+      restart A (Shapes C) (Current (started z W C K E S R A sn)) (flushed-first z W C K E S R A) (startup z C K A sn) (startup-spares z W C K A sn) (λ k a. Promise.in-flushed z W C K E S R A (slot k) (beyond-in (z .n) A0 (slot k) a) a) w sane h
       (λ f q a s.
       let g : (k : Place) → A (slot k) ≡ false → sn k ≡ f k = λ k x. Promise.mask-present z W C K E S R A (w .cur) k x ∙ sym (a k x) in
       let ok = Promise.accept-f z W C K E S R A sn e f g in
       let r = start-shape z W C K A f ok s in
       let lab = Promise.same-label z W C K E S R A sn e f g in
-      subst (λ (l : List (Action X)). During (after f) l (Shapes C (z .n)) × Always (run (after f) l) (Current (started z W C K E S R A sn))) (Promise.alike z W C K E S R A sn e f g)
-      (r .0, always-map (λ y. Shapes C (z .n) y × ((d : ℕ) → d < z .n → A d ≡ false → Top C y d (suc (M z C A f)))) (Current (started z W C K E S R A sn)) (run (after f) (startup z C K A f)) (λ y c. (c .0, λ d i x. (suc (M z C A f), ap (λ (l : Label). l .generation) (sym lab), c .1 d i x))) (r .1)))
+      subst (λ (l : List (Action X)). During (after f) l (Shapes C) × Always (run (after f) l) (Current (started z W C K E S R A sn))) (Promise.alike z W C K E S R A sn e f g)
+      (r .0, always-map (λ y. Shapes C y × ((d : ℕ) → d < z .n → A d ≡ false → Top C y d (suc (M z C A f)))) (Current (started z W C K E S R A sn)) (run (after f) (startup z C K A f)) (λ y c. (c .0, λ d i x. (suc (M z C A f), ap (λ (l : Label). l .generation) (sym lab), c .1 d i x))) (r .1)))
     where
       A : ℕ → Bool
       A = beyond (z .n) A0
@@ -169,17 +169,17 @@ module _ {X : Type 0} (z : Size) (W : Quorum (z .n)) (C : LabelCodec X) (K : Rec
       sn : Image X
       sn = mask z W C K E S R (beyond (z .n) A0) (w .cur)
 
-  shaped-create : (w : World X) → Sane w → Always w (Shapes C (z .n)) → may-create z W C K E S R (mask z W C K E S R (beyond (z .n) (λ d. false)) (w .cur)) ≡ clear → Shaped (at w (asked-create z W C K E S R))
+  shaped-create : (w : World X) → Sane w → Always w (Shapes C) → may-create z W C K E S R (mask z W C K E S R (beyond (z .n) (λ d. false)) (w .cur)) ≡ clear → Shaped (at w (asked-create z W C K E S R))
   shaped-create w sane h e =
       let t = create-tests z W C K E S R (mask z W C K E S R A (w .cur)) e in
       let zw : Zeros z W C K E S R (w .cur) = zeros-same z W C K E S R (mask z W C K E S R A (w .cur)) (w .cur) (λ k i. sym (Promise.mask-present z W C K E S R A (w .cur) k (beyond-none (z .n) (slot k) i))) (t .0) in
-      restart A (Shapes C (z .n)) (Current (created z W C K E S R)) (flushed-first z W C K E S R A) (round C l everyone) (round-spares z W C K A l everyone (λ d m. beyond-none (z .n) d (omega (arith, of-from (z .n) 0 d m)))) (λ k a. Promise.in-flushed z W C K E S R A (slot k) (beyond-in (z .n) (λ d. false) (slot k) a) a) w sane h
+      restart A (Shapes C) (Current (created z W C K E S R)) (flushed-first z W C K E S R A) (round C l everyone) (round-spares z W C K A l everyone (λ d m. beyond-none (z .n) d (omega (arith, of-from (z .n) 0 d m)))) (λ k a. Promise.in-flushed z W C K E S R A (slot k) (beyond-in (z .n) (λ d. false) (slot k) a) a) w sane h
       (λ f q a s.
       let zf : Zeros z W C K E S R f = zeros-same z W C K E S R (w .cur) f (λ k i. a k (beyond-none (z .n) (slot k) i)) zw in
-      let r = round-shape C (z .n) l 0 everyone (λ y. Unit {0}) (λ y d b x m u. tt) refl (R .fits l (proper-new z 1) (omega arith) (t .1)) (after f) (sane-after f)
-      (always-after (λ y. Shapes C (z .n) y × ((d : ℕ) → List·Memᴰ d everyone → Low C y d 0) × Unit {0}) f (s, (λ d m. inl (zf .labels d (C .side 0) (omega (arith, of-from (z .n) 0 d m)) ∙ sym (R .same-zeros))), tt)) in (
-        during-map (λ y. Shapes C (z .n) y × Unit {0}) (Shapes C (z .n)) (after f) (round C l everyone) (λ y c. c .0) (r .0),
-        always-map (λ y. Shapes C (z .n) y × ((d : ℕ) → List·Memᴰ d everyone → Top C y d 0) × Unit {0}) (Current (created z W C K E S R)) (run (after f) (round C l everyone)) (λ y c. (c .0, λ d i x. (0, refl, c .1 d (in-from (z .n) 0 d (omega arith) (omega arith))))) (r .1),
+      let r = round-shape C l 0 everyone (λ y. Unit {0}) (λ y d b x m u. tt) refl (R .fits l (proper-new z 1) (omega arith) (t .1)) (λ d m. omega (arith, of-from (z .n) 0 d m)) (after f) (sane-after f)
+      (always-after (λ y. Shapes C y × ((d : ℕ) → List·Memᴰ d everyone → Low C y d 0) × Unit {0}) f (s, (λ d m. inl (zf .labels d (C .side 0) (omega (arith, of-from (z .n) 0 d m)) ∙ sym (R .same-zeros))), tt)) in (
+        during-map (λ y. Shapes C y × Unit {0}) (Shapes C) (after f) (round C l everyone) (λ y c. c .0) (r .0),
+        always-map (λ y. Shapes C y × ((d : ℕ) → List·Memᴰ d everyone → Top C y d 0) × Unit {0}) (Current (created z W C K E S R)) (run (after f) (round C l everyone)) (λ y c. (c .0, λ d i x. (0, refl, c .1 d (in-from (z .n) 0 d (omega arith) (omega arith))))) (r .1),
       ))
     where
       A : ℕ → Bool
@@ -191,7 +191,7 @@ module _ {X : Type 0} (z : Size) (W : Quorum (z .n)) (C : LabelCodec X) (K : Rec
       l : Label
       l = new-label (z .n) 1
 
-  shaped-nothing : (w : World X) (i : Input X) → Sane w → Always w (Shapes C (z .n)) → After w (from-nothing z W C K E S R (mask z W C K E S R (unseen z W C K E S R nothing i) (w .cur)) i)
+  shaped-nothing : (w : World X) (i : Input X) → Sane w → Always w (Shapes C) → After w (from-nothing z W C K E S R (mask z W C K E S R (unseen z W C K E S R nothing i) (w .cur)) i)
   shaped-nothing w create sane h = verdict w nothing h (may-create z W C K E S R (mask z W C K E S R (beyond (z .n) (λ d. false)) (w .cur))) (asked-create z W C K E S R) (shaped-create w sane h)
   shaped-nothing w (start A) sane h = verdict w nothing h (may-start z W C K E S R (beyond (z .n) A) (mask z W C K E S R (beyond (z .n) A) (w .cur))) (asked-start z W C K E S R (beyond (z .n) A) (mask z W C K E S R (beyond (z .n) A) (w .cur))) (shaped-start w A sane h)
   shaped-nothing w (read-block t i) sane h = h
@@ -215,7 +215,7 @@ module _ {X : Type 0} (z : Size) (W : Quorum (z .n)) (C : LabelCodec X) (K : Rec
       (λ e.
       let l = log-write K (belief z (o .now)) (suc (o .count)) (writeOf z W K E (o .now) (mask z W C K E S R (o .absent) (w .cur)) t ch) in
       let a = data-keeps o w l s (log-data (belief z (o .now)) (suc (o .count)) (writeOf z W K E (o .now) (mask z W C K E S R (o .absent) (w .cur)) t ch)) h in
-      (during-map (Current o) (Shapes C (z .n)) w l (λ f c. c .0) a, during-end (Current o) w l a))
+      (during-map (Current o) (Shapes C) w l (λ f c. c .0) a, during-end (Current o) w l a))
   shaped-idle w o (take-out d) v s r h =
       verdict w (idle o) h (may z W C K E S R false o (take-out d)) (asked-out z W C K E S R o d)
       (λ e.
@@ -239,16 +239,16 @@ module _ {X : Type 0} (z : Size) (W : Quorum (z .n)) (C : LabelCodec X) (K : Rec
       split x true p false q y = absurd (true≢false (sym (rw (p, q)) ∙ y))
       split x false p c q y = inr p
   shaped-idle w o (rebuild-on b) v s r h =
-      verdict w (idle o) h (may z W C K E S R false o (rebuild-on b)) (asked-on z W C K E S R o (mask z W C K E S R (o .absent) (w .cur)) b) (λ e. on b (on-tests z W C K E S R o b e .1) (last-batch z W C K E S R o b) refl)
+      verdict w (idle o) h (may z W C K E S R false o (rebuild-on b)) (asked-on z W C K E S R o (mask z W C K E S R (o .absent) (w .cur)) b) (λ e. let t = on-tests z W C K E S R o b e in on b (t .0) (t .1) (last-batch z W C K E S R o b) refl)
     where
-      on : (b : ℕ) → suc (o .now .generation) ≤ R .greatest → (y : Bool) → last-batch z W C K E S R o b ≡ y → Shaped (at w (cond y (asked-heal z W C K E S R o (mask z W C K E S R (o .absent) (w .cur))) (asked-raise z W C K E S R o (mask z W C K E S R (o .absent) (w .cur)) (at-least-one z W C K E S R b))))
-      on b room true e =
+      on : (b : ℕ) → o .now .rebuilding < z .n → suc (o .now .generation) ≤ R .greatest → (y : Bool) → last-batch z W C K E S R o b ≡ y → Shaped (at w (cond y (asked-heal z W C K E S R o (mask z W C K E S R (o .absent) (w .cur))) (asked-raise z W C K E S R o (mask z W C K E S R (o .absent) (w .cur)) (at-least-one z W C K E S R b))))
+      on b i room true e =
           let N = healed (z .n) (o .now) in
           change-shape o (relabelled z W C K E S R o N) (filling z W C K E S R o (mask z W C K E S R (o .absent) (w .cur)) (z .T - o .now .mark)) refl refl (R .fits N (proper-healed z (o .now) (r .sound)) (omega arith) room) w s (fill-data (o .now) (z .T - o .now .mark) (rebuilt z W K E (o .now) (mask z W C K E S R (o .absent) (w .cur)) (o .now .rebuilding))) h
-      on b room false e =
+      on b i room false e =
           let more = at-least-one z W C K E S R b in
           let N = raised (o .now) (o .now .mark + more) in
-          change-shape o (relabelled z W C K E S R o N) (filling z W C K E S R o (mask z W C K E S R (o .absent) (w .cur)) more) refl refl (R .fits N (proper-raised z (o .now) (o .now .mark + more) (omega (arith, leb-false (z .T) (o .now .mark + more) e)) (r .sound)) (omega arith) room) w s (fill-data (o .now) more (rebuilt z W K E (o .now) (mask z W C K E S R (o .absent) (w .cur)) (o .now .rebuilding))) h
+          change-shape o (relabelled z W C K E S R o N) (filling z W C K E S R o (mask z W C K E S R (o .absent) (w .cur)) more) refl refl (R .fits N (proper-raised z (o .now) (o .now .mark + more) i (omega (arith, leb-false (z .T) (o .now .mark + more) e)) (r .sound)) (omega arith) room) w s (fill-data (o .now) more (rebuilt z W K E (o .now) (mask z W C K E S R (o .absent) (w .cur)) (o .now .rebuilding))) h
   shaped-idle w o (scrub-stripe t) v s r h = scrub-kept (may z W C K E S R false o (scrub-stripe t))
     where
       scrub-kept : (y : Verdict) → After w (answer z W C K E S R (idle o) y (idle o) (found (E .scrub t (λ d j. mask z W C K E S R (o .absent) (w .cur) (strip d t j)))))
@@ -267,7 +267,7 @@ module _ {X : Type 0} (z : Size) (W : Quorum (z .n)) (C : LabelCodec X) (K : Rec
   shaped-step (logging wr) [] o o' w s h =
       let l = store K (belief z (o .now)) (wr .stripe) (wr .changes) (wr .new) in
       let a = data-keeps o' w l s (store-data (belief z (o .now)) (wr .stripe) (wr .changes) (wr .new)) (h .1) in
-      (during-map (Current o') (Shapes C (z .n)) w l (λ f c. c .0) a, during-end (Current o') w l a)
+      (during-map (Current o') (Shapes C) w l (λ f c. c .0) a, during-end (Current o') w l a)
   shaped-step (storing wr) [] o o' w s h = h .1
   shaped-step labelling [] o o' w s h = h .1
 
@@ -354,7 +354,7 @@ module _ {X : Type 0} (z : Size) (W : Quorum (z .n)) (C : LabelCodec X) (K : Rec
 
   shaped-outside : {m m' : Machine X} {e : Event X} (x : Outside z W C K E S R m e m') → NewShaped x → (p : View X) → Invariant z W C K E S R m p → Shaped m → Shaped m'
   unfolding Always
-  shaped-outside (power-cut {w = w} {m = m} f q) u p inv h = always-after (Shapes C (z .n)) f (shaped-off w m h f q)
+  shaped-outside (power-cut {w = w} {m = m} f q) u p inv h = always-after (Shapes C) f (shaped-off w m h f q)
   shaped-outside (program-dies {w = w} {m = m}) u p inv h = shaped-off w m h
   shaped-outside (disk-swapped {w = w} {w' = w'} {o = o} d a s) u (sure v) inv h = shaped-swap w w' o d (u .0) s (inv .0) (u .1) h
   shaped-outside (disk-swapped {w = w} {w' = w'} {o = o} d a s) u (open-write v v') inv h = absurd inv
@@ -377,5 +377,5 @@ module _ {X : Type 0} (z : Size) (W : Quorum (z .n)) (C : LabelCodec X) (K : Rec
       shaped-always r (u .1) (a .0) (a .2) (shaped x (u .0) p inv h)
 
   -- zeros have the shape
-  pub zeros-shaped : (f : Image X) → Zeros z W C K E S R f → Shapes C (z .n) f
+  pub zeros-shaped : (f : Image X) → Zeros z W C K E S R f → Shapes C f
   zeros-shaped f h d i = record { calm = λ b. inl (h .labels d b i ∙ sym (R .same-zeros)); follow = λ b p q. absurd (omega (arith, p, Promise.copy-zeros z W C K E S R f h d b i)) }

@@ -20,7 +20,7 @@ use Rattle.protocol.specs.Rebuild.{begun, wipe, wipe-batch, wiped-sector
 abbrev pub Spares : {X : Type 0} → (ℕ → Bool) → List (Action X) → Type 0
 Spares absent l = Each (λ k. absent (slot k) ≡ false) (λ d. absent d ≡ false) l
 
-module _ {X : Type 0} (z : Size) (W : Quorum (z .n)) (C : LabelCodec X) (K : RecordCodec X) (absent : ℕ → Bool) where
+module _ {X : Type 0} (z : Size) (W : Quorum (z .n)) (C : LabelCodec X (z .n)) (K : RecordCodec X) (absent : ℕ → Bool) where
   abbrev Far : Place → Type 0
   Far k = absent (slot k) ≡ false
 

@@ -44,7 +44,7 @@ unfolding disowned
 disowned-is own newest d p q = ap₂ (λ (a b : Bool). a && not b) p q
 
 -- the program: what is read, and the rounds
-module _ {X : Type 0} (z : Size) (C : LabelCodec X) (absent : ℕ → Bool) (f0 : Image X) where
+module _ {X : Type 0} (z : Size) (C : LabelCodec X (z .n)) (absent : ℕ → Bool) (f0 : Image X) where
   abbrev pub newest : ℕ → Label
   newest d = cond (ltb (copy C f0 d false .generation) (copy C f0 d true .generation)) (copy C f0 d true) (copy C f0 d false)
 
@@ -155,7 +155,7 @@ unfoldable pub Framed : {X : Type 0} → (Belief → Image X → Type 0) → Typ
 Framed {X} D = (B B' : Belief) → Within B' B → (f g : Image X) → Agrees B' f g → D B f → D B' g
 
 -- THE INVARIANT of a shelf, of whatever a cut leaves: some label Q is settled (the label base, or a newer one: stamps are told apart by it), perhaps a label N was about to be, the labels are as they must be, and D is true of strips and records under both
-pub record Shelf {X : Type 0} (z : Size) (W : Quorum (z .n)) (C : LabelCodec X) (base : Label) (D : Belief → Image X → Type 0) (f : Image X) : Type 0 where
+pub record Shelf {X : Type 0} (z : Size) (W : Quorum (z .n)) (C : LabelCodec X (z .n)) (base : Label) (D : Belief → Image X → Type 0) (f : Image X) : Type 0 where
   pub Q : Label
   pub since : (Q ≡ base) ⊎ (base .generation < Q .generation)
   pub N : Label
@@ -194,7 +194,7 @@ same-agrees B f0 f s = record { on-log = λ d j a. s .logs d j; on-strip = λ d 
 pub same-self : {X : Type 0} (f : Image X) → Same f f
 same-self f = record { logs = λ d j. refl; strips = λ d t j. refl }
 
-pub same-bare : {X : Type 0} (z : Size) (W : Quorum (z .n)) (C : LabelCodec X) (f0 : Image X) → Bare z W C (Same f0)
+pub same-bare : {X : Type 0} (z : Size) (W : Quorum (z .n)) (C : LabelCodec X (z .n)) (f0 : Image X) → Bare z W C (Same f0)
 unfolding Bare
 same-bare z W C f0 f d b x s =
     record {
@@ -202,7 +202,7 @@ same-bare z W C f0 f d b x s =
       strips = λ e t j. update-other f (label d b) x (strip e t j) (λ q. let i : _≡_ {A = ℕ} 0 1 = cc in omega arith) ∙ s .strips e t j;
     }
 
-module _ {X : Type 0} (z : Size) (W : Quorum (z .n)) (C : LabelCodec X) (absent : ℕ → Bool) (f0 : Image X) where
+module _ {X : Type 0} (z : Size) (W : Quorum (z .n)) (C : LabelCodec X (z .n)) (absent : ℕ → Bool) (f0 : Image X) where
   pub newest-top : (d : ℕ) (b : Bool) → copy C f0 d b .generation ≤ newest z C absent f0 d .generation
   newest-top d b = go (ltb (copy C f0 d false .generation) (copy C f0 d true .generation)) refl b
     where
@@ -524,13 +524,13 @@ module _ {X : Type 0} (z : Size) (W : Quorum (z .n)) (C : LabelCodec X) (absent 
         let P4 : Image X → Type 0 = λ f. Labels z W C l2 l2 (suc (suc m)) (l2 .out) f × Same f0 f in
         let r1 = round-keeps C P1 l p1 w sane L-fits (λ d x f o. (bays-put z W C Q N top far odd last f l d L-fits (omega (arith, M-low, e)) L-top (omega (arith, M-near, e)) L-ok (odd-L d (of-level d x .0) (of-level d x .1)) (o .0), sb f d (C .side (l .generation)) (C .encode d l) (o .1))) start in
         let t2 : Always w1 P2 =
-        always-map (λ f. P1 f × ((d g : ℕ) → List·Memᴰ d p1 → g ≤ l .generation → Aged C f d g)) P2 w1
-        (λ f o. (bays-rise z W C Q N top far odd last (suc m) astray f M-near few-astray (λ d g i x j. let q = not-astray d x in (q .1, o .1 d g (in-level d i (q .0)) (omega (arith, e)))) (o .0 .0), o .0 .1)) (r1 .1) in
+        always-map (λ f. P1 f × ((d g : ℕ) → List·Memᴰ d p1 → d < z .n → g ≤ l .generation → Aged C f d g)) P2 w1
+        (λ f o. (bays-rise z W C Q N top far odd last (suc m) astray f M-near few-astray (λ d g i x j. let q = not-astray d x in (q .1, o .1 d g (in-level d i (q .0)) i (omega (arith, e)))) (o .0 .0), o .0 .1)) (r1 .1) in
         let r2 = round-keeps C P2 l1 p2 w1 s1 fits1 (λ d x f o. (bays-put z W C Q N (suc m) astray odd last f l1 d fits1 (omega (arith, M-low)) (omega arith) (omega arith) (again-ok (suc m) (omega arith)) (odd-L d (of-again d x .0) (of-again d x .1)) (o .0), sb f d (C .side (suc m)) (C .encode d l1) (o .1))) t2 in
         let t3 : Always w2 P3 =
-        always-map (λ f. P2 f × ((d g : ℕ) → List·Memᴰ d p2 → g ≤ suc m → Aged C f d g)) P3 w2
+        always-map (λ f. P2 f × ((d g : ℕ) → List·Memᴰ d p2 → d < z .n → g ≤ suc m → Aged C f d g)) P3 w2
         (λ f o. (
-          bays-rise z W C Q N (suc m) astray odd last (suc (suc m)) astray f (omega arith) few-astray (λ d g i x j. let q = not-astray d x in (q .1, o .1 d g (in-again d i (q .0)) (omega arith))) (o .0 .0),
+          bays-rise z W C Q N (suc m) astray odd last (suc (suc m)) astray f (omega arith) few-astray (λ d g i x j. let q = not-astray d x in (q .1, o .1 d g (in-again d i (q .0)) i (omega arith))) (o .0 .0),
           o .0 .1,
           only-start z W C (suc m) (suc (suc m)) l2 f (omega arith) (bays-cap z W C Q N (suc m) astray odd last f (o .0 .0)),
         )) (r2 .1) in
@@ -540,8 +540,8 @@ module _ {X : Type 0} (z : Size) (W : Quorum (z .n)) (C : LabelCodec X) (absent 
           only-put z W C (suc (suc m)) l2 d f fits2 (o .2),
         )) t3 in
         let t4 : Always w3 P4 =
-        always-map (λ f. P3 f × ((d g : ℕ) → List·Memᴰ d p3 → g ≤ suc (suc m) → Aged C f d g)) P4 w3
-        (λ f o. (labels-settle z W C l2 f enough (λ d g i x j. o .1 d g (in-last d i (in-gone d x)) j) (o .0 .2) (bays-cap z W C Q N (suc (suc m)) astray odd last f (o .0 .0)), o .0 .1)) (r3 .1) in
+        always-map (λ f. P3 f × ((d g : ℕ) → List·Memᴰ d p3 → d < z .n → g ≤ suc (suc m) → Aged C f d g)) P4 w3
+        (λ f o. (labels-settle z W C l2 f enough (λ d g i x j. o .1 d g (in-last d i (in-gone d x)) i j) (o .0 .2) (bays-cap z W C Q N (suc (suc m)) astray odd last f (o .0 .0)), o .0 .1)) (r3 .1) in
         let r4 = prep-safe z W C l2 l2 (suc (suc m)) (l2 .out) f0 (suc m) l2 ls (Same f0) sb w3 s3 fits1' (omega arith) (λ q. absurd (omega arith)) (λ d x. (late-out d x, late-out d x)) t4 in
         let r5 = round-safe z W C l2 l2 (suc (suc m)) (l2 .out) l2 ls (Same f0) sb w4 s4 fits2 (omega arith) (omega arith) (omega arith) (rules-self z W C l2 enough) (r4 .1) in
         let u1 = during-map P1 P w A1 (λ f y. before top far f (omega arith) (y .0) (y .1)) (r1 .0) in
@@ -553,4 +553,4 @@ module _ {X : Type 0} (z : Size) (W : Quorum (z .n)) (C : LabelCodec X) (absent 
         let v3 = during-append P w2 A3 (A4 ++ A5) u3 v4 in
         let v2 = during-append P w1 A2 (A3 ++ (A4 ++ A5)) u2 v3 in
         let v1 = during-append P w A1 (A2 ++ (A3 ++ (A4 ++ A5))) u1 v2 in
-        (v1, rw (run-append w A1 (A2 ++ (A3 ++ (A4 ++ A5))), run-append w1 A2 (A3 ++ (A4 ++ A5)), run-append w2 A3 (A4 ++ A5), run-append w3 A4 A5) (always-map (λ f. P4 f × ((d g : ℕ) → List·Memᴰ d ls → g ≤ suc (suc m) → Aged C f d g)) P4 (run w4 A5) (λ f o. o .0) (r5 .1)))
+        (v1, rw (run-append w A1 (A2 ++ (A3 ++ (A4 ++ A5))), run-append w1 A2 (A3 ++ (A4 ++ A5)), run-append w2 A3 (A4 ++ A5), run-append w3 A4 A5) (always-map (λ f. P4 f × ((d g : ℕ) → List·Memᴰ d ls → d < z .n → g ≤ suc (suc m) → Aged C f d g)) P4 (run w4 A5) (λ f o. o .0) (r5 .1)))

@@ -13,12 +13,12 @@ use Rattle.protocol.specs.Label.{Label, Size, looked, belief, look-is, Q
 use Rattle.protocol.specs.Startup.{Framed}
 use Rattle.protocol.specs.Decide.{quiet-framed, Rest}
 
-pub record Swapped {X : Type 0} (C : LabelCodec X) (d g : ℕ) (w w' : World X) : Type 0 where
+pub record Swapped {X : Type 0} {n : ℕ} (C : LabelCodec X n) (d g : ℕ) (w w' : World X) : Type 0 where
   pub sane : Sane w'
   pub others : (k : Place) → slot k ≢ d → (x : X) → w' .may k x → w .may k x
   pub older : (f : Image X) → Possible w' f → (b : Bool) → copy C f d b .generation < g
 
-module _ {X : Type 0} (z : Size) (W : Quorum (z .n)) (C : LabelCodec X) (K : RecordCodec X) (history : ℕ → Write X) (u : ℕ) (Q : Label) (s : Table X) (d : ℕ) (w w' : World X) (sw : Swapped C d (Q .generation) w w') where
+module _ {X : Type 0} (z : Size) (W : Quorum (z .n)) (C : LabelCodec X (z .n)) (K : RecordCodec X) (history : ℕ → Write X) (u : ℕ) (Q : Label) (s : Table X) (d : ℕ) (w w' : World X) (sw : Swapped C d (Q .generation) w w') where
   -- as if the disk had stayed
   back : Image X → Image X
   back f k = cond (eqb (slot k) d) (w .cur k) (f k)

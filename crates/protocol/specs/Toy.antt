@@ -6,7 +6,7 @@ use mathlib.Core.Bool.{Bool, true, false, cond, not, _&&_, _||_, Bool·beq, true
 use mathlib.Core.Logic.{_⊎_, ⊎-elim, inl, inr}
 use native.Mathlib.Omega.{arith}
 use lib.Dec.{eqb, ltb, leb}
-use borrow.Author.Tests.{leb-true, le-leb, ltb-true, lt-ltb, eq-eqb}
+use borrow.Author.Tests.{leb-true, le-leb, ltb-true, ltb-false, lt-ltb, eq-eqb}
 use Rattle.protocol.specs.Log.{RecordCodec}
 use Rattle.protocol.specs.Write.{both}
 use Rattle.protocol.specs.Label.{Label, Size, Quorum, LabelCodec}
@@ -71,8 +71,11 @@ odd (suc g) = not (odd g)
 abbrev pub rebuilding-ok : (ℕ → Bool) → ℕ → Bool
 rebuilding-ok out r = leb r 3 && (not (ltb r 3) || out r)
 
+abbrev pub mark-ok : ℕ → ℕ → Bool
+mark-ok r m = leb m (cond (ltb r 3) 1 0)
+
 abbrev pub valid : Bool → ℕ → (ℕ → Bool) → ℕ → ℕ → Bool
-valid side g out r m = (Bool·beq side (odd g) && leb g top-generation) && (rebuilding-ok out r && leb m 1)
+valid side g out r m = (Bool·beq side (odd g) && leb g top-generation) && (rebuilding-ok out r && mark-ok r m)
 
 abbrev pub labelOf : Bool → Sector → Label
 labelOf s blank = record { generation = 0; out = λ d. false; rebuilding = 3; mark = 0 }
@@ -94,6 +97,17 @@ or-either : (a b : Bool) → (not a || b) ≡ true → a ≡ true → b ≡ true
 or-either true b h e = h
 or-either false b h e = absurd (false≢true e)
 
+-- at most T, and 0 where no slot is being rebuilt
+mark-most : (r m : ℕ) → mark-ok r m ≡ true → m ≤ 1
+mark-most r m = go (ltb r 3)
+  where
+    go : (b : Bool) → leb m (cond b 1 0) ≡ true → m ≤ 1
+    go true h = leb-true m 1 h
+    go false h = omega (arith, leb-true m 0 h)
+
+mark-none : (r m : ℕ) → mark-ok r m ≡ true → r ≡ 3 → m ≡ 0
+mark-none r m h e = omega (arith, leb-true m 0 (ap (λ (x : ℕ). mark-ok x m) (sym e) ∙ h))
+
 pub labels-back : (d : ℕ) (s : Bool) (x : Sector) → 0 < labelOf s x .generation → Fitting (labelOf s x)
 labels-back d s blank h = absurd (omega arith)
 labels-back d s (datum a) h = absurd (omega arith)
@@ -104,12 +118,12 @@ labels-back d s (told g a b c r m) h = go (valid s g (flags a b c) r m) refl h
     go : (y : Bool) → valid s g (flags a b c) r m ≡ y → 0 < cond y g 0 → Fitting (record { generation = cond y g 0; out = flags a b c; rebuilding = r; mark = m })
     go false e i = absurd (omega arith)
     go true e i =
-        let p = both (Bool·beq s (odd g) && leb g 1000) (rebuilding-ok (flags a b c) r && leb m 1) e in
+        let p = both (Bool·beq s (odd g) && leb g 1000) (rebuilding-ok (flags a b c) r && mark-ok r m) e in
         let q = both (Bool·beq s (odd g)) (leb g 1000) (p .0) in
-        let t = both (rebuilding-ok (flags a b c) r) (leb m 1) (p .1) in
+        let t = both (rebuilding-ok (flags a b c) r) (mark-ok r m) (p .1) in
         let u = both (leb r 3) (not (ltb r 3) || flags a b c r) (t .0) in
         record {
-          sound = record { inside = flags-high a b c; slot-or-none = leb-true r 3 (u .0); also-out = λ j. or-either (ltb r 3) (flags a b c r) (u .1) (lt-ltb r 3 j); mark-T = leb-true m 1 (t .1) };
+          sound = record { inside = flags-high a b c; slot-or-none = leb-true r 3 (u .0); also-out = λ j. or-either (ltb r 3) (flags a b c r) (u .1) (lt-ltb r 3 j); mark-T = mark-most r m (t .1); unmarked = λ j. mark-none r m (t .1) j };
           low = leb-true g 1000 (q .1);
         }
 
@@ -119,6 +133,13 @@ rebuilding-fits l f = rw (le-leb (l .rebuilding) 3 (f .sound .slot-or-none)) (go
     go : (b : Bool) → ltb (l .rebuilding) 3 ≡ b → (not b || flags (l .out 0) (l .out 1) (l .out 2) (l .rebuilding)) ≡ true
     go true e = flags-of (l .out) (f .sound .inside) (l .rebuilding) ∙ f .sound .also-out (ltb-true (l .rebuilding) 3 e)
     go false e = refl
+
+mark-fits : (l : Label) → Fitting l → mark-ok (l .rebuilding) (l .mark) ≡ true
+mark-fits l f = go (ltb (l .rebuilding) 3) refl
+  where
+    go : (b : Bool) → ltb (l .rebuilding) 3 ≡ b → leb (l .mark) (cond b 1 0) ≡ true
+    go true e = le-leb (l .mark) 1 (f .sound .mark-T)
+    go false e = le-leb (l .mark) 0 (omega (arith, f .sound .unmarked (omega (arith, ltb-false (l .rebuilding) 3 e, f .sound .slot-or-none))))
 
 beq-true : (a b : Bool) → Bool·beq a b ≡ true → a ≡ b
 beq-true true true e = refl
@@ -135,15 +156,15 @@ own-side s (told g a b c r m) h = go (valid s g (flags a b c) r m) refl h
   where
     go : (y : Bool) → valid s g (flags a b c) r m ≡ y → 0 < cond y g 0 → s ≡ odd (cond y g 0)
     go false e i = absurd (omega arith)
-    go true e i = beq-true s (odd g) (both (Bool·beq s (odd g)) (leb g 1000) (both (Bool·beq s (odd g) && leb g 1000) (rebuilding-ok (flags a b c) r && leb m 1) e .0) .0)
+    go true e i = beq-true s (odd g) (both (Bool·beq s (odd g)) (leb g 1000) (both (Bool·beq s (odd g) && leb g 1000) (rebuilding-ok (flags a b c) r && mark-ok r m) e .0) .0)
 
 pub labels-forth : (d : ℕ) (l : Label) → Fitting l → labelOf (odd (l .generation)) (told (l .generation) (l .out 0) (l .out 1) (l .out 2) (l .rebuilding) (l .mark)) ≡ l
 labels-forth d l f =
-    let e : valid (odd (l .generation)) (l .generation) (flags (l .out 0) (l .out 1) (l .out 2)) (l .rebuilding) (l .mark) ≡ true = rw (beq-self (odd (l .generation)), le-leb (l .generation) 1000 (f .low), rebuilding-fits l f, le-leb (l .mark) 1 (f .sound .mark-T)) in
+    let e : valid (odd (l .generation)) (l .generation) (flags (l .out 0) (l .out 1) (l .out 2)) (l .rebuilding) (l .mark) ≡ true = rw (beq-self (odd (l .generation)), le-leb (l .generation) 1000 (f .low), rebuilding-fits l f, mark-fits l f) in
     let o : flags (l .out 0) (l .out 1) (l .out 2) ≡ l .out = fun-ext (flags-of (l .out) (f .sound .inside)) in
     λ i. record { generation = cond (e i) (l .generation) 0; out = o i; rebuilding = l .rebuilding; mark = l .mark }
 
-abbrev pub labels : LabelCodec Sector
+abbrev pub labels : LabelCodec Sector (size .n)
 labels =
     record {
       Fits = Fitting;
@@ -152,7 +173,7 @@ labels =
       encode = λ d l. told (l .generation) (l .out 0) (l .out 1) (l .out 2) (l .rebuilding) (l .mark);
       decode = λ d s x. labelOf s x;
       decode-fits = λ d s x h. labels-back d s x h;
-      decode-encode = λ d l h. labels-forth d l h;
+      decode-encode = λ d l i h. labels-forth d l h;
       decode-zeros = λ d b. refl;
       side-next = λ g. refl;
       decode-side = λ d b x h. own-side b x h;
@@ -206,7 +227,7 @@ records =
       changesOf = changesIn;
       piece = λ t x j. inner x;
       stamp-zeros = refl;
-      stamp-sector = λ σ w d j f. refl;
+      stamp-sector = λ σ w d j f h. refl;
       stripe-tail = λ σ w d f. refl;
       changes-tail = λ σ w d e f. flags-of (w .changes) (off-high (w .changes) f) e;
       piece-back = λ σ w d j f h. refl;

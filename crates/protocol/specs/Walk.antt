@@ -118,7 +118,7 @@ module _ {X : Type 0} where
       walks w p ∙ (ap (λ (y : List (Action X)). tick w p .1 ++ y) (walked n w (tick w p .0)) ∙ sym (append-assoc (tick w p .1) (ticks n w (tick w p .0)) (left w (place-after n w (tick w p .0)))))
 
 -- THE BATCHES of the program are such walks
-module _ {X : Type 0} (C : LabelCodec X) (K : RecordCodec X) (B : Belief) where
+module _ {X : Type 0} {n : ℕ} (C : LabelCodec X n) (K : RecordCodec X) (B : Belief) where
   pub round-walk : (l : Label) (n : ℕ) (p : ℕ → Bool) → round-batch C l (slots n p) ≡ batch-of (record { a = 0; n = n; test = p; b = 0; c = 1; place = there C l; value = told C l; first-flush = 0; flushes-n = n; flush-test = p })
   unfolding round-batch slots
   round-walk l n p = refl

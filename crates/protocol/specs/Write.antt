@@ -117,10 +117,10 @@ module _ {X : Type 0} (K : RecordCodec X) (B : Belief) (history history' : ℕ �
       (λ k m f o.
       let y = of-rows log (logged-sectors K) ds k m in
       let i = of-involved B (history' σ .stripe) (history' σ .changes) (y .0) (y .2) in
-      let e : K .stamp (K .sector σ (history' σ) (y .0) (y .1)) ≡ σ = K .stamp-sector σ (history' σ) (y .0) (y .1) fits in
+      let e : K .stamp (K .sector σ (history' σ) (y .0) (y .1)) ≡ σ = K .stamp-sector σ (history' σ) (y .0) (y .1) fits (logged-of K (y .1) (y .3)) in
       rw (y .4) (old-log K B history' σ σ s f (y .0) (y .1) (K .sector σ (history' σ) (y .0) (y .1)) (logged-of K (y .1) (y .3)) (inr (refl, i .1, i .0, fits)) (λ τ z. sym z ∙ e) o))
       (rows-slots log (logged-sectors K) ds (λ d j. refl))
-      (λ f o done. old-new K B history' σ s s' f wrote (λ d a b j g. ap (K .stamp) (done (log d j) (in-rows log (logged-sectors K) ds d j (in-involved B (history' σ .stripe) (history' σ .changes) d a b) (logged-in K j (omega arith)))) ∙ K .stamp-sector σ (history' σ) d j fits) o)
+      (λ f o done. old-new K B history' σ s s' f wrote (λ d a b j g. ap (K .stamp) (done (log d j) (in-rows log (logged-sectors K) ds d j (in-involved B (history' σ .stripe) (history' σ .changes) d a b) (logged-in K j (omega arith)))) ∙ K .stamp-sector σ (history' σ) d j fits g) o)
     where
       ds : List ℕ
       ds = involved B (history' σ .stripe) (history' σ .changes)

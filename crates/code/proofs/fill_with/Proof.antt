@@ -1,21 +1,37 @@
-use Prim.Native.Nat.{_-_, _≤_, _<_, _+_}
+use Prim.Native.Nat.{ℕ, _-_, _≤_, _<_, _+_}
+use mathlib.Core.List.{List}
+use mathlib.Core.Path.{sym, subst}
 use borrow.Author.Needs.{needs}
 use lib.ListN.{length}
 use native.Mathlib.Nat.{mul-le-mul}
 use native.Mathlib.Omega.{arith}
 use Rattle.code.specs.Filling.{FilledTo, filled-to-none, filled-to-turn, filled-to-done}
 use Rattle.code.specs.Blame.{row-fits}
+use Rattle.code.specs.Lost.{Lost}
+use Rattle.code.specs.Padded.{padded, padded-lost, solved-first}
+use Rattle.codeword.specs.Table.{SolvedFor}
 use Rattle.code.proofs.fill_with.Statement.{statement}
 use Rattle.code.proofs.fill_with.Tie as tie
 
 abbrev Inv-loop : tie.InvT-loop
-Inv-loop k m len lost stripe₀ table c₀ stripe c = FilledTo k m len c lost table stripe₀ stripe
+Inv-loop k m len lost all stripe₀ table c₀ stripe c = FilledTo k m len c lost table stripe₀ stripe
 
 abbrev μ-loop : tie.MeasureT-loop
-μ-loop k m len lost stripe₀ table c₀ stripe c = length lost - c
+μ-loop k m len lost all stripe₀ table c₀ stripe c = length lost - c
 
 solve-requires : tie.Need-solve-requires Inv-loop μ-loop
-solve-requires c κs = let s = c .before .before .before .before in (s .pre .0 .range, s .pre .1, s .pre .2)
+solve-requires c κs = let s = c .before .before .before .before .before in
+    (s .pre .0 .range, subst (Lost (s .args .k) (s .args .m)) (sym (s .pre .2)) (padded-lost (s .args .k) (s .args .m) (s .args .lost .now) (s .pre .1)), s .pre .3)
+
+-- the table that was made, and what it is solved for
+abbrev made : tie.After-solve Inv-loop μ-loop → List ℕ
+made v = v .solve .last .1 .1 .1 .0
+
+solved : (v : tie.After-solve Inv-loop μ-loop) → let a = v .before .before .before .before .before .before .args in
+    SolvedFor (a .k) (a .m) (padded (a .k) (a .m) (a .lost .now)) (made v)
+solved v =
+    let s = v .before .before .before .before .before .before in
+    subst (λ (l : List ℕ). SolvedFor (s .args .k) (s .args .m) l (made v)) (s .pre .2) (v .solve .ensures .0)
 
 loop-holds : tie.Need-loop-holds Inv-loop μ-loop
 loop-holds c = filled-to-none _ _ _ _ _ _
@@ -27,27 +43,27 @@ add-combine : tie.Need-add-combine Inv-loop μ-loop
 add-combine c = search needs
 
 cast-combine : tie.Need-cast-combine Inv-loop μ-loop
-cast-combine c = omega (arith, c .before .shared-slice-known2 .given (c .before .before .before .loop .c))
+cast-combine c = omega (arith, c .before .shared-slice-known3 .given (c .before .before .before .loop .c))
 
 add-combine-2 : tie.Need-add-combine-2 Inv-loop μ-loop
 add-combine-2 c = search needs
 
 mul-combine : tie.Need-mul-combine Inv-loop μ-loop
-mul-combine c = let s = c .before .before .before .before .before .before .before .before .before .before .before .before in
+mul-combine c = let s = c .before .before .before .before .before .before .before .before .before .before .before .before .before in
     let g = s .pre .0 .range in
     let h : c .before .before .before .before .loop .c ≤ 3 = omega (arith, s .pre .1 .few, g .m-most) in
     let n : s .args .k + s .args .m ≤ 19 = omega (arith, g .k-most, g .m-most) in
     record { fits = omega (arith, mul-le-mul h n) }
 
 combine-requires : tie.Need-combine-requires Inv-loop μ-loop
-combine-requires c κs = let s = c .before .before .before .before .before .before .before .before .before .before .before .before in
+combine-requires c κs = let s = c .before .before .before .before .before .before .before .before .before .before .before .before .before in
     let g = s .pre .0 .range in
     let l = c .before .before .before .before .loop in
     let v = c .before .before .before .before .before .before .before .solve in
     let h : l .c < s .args .m = omega (arith, s .pre .1 .few) in (
       record { few = omega (arith, g .k-most, g .m-most); short = s .pre .0 .len-most; fits = omega (arith, s .pre .0 .whole, l .inv .same) },
       s .pre .1 .shards (l .c) (search needs),
-      omega (arith, row-fits (l .c) (s .args .m) (s .args .k + s .args .m) h, v .ensures .1, s .pre .2),
+      omega (arith, row-fits (l .c) (s .args .m) (s .args .k + s .args .m) h, v .ensures .1, s .pre .3),
     )
 
 add-c : tie.Need-add-c Inv-loop μ-loop
@@ -57,11 +73,12 @@ loop-less : tie.Need-loop-less Inv-loop μ-loop
 loop-less c = search needs
 
 loop-again : tie.Need-loop-again Inv-loop μ-loop
-loop-again c = let s = c .before .before .before .before .before .before .before .before .before .before .before .before .before .before .before in
+loop-again c = let s = c .before .before .before .before .before .before .before .before .before .before .before .before .before .before .before .before in
     let a = s .args in
     let l = c .before .before .before .before .before .before .before .loop in
-    let v = c .before .before .before .before .before .before .before .before .before .before .solve in
-    filled-to-turn (a .k) (a .m) (a .len) (l .c) (a .lost .now) (v .last .1 .1 .1 .0) (a .stripe .now) (l .stripe) _ (s .pre .1) (v .ensures .0) (search needs) (l .inv) (c .before .before .combine .ensures)
+    let v = c .before .before .before .before .before .before .before .before .before .before in
+    filled-to-turn (a .k) (a .m) (a .len) (l .c) (a .lost .now) (made v) (a .stripe .now) (l .stripe) _ (s .pre .1)
+    (solved-first (a .k) (a .m) (a .lost .now) (s .pre .1) (made v) (solved v)) (search needs) (l .inv) (c .before .before .combine .ensures)
 
 same-length : tie.Need-same-length Inv-loop μ-loop
 same-length c = c .before .loop .inv .same
@@ -70,11 +87,10 @@ same-length-2 : tie.Need-same-length-2 Inv-loop μ-loop
 same-length-2 c = search needs
 
 returns : tie.Need-returns Inv-loop μ-loop
-returns c = let s = c .before .before .before .before .before .before .before .before .before in
-    let a = s .args in
+returns c = let v = c .before .before .before .before in
+    let a = v .before .before .before .before .before .before .args in
     let l = c .before .loop in
-    let v = c .before .before .before .before .solve in
-    filled-to-done (a .k) (a .m) (a .len) (l .c) (a .lost .now) (v .last .1 .1 .1 .0) (a .stripe .now) (l .stripe) (v .ensures .0) (v .ensures .2) (search needs) (l .inv)
+    filled-to-done (a .k) (a .m) (a .len) (l .c) (a .lost .now) (made v) (a .stripe .now) (l .stripe) (solved v) (search needs) (l .inv)
 
 pub fill-with-spec : {M : Type 1} → statement M
 fill-with-spec =

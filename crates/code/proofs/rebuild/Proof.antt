@@ -44,7 +44,7 @@ same-length c = search needs
 
 returns-4 : tie.Need-returns-4
 returns-4 c = let d = c .before .before .before .before in
-    rebuilt-done _ _ _ _ _ _ (fits (d .before .before .before)) (d .before .before .if2 .left) (sym (d .before .shards .ensures) ∙ not-false (d .before .shards .result) (d .if3 .left)) (λ i. omega (arith, c .slice-known2 .given i)) (c .before .before .fill-in .ensures)
+    rebuilt-done _ _ _ _ _ _ (fits (d .before .before .before)) (d .before .before .if2 .left) (sym (d .before .shards .ensures) ∙ not-false (d .before .shards .result) (d .if3 .left)) (λ i. omega (arith, d .before .before .before .before .before .slice-known .given i)) (λ i. omega (arith, c .slice-known2 .given i)) (c .before .before .fill-in .ensures)
 
 pub rebuild-spec : {M : Type 1} → statement M
 rebuild-spec =

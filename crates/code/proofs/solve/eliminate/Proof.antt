@@ -1,15 +1,13 @@
-use Prim.Native.Nat.{_≤_, _-_}
+use Prim.Native.Nat.{_-_}
 use mathlib.Core.Path.{_∙_, sym}
-use native.Mathlib.Omega.{arith}
 use borrow.Author.Needs.{needs}
 use lib.ListN.{length}
-use Rattle.code.specs.Spare.{spare-unread}
-use Rattle.code.specs.Solving.{Reached, reached-first, solved-last}
+use Rattle.code.specs.Solving.{SolvedTo, solved-none, solved-last}
 use Rattle.code.proofs.solve.eliminate.Statement.{statement}
 use Rattle.code.proofs.solve.eliminate.Tie as tie
 
 abbrev Inv-loop : tie.InvT-loop
-Inv-loop k m lost e₀ c₀ e c = (c ≤ length lost) × Reached k m c lost e
+Inv-loop k m lost e₀ c₀ e c = SolvedTo k m c lost e
 
 abbrev μ-loop : tie.MeasureT-loop
 μ-loop k m lost e₀ c₀ e c = length lost - c
@@ -19,7 +17,7 @@ fill-requires c κs = search needs
 
 loop-holds : tie.Need-loop-holds Inv-loop μ-loop
 loop-holds c = let f = c .before .before in let s = f .before .before .before .before in
-    (omega arith, reached-first (s .args .k) (s .args .m) (s .args .lost .now) (f .fill .last .1 .1 .0) (f .fill .kept .1 .1 .0 ∙ s .pre .1 .1) (f .fill .ensures))
+    solved-none (s .args .k) (s .args .m) (s .args .lost .now) (f .fill .last .1 .1 .0) (f .fill .kept .1 .1 .0 ∙ s .pre .1 .1) (f .fill .ensures)
 
 step-requires : tie.Need-step-requires Inv-loop μ-loop
 step-requires c κs = search needs
@@ -31,15 +29,14 @@ loop-less : tie.Need-loop-less Inv-loop μ-loop
 loop-less c = search needs
 
 loop-again : tie.Need-loop-again Inv-loop μ-loop
-loop-again c = (omega arith, c .before .before .step .ensures)
+loop-again c = c .before .before .step .ensures
 
 same-length : tie.Need-same-length Inv-loop μ-loop
-same-length c = c .before .loop .inv .1 .solved .size ∙ sym (c .before .before .before .before .before .before .before .before .pre .1 .1)
+same-length c = c .before .loop .inv .size ∙ sym (c .before .before .before .before .before .before .before .before .pre .1 .1)
 
 returns : tie.Need-returns Inv-loop μ-loop
 returns c = let l = c .before .loop in let s = c .before .before .before .before .before .before .before .before in
-    let f = solved-last (s .args .k) (s .args .m) (l .c) (s .args .lost .now) (l .e) (l .inv .1 .solved) (c .loop-test .left) in
-    (f, spare-unread (s .args .k) (s .args .m) (l .c) (s .args .lost .now) (l .e) (s .pre .1 .0) f (l .inv .0) (l .inv .1 .spare))
+    solved-last (s .args .k) (s .args .m) (l .c) (s .args .lost .now) (l .e) (l .inv) (c .loop-test .left)
 
 pub eliminate-spec : {M : Type 1} → statement M
 eliminate-spec =

@@ -4,7 +4,7 @@ use native.Mathlib.Omega.{arith}
 use lib.ListN.{getD}
 use borrow.Author.Needs.{needs}
 use Rattle.code.specs.Pivot.{pivot-found}
-use Rattle.code.specs.Solving.{exchanged-reached}
+use Rattle.code.specs.Solving.{exchanged-solved}
 use Rattle.code.specs.SolveTurns.{row-end}
 use Rattle.code.proofs.solve.lead.Statement.{statement}
 use Rattle.code.proofs.solve.lead.Tie as tie
@@ -13,7 +13,7 @@ use Rattle.code.proofs.solve.lead.Tie as tie
 found : (c : tie.After-pivot) → c .pivot .result < c .before .before .before .before .before .args .m
 found c =
     let s = c .before .before .before .before .before in
-    pivot-found (s .args .k) (s .args .m) (s .args .c) (s .args .lost .now) (s .args .e .now) (s .pre .0) (s .pre .1 .0) (s .pre .1 .1 .1 .solved)
+    pivot-found (s .args .k) (s .args .m) (s .args .c) (s .args .lost .now) (s .args .e .now) (s .pre .0) (s .pre .1 .0) (s .pre .1 .1 .1)
     (s .pre .1 .1 .0) (c .pivot .result) (c .pivot .ensures)
 
 add-n : tie.Need-add-n
@@ -27,12 +27,12 @@ cast-a c = omega (arith, c .shared-slice-known2 .given (c .before .before .befor
 
 pivot-requires : tie.Need-pivot-requires
 pivot-requires c κs = let s = c .before .before .before .before in
-    (s .pre .1 .1 .1 .solved .size, (omega arith, s .pre .1 .0 .shards (s .args .c) (s .pre .1 .1 .0)))
+    (s .pre .1 .1 .1 .size, (omega arith, s .pre .1 .0 .shards (s .args .c) (s .pre .1 .1 .0)))
 
 exchange-requires : tie.Need-exchange-requires
 exchange-requires c κs = let s = c .before .before .before .before .before .before in
     let ends = row-end (s .args .m) (s .args .k + s .args .m) in
-    let size = s .pre .1 .1 .1 .solved .size in
+    let size = s .pre .1 .1 .1 .size in
     (ends (s .args .c) (s .args .e .now) size (omega arith), ends (c .before .pivot .result) (s .args .e .now) size (found (c .before)))
 
 same-length : tie.Need-same-length
@@ -43,9 +43,9 @@ returns c = let x = c .before .before in
     let p = x .before .before in
     let s = p .before .before .before .before .before in
     let a = s .pre .1 .0 .shards (s .args .c) (s .pre .1 .1 .0) in
-    let reached = exchanged-reached (s .args .k) (s .args .m) (s .args .c) (s .args .lost .now) (s .pre .1 .0) (s .pre .1 .1 .0) (p .pivot .result)
+    let solved = exchanged-solved (s .args .k) (s .args .m) (s .args .c) (s .args .lost .now) (s .pre .1 .0) (s .pre .1 .1 .0) (p .pivot .result)
     (s .args .e .now) (x .exchange .last .0) (s .pre .1 .1 .1) (p .pivot .ensures .from) (found p) (x .exchange .ensures) in
-    (reached, λ q. p .pivot .ensures .found (found p) (sym (x .exchange .ensures .first (getD (s .args .lost .now) (s .args .c) 0) a) ∙ q))
+    (solved, λ q. p .pivot .ensures .found (found p) (sym (x .exchange .ensures .first (getD (s .args .lost .now) (s .args .c) 0) a) ∙ q))
 
 pub lead-spec : {M : Type 1} → statement M
 lead-spec =

@@ -4,7 +4,7 @@ use native.Mathlib.Omega.{arith}
 use lib.ListN.{length, getD}
 use borrow.Author.Needs.{needs}
 use mathlib.Core.List.{List}
-use Rattle.code.specs.Solving.{scaled-one, step-reached}
+use Rattle.code.specs.Solving.{scaled-one, step-solved}
 use Rattle.code.specs.SolveTurns.{entry-in, row-end}
 use Rattle.code.proofs.solve.step.Statement.{statement}
 use Rattle.code.proofs.solve.step.Tie as tie
@@ -17,7 +17,7 @@ inside : (c : tie.After-lead) → let s = c .before .before .before .before in
     s .args .c * (s .args .k + s .args .m) + getD (s .args .lost .now) (s .args .c) 0 < length (after c)
 inside c =
     let s = c .before .before .before .before in
-    entry-in (s .args .m) (s .args .k + s .args .m) (s .args .c) (getD (s .args .lost .now) (s .args .c) 0) (after c) (c .lead .ensures .0 .solved .size)
+    entry-in (s .args .m) (s .args .k + s .args .m) (s .args .c) (getD (s .args .lost .now) (s .args .c) 0) (after c) (c .lead .ensures .0 .size)
     (omega (arith, s .pre .1 .0 .few)) (s .pre .1 .0 .shards (s .args .c) (s .pre .1 .1 .0))
 
 lead-requires : tie.Need-lead-requires
@@ -46,7 +46,7 @@ quotient-requires c κs = c .before .before .before .before .before .lead .ensur
 
 add-row-requires : tie.Need-add-row-requires
 add-row-requires c κs = let l = c .before .before .before .before .before .before in let s = l .before .before .before .before in
-    let fit = row-end (s .args .m) (s .args .k + s .args .m) (s .args .c) (after l) (l .lead .ensures .0 .solved .size) (omega (arith, s .pre .1 .0 .few)) in
+    let fit = row-end (s .args .m) (s .args .k + s .args .m) (s .args .c) (after l) (l .lead .ensures .0 .size) (omega (arith, s .pre .1 .0 .few)) in
     (fit, fit)
 
 clear-column-requires : tie.Need-clear-column-requires
@@ -56,7 +56,7 @@ clear-column-requires c κs = let w = c .before .before .before in
     let a = s .pre .1 .0 .shards (s .args .c) (s .pre .1 .1 .0) in
     let one = scaled-one (s .args .k + s .args .m) (s .args .c) (getD (s .args .lost .now) (s .args .c) 0) (w .before .quotient .result)
     (after l) (w .add-row .last .0) a (w .before .quotient .ensures) (w .add-row .ensures) in
-    (w .add-row .kept .0 ∙ l .lead .ensures .0 .solved .size, ((omega (arith, s .pre .1 .0 .few), a), one))
+    (w .add-row .kept .0 ∙ l .lead .ensures .0 .size, ((omega (arith, s .pre .1 .0 .few), a), one))
 
 same-length : tie.Need-same-length
 same-length c = search needs
@@ -64,7 +64,7 @@ same-length c = search needs
 returns : tie.Need-returns
 returns c = let w = c .before .before .before .before .before .before in
     let l = w .before .before .before .before .before .before .before in let s = l .before .before .before .before in
-    step-reached (s .args .k) (s .args .m) (s .args .c) (s .args .lost .now) (s .pre .1 .0) (s .pre .1 .1 .0) (w .before .quotient .result)
+    step-solved (s .args .k) (s .args .m) (s .args .c) (s .args .lost .now) (s .pre .1 .0) (s .pre .1 .1 .0) (w .before .quotient .result)
     (after l) (w .add-row .last .0) (c .before .before .clear-column .last .0) (l .lead .ensures .0) (omega (arith, w .before .quotient .ok))
     (w .before .before .before .slice-known3 .given (s .args .c * (s .args .k + s .args .m) + getD (s .args .lost .now) (s .args .c) 0) .fits)
     (w .before .quotient .ensures) (w .add-row .ensures) (λ p. c .before .before .before .before .slice-known4 .given p .fits)
