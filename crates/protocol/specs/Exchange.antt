@@ -66,8 +66,9 @@ pub record Strange {X : Type 0} (z : Size) (C : LabelCodec X (z .n)) (x : Disks 
   pub unlabelled : (d i : ℕ) (b : Bool) → d < z .n → i ≢ x .inn d → copy C (x .stock i) d b .generation ≡ 0
 
 module _ {X : Type 0} (z : Size) (W : Quorum (z .n)) (C : LabelCodec X (z .n)) (K : RecordCodec X) (E : Code X (z .n) (K .c) W) (S : Stamps) (R : Medium z W C K E S) where
-  -- ALL THAT IS ASKED OF THE WORLD, at a start-up that is not refused. Either: if the absent slots are few (at most m), they are few together with those that hold another disk than
-  -- their last. (A start-up that is not refused has few absent ones, so with no disk exchanged nothing is asked. Slots that are out do not count.)
+  -- ALL THAT IS ASKED OF THE WORLD, at a start-up that is not refused (and at a create: there it says that the bays of a shelf do not all look empty).
+  -- Either: if the absent slots are few (at most m), they are few together with those that hold another disk than their last. (A start-up that is not refused has few
+  -- absent ones, so with no disk exchanged nothing is asked. Slots that are out do not count.)
   abbrev pub Familiar : (ℕ → Bool) → Disks X → Type 0
   Familiar absent x = W .few absent ≡ true → W .few (λ d. absent d || moved x d) ≡ true
 
