@@ -1,0 +1,5 @@
+pub mod Limits
+pub mod State
+pub mod Stage
+pub mod Act
+pub mod Step
