@@ -5,10 +5,12 @@ use Prim.Native.Nat.{ℕ, _+_, _%_}
 use lib.Dec.{ltb}
 use lib.ListN.{length, replicate}
 use Rattle.disk.specs.Limits.{sectorBytes, firstLog}
-use Rattle.disk.specs.Geometry.{inRange, stripesOf, stripOf}
+use Rattle.disk.specs.Geometry.{inRange, stripesOf, stripOf, found}
 use Rattle.disk.specs.Image.{putSector, putAnswer}
 use Rattle.disk.specs.Mask.{inMask}
 use Rattle.disk.specs.declared.geometry.Geometry.{Geometry}
+use Rattle.disk.specs.declared.geometry.Found.{Found}
+use Rattle.disk.specs.declared.geometry.Found.the-variants as spot
 use Rattle.disk.specs.declared.refusal.Refusal.{Refusal}
 use Rattle.disk.specs.declared.refusal.Refusal.the-variants.{NotNow}
 use Rattle.disk.specs.declared.refusal.Outcome.{Outcome}
@@ -79,13 +81,15 @@ giveMove s g d zeroed l img =
 unfoldable pub wipeMove : State → Geometry → ℕ → List ℕ → Move
 wipeMove s g d img = putMove s g d (firstLog + g .c) 1 (replicate sectorBytes 0) img
 
--- the next sector of the strip, from the record
+-- the next sector of the strip that begins there, from the record
+abbrev pub byStrip : Found → State → Geometry → ℕ → List ℕ → Move
+byStrip (spot.At p) s g d img =
+    putMove s g d (p + s .cursor .sector) (g .c) (afterRestore outcome.Done (areaOf g img d) (g .c) (s .cursor .sector) (replicate sectorBytes 0)) img
+byStrip (spot.Refused why) s g d img = refuses s NotNow img
+
+-- where the record can give it back, and there is such a strip
 abbrev pub byRestored : Outcome → State → Geometry → ℕ → ℕ → List ℕ → Move
-byRestored outcome.Done s g d t img =
-    cond (inRange g)
-    (cond (ltb t (stripesOf g))
-    (putMove s g d (stripOf g t + s .cursor .sector) (g .c) (afterRestore outcome.Done (areaOf g img d) (g .c) (s .cursor .sector) (replicate sectorBytes 0)) img)
-    (refuses s NotNow img)) (refuses s NotNow img)
+byRestored outcome.Done s g d t img = byStrip (found (inRange g) (ltb t (stripesOf g)) (stripOf g t)) s g d img
 byRestored (outcome.Refused why) s g d t img = refuses s NotNow img
 
 unfoldable pub restoreMove : State → Geometry → ℕ → ℕ → List ℕ → Move

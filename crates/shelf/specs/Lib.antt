@@ -3,3 +3,4 @@ pub mod State
 pub mod Stage
 pub mod Act
 pub mod Step
+pub mod Says

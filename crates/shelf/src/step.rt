@@ -133,11 +133,12 @@ fn in_range(s: State) -> bool
     ensures { λ r. ⌜ r ≡ sound s ⌝ }
 {
     let now = s.now;
+    let kind = s.kind;
     let cursor = s.cursor;
     if !fits(now) {
         return false;
     }
-    if !under_way(s.kind) {
+    if !under_way(kind) {
         return false;
     }
     if MOST_STAGES < cursor.stage {

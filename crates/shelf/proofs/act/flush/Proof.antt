@@ -1,35 +1,32 @@
-use Prim.Native.Nat.{ℕ, _≤_, _<_, _-_, _+_, _*_}
-use mathlib.Core.Path.{_≡_}
-use native.Mathlib.Omega.{arith}
-use lib.ListN.{length, length-set, getD}
+-- An absent slot is refused.
 use borrow.Author.Needs.{needs}
+use mathlib.Core.Path.{_≡_, refl, sym, ap, _∙_}
+use Rattle.shelf.specs.Act.{flushMove}
+use Rattle.shelf.specs.declared.state.State.{State}
+use Rattle.shelf.specs.declared.state.Stepped.{Stepped}
+use Rattle.shelf.specs.declared.state.Answer.the-variants.{Flush}
 use Rattle.shelf.proofs.act.flush.Statement.{statement}
 use Rattle.shelf.proofs.act.flush.Tie as tie
-use Rattle.shelf.proofs.act.flush.Reads as reads
-use Rattle.shelf.proofs.act.flush.Lts as lts
-use Rattle.disk.proofs.mask.has.Reads as has-reads
-use Rattle.shelf.proofs.act.onward_from.Reads as onward-from-reads
-use Rattle.shelf.proofs.act.refuse.Reads as refuse-reads
 
--- src/act.rt:74:8
 has-requires : tie.Need-has-requires
 has-requires c κs = search needs
 
--- src/act.rt:75:9
 refuse-requires : tie.Need-refuse-requires
 refuse-requires c κs = search needs
 
--- src/act.rt:75:9
 returns : tie.Need-returns
-returns c = search needs
+unfolding flushMove
+returns c = rw (sym (c .before .before .has .ensures) ∙ c .before .if1 .taken) (c .refuse .ensures)
 
--- src/act.rt:77:9
 onward-from-requires : tie.Need-onward-from-requires
 onward-from-requires c κs = search needs
 
--- src/act.rt:70:1
 returns-2 : tie.Need-returns-2
-returns-2 c = search needs
+unfolding flushMove
+returns-2 c =
+    let a = c .before .before .before .args in
+    let make : State → Stepped = λ x. record { state = x; answer = Flush (a .d) } in
+    rw (sym (c .before .before .has .ensures) ∙ c .before .if1 .left) (ap make (c .onward-from .ensures))
 
 pub flush-spec : {M : Type 1} → statement M
 flush-spec =

@@ -1,64 +1,66 @@
-use Prim.Native.Nat.{ℕ, _≤_, _<_, _-_, _+_, _*_}
-use mathlib.Core.Path.{_≡_}
-use native.Mathlib.Omega.{arith}
-use lib.ListN.{length, length-set, getD}
+-- An absent slot is refused; what the put answers decides the rest.
 use borrow.Author.Needs.{needs}
+use mathlib.Core.Path.{_≡_, refl, sym, ap, _∙_}
+use mathlib.Core.List.{List}
+use Prim.Native.Nat.{ℕ, _+_, _-_, _≤_, _<_}
+use Rattle.disk.specs.Image.{afterPut}
+use Rattle.disk.specs.declared.refusal.Outcome.{Outcome}
+use Rattle.shelf.specs.Act.{putMove}
+use Rattle.shelf.specs.declared.state.State.{State}
+use Rattle.shelf.specs.declared.state.Stepped.{Stepped}
+use Rattle.shelf.specs.declared.state.Answer.the-variants.{Put}
 use Rattle.shelf.proofs.act.put_bytes.Statement.{statement}
 use Rattle.shelf.proofs.act.put_bytes.Tie as tie
-use Rattle.shelf.proofs.act.put_bytes.Reads as reads
-use Rattle.shelf.proofs.act.put_bytes.Lts as lts
-use Rattle.disk.proofs.mask.has.Reads as has-reads
-use Rattle.disk.proofs.sector.put.Reads as put-reads
-use Rattle.shelf.proofs.act.onward_from.Reads as onward-from-reads
-use Rattle.shelf.proofs.act.refuse.Reads as refuse-reads
 
--- src/act.rt:53:8
 has-requires : tie.Need-has-requires
 has-requires c κs = search needs
 
--- src/act.rt:54:9
 refuse-requires : tie.Need-refuse-requires
 refuse-requires c κs = search needs
 
--- src/act.rt:54:9
 returns : tie.Need-returns
-returns c = search needs
+unfolding putMove
+returns c = let e = sym (c .before .before .has .ensures) ∙ c .before .if1 .taken in (rw e (c .refuse .ensures), rw e refl)
 
--- src/act.rt:56:9
 put-requires : tie.Need-put-requires
 put-requires c κs = search needs
 
--- src/act.rt:59:17
 enum-told : tie.Need-enum-told
 enum-told c = search needs
 
--- src/act.rt:59:17
 onward-from-requires : tie.Need-onward-from-requires
 onward-from-requires c κs = search needs
 
--- src/act.rt:65:26
 enum-known-outcome : tie.Need-enum-known-outcome
 enum-known-outcome c = search needs
 
--- src/act.rt:65:34
 refuse-requires-2 : tie.Need-refuse-requires-2
 refuse-requires-2 c κs = search needs
 
--- src/act.rt:49:1
 same-length : tie.Need-same-length
 same-length c = search needs
 
--- src/act.rt:49:1
 returns-2 : tie.Need-returns-2
-returns-2 c = search needs
+unfolding putMove
+returns-2 c =
+    let a = c .before .before .before .before .before .before .before .before .before .before .before .args in
+    let e = sym (c .before .before .before .before .before .before .before .before .has .ensures) ∙ c .before .before .before .before .before .before .before .if1 .left in
+    let told = c .before .enum-told .given .1 in
+    let p = sym (c .before .before .before .before .before .put .ensures .0) ∙ told in
+    let make : State → Stepped = λ x. record { state = x; answer = Put (a .d) (a .to) } in
+    (rw (e, p) (ap make (c .onward-from .ensures)), rw (e, p) (c .before .before .before .before .before .put .ensures .1 ∙ ap (λ (o : Outcome). afterPut o (a .g) (a .image .now) (a .d) (a .to) (a .bytes .now)) told))
 
--- src/act.rt:49:1
 same-length-2 : tie.Need-same-length-2
 same-length-2 c = search needs
 
--- src/act.rt:49:1
 returns-3 : tie.Need-returns-3
-returns-3 c = search needs
+unfolding putMove
+returns-3 c =
+    let a = c .before .before .before .before .before .before .before .before .before .before .before .before .args in
+    let e = sym (c .before .before .before .before .before .before .before .before .before .has .ensures) ∙ c .before .before .before .before .before .before .before .before .if1 .left in
+    let told = c .before .before .outcome .given .1 in
+    let p = sym (c .before .before .before .before .before .before .put .ensures .0) ∙ told in
+    (rw (e, p) (c .refuse2 .ensures), rw (e, p) (c .before .before .before .before .before .before .put .ensures .1 ∙ ap (λ (o : Outcome). afterPut o (a .g) (a .image .now) (a .d) (a .to) (a .bytes .now)) told))
 
 pub put-bytes-spec : {M : Type 1} → statement M
 put-bytes-spec =

@@ -1,93 +1,85 @@
-use Prim.Native.Nat.{ℕ, _≤_, _<_, _-_, _+_, _*_}
-use mathlib.Core.Path.{_≡_}
-use native.Mathlib.Omega.{arith}
-use lib.ListN.{length, length-set, getD}
+-- What the record gives back decides, then whether there is such a strip.
 use borrow.Author.Needs.{needs}
+use mathlib.Core.Path.{_≡_, refl, sym, ap, _∙_}
+use native.Mathlib.Omega.{arith}
+use Rattle.shelf.specs.Act.{Move}
+use Rattle.shelf.specs.Says.{strip-low, redo-not, redo-none, redo-put}
 use Rattle.shelf.proofs.act.redo.Statement.{statement}
 use Rattle.shelf.proofs.act.redo.Tie as tie
-use Rattle.shelf.proofs.act.redo.Reads as reads
-use Rattle.shelf.proofs.act.redo.Lts as lts
-use Rattle.disk.proofs.geometry.strip.Reads as strip-reads
-use Rattle.record.proofs.log.area.Reads as area-reads
-use Rattle.record.proofs.log.restore.Reads as restore-reads
-use Rattle.shelf.proofs.act.put_bytes.Reads as put-bytes-reads
-use Rattle.shelf.proofs.act.refuse.Reads as refuse-reads
 
--- src/act.rt:135:27
 area-requires : tie.Need-area-requires
 area-requires c κs = search needs
 
--- src/act.rt:135:66
 slice-aggregate-restore : tie.Need-slice-aggregate-restore
 slice-aggregate-restore c = search needs
 
--- src/act.rt:135:9
 restore-requires : tie.Need-restore-requires
 restore-requires c κs = search needs
 
--- src/act.rt:137:42
 enum-told : tie.Need-enum-told
 enum-told c = search needs
 
--- src/act.rt:137:32
 refuse-requires : tie.Need-refuse-requires
 refuse-requires c κs = search needs
 
--- src/act.rt:139:17
 enum-told-2 : tie.Need-enum-told-2
 enum-told-2 c = search needs
 
--- src/act.rt:139:17
 strip-requires : tie.Need-strip-requires
 strip-requires c κs = search needs
 
--- src/act.rt:141:48
 enum-told-3 : tie.Need-enum-told-3
 enum-told-3 c = search needs
 
--- src/act.rt:141:38
 refuse-requires-2 : tie.Need-refuse-requires-2
 refuse-requires-2 c κs = search needs
 
--- src/act.rt:142:27
 enum-known-first : tie.Need-enum-known-first
 enum-known-first c = search needs
 
--- src/act.rt:142:52
 add-put-bytes : tie.Need-add-put-bytes
-add-put-bytes c = search needs
+add-put-bytes c =
+    let a = c .before .before .before .before .before .before .before .before .before .before .before .before .before .before .args in
+    omega (arith, strip-low (a .g) (a .stripe) _ (sym (c .before .before .before .before .strip .ensures) ∙ c .before .before .first .given .1))
 
--- src/act.rt:142:76
 slice-aggregate-put-bytes : tie.Need-slice-aggregate-put-bytes
 slice-aggregate-put-bytes c = search needs
 
--- src/act.rt:142:33
 put-bytes-requires : tie.Need-put-bytes-requires
 put-bytes-requires c κs = search needs
 
--- src/act.rt:129:1
 same-length : tie.Need-same-length
 same-length c = search needs
 
--- src/act.rt:129:1
 returns : tie.Need-returns
-returns c = search needs
+returns c =
+    let a = c .before .before .before .before .before .before .before .before .before .before .args in
+    let m =
+    redo-not (a .s) (a .g) (a .d) (a .stripe) (a .image .now) _ (c .before .before .before .before .before .before .area .ensures) (c .before .before .before .before .restore .result) (c .before .before .before .before .restore .ensures .0)
+    _ (c .before .enum-told .given .1) in
+    (c .refuse .ensures ∙ sym (ap (λ (x : Move). x .stepped) m), sym (ap (λ (x : Move). x .image) m))
 
--- src/act.rt:129:1
 same-length-2 : tie.Need-same-length-2
 same-length-2 c = search needs
 
--- src/act.rt:129:1
 returns-2 : tie.Need-returns-2
-returns-2 c = search needs
+returns-2 c =
+    let a = c .before .before .before .before .before .before .before .before .before .before .before .before .before .args in
+    let m =
+    redo-none (a .s) (a .g) (a .d) (a .stripe) (a .image .now) _ (c .before .before .before .before .before .before .before .before .before .area .ensures) (c .before .before .before .before .before .before .before .restore .result) (c .before .before .before .before .before .before .before .restore .ensures .0)
+    (c .before .before .before .before .enum-told2 .given .1) (c .before .before .before .strip .result) (c .before .before .before .strip .ensures) _ (c .before .enum-told3 .given .1) in
+    (c .refuse2 .ensures ∙ sym (ap (λ (x : Move). x .stepped) m), sym (ap (λ (x : Move). x .image) m))
 
--- src/act.rt:129:1
 same-length-3 : tie.Need-same-length-3
 same-length-3 c = search needs
 
--- src/act.rt:129:1
 returns-3 : tie.Need-returns-3
-returns-3 c = search needs
+returns-3 c =
+    let a = c .before .before .before .before .before .before .before .before .before .before .before .before .before .before .before .before .before .before .before .args in
+    let m =
+    redo-put (a .s) (a .g) (a .d) (a .stripe) (a .image .now) _ (c .before .before .before .before .before .before .before .before .before .before .before .before .before .before .before .area .ensures) (c .before .before .before .before .before .before .before .before .before .before .before .before .before .restore .result) (c .before .before .before .before .before .before .before .before .before .before .before .before .before .restore .ensures .0)
+    (c .before .before .before .before .before .before .before .before .before .before .enum-told2 .given .1) (c .before .before .before .before .before .before .before .before .before .strip .result) (c .before .before .before .before .before .before .before .before .before .strip .ensures) _ (c .before .before .before .before .before .before .before .first .given .1) _ (c .before .before .before .before .before .before .before .before .before .before .before .before .before .restore .ensures .1) in
+    (c .before .before .put-bytes .ensures .0 ∙ sym (ap (λ (x : Move). x .stepped) m), c .before .before .put-bytes .ensures .1 ∙ sym (ap (λ (x : Move). x .image) m))
 
 pub redo-spec : {M : Type 1} → statement M
 redo-spec =

@@ -1,24 +1,21 @@
-use Prim.Native.Nat.{ℕ, _≤_, _<_, _-_, _+_, _*_}
-use mathlib.Core.Path.{_≡_}
-use native.Mathlib.Omega.{arith}
+-- One test after the other.
 use borrow.Author.Needs.{needs}
-use lib.ListN.{length, length-set, getD}
+use borrow.Author.Tests.{eq-eqb, ne-eqb}
+use Rattle.shelf.specs.Stage.{roundStage}
 use Rattle.shelf.proofs.stage.round_stage.Statement.{statement}
 use Rattle.shelf.proofs.stage.round_stage.Tie as tie
-use Rattle.shelf.proofs.stage.round_stage.Reads as reads
-use Rattle.shelf.proofs.stage.round_stage.Lts as lts
 
--- src/stage.rt:56:9
 returns : tie.Need-returns
-returns c = search needs
+unfolding roundStage
+returns c = rw (eq-eqb _ _ (c .if1 .taken))
 
--- src/stage.rt:63:9
 returns-2 : tie.Need-returns-2
-returns-2 c = search needs
+unfolding roundStage
+returns-2 c = rw (ne-eqb _ _ (c .before .if1 .left), eq-eqb _ _ (c .if2 .taken))
 
--- src/stage.rt:52:1
 returns-3 : tie.Need-returns-3
-returns-3 c = search needs
+unfolding roundStage
+returns-3 c = rw (ne-eqb _ _ (c .before .if1 .left), ne-eqb _ _ (c .if2 .left))
 
 pub round-stage-spec : {M : Type 1} → statement M
 round-stage-spec = tie.close (tie.spec returns returns-2 returns-3)

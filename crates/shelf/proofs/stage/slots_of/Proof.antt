@@ -1,50 +1,37 @@
-use Prim.Native.Nat.{ℕ, _≤_, _<_, _-_, _+_, _*_}
-use mathlib.Core.Path.{_≡_}
-use native.Mathlib.Omega.{arith}
-use lib.ListN.{length, length-set, getD}
+-- One arm for each kind of stage.
 use borrow.Author.Needs.{needs}
+use mathlib.Core.Path.{_≡_, refl, sym, ap, _∙_}
+use Rattle.shelf.specs.Stage.{slotsOf}
 use Rattle.shelf.proofs.stage.slots_of.Statement.{statement}
 use Rattle.shelf.proofs.stage.slots_of.Tie as tie
-use Rattle.shelf.proofs.stage.slots_of.Reads as reads
-use Rattle.shelf.proofs.stage.slots_of.Lts as lts
 
--- src/stage.rt:43:24
 enum-known-stage : tie.Need-enum-known-stage
 enum-known-stage c = search needs
 
--- src/stage.rt:44:23
 enum-known-stage-2 : tie.Need-enum-known-stage-2
 enum-known-stage-2 c = search needs
 
--- src/stage.rt:45:23
 enum-known-stage-3 : tie.Need-enum-known-stage-3
 enum-known-stage-3 c = search needs
 
--- src/stage.rt:46:26
 enum-known-stage-4 : tie.Need-enum-known-stage-4
 enum-known-stage-4 c = search needs
 
--- src/stage.rt:47:23
 enum-told : tie.Need-enum-told
 enum-told c = search needs
 
--- src/stage.rt:39:1
 returns : tie.Need-returns
 returns c = search needs
 
--- src/stage.rt:39:1
 returns-2 : tie.Need-returns-2
-returns-2 c = search needs
+returns-2 c = sym (ap slotsOf (c .before .stage2 .given .1))
 
--- src/stage.rt:39:1
 returns-3 : tie.Need-returns-3
 returns-3 c = search needs
 
--- src/stage.rt:39:1
 returns-4 : tie.Need-returns-4
 returns-4 c = search needs
 
--- src/stage.rt:39:1
 returns-5 : tie.Need-returns-5
 returns-5 c = search needs
 

@@ -1,75 +1,65 @@
-use Prim.Native.Nat.{ℕ, _≤_, _<_, _-_, _+_, _*_}
-use mathlib.Core.Path.{_≡_}
-use native.Mathlib.Omega.{arith}
-use lib.ListN.{length, length-set, getD}
+-- One test after the other.
 use borrow.Author.Needs.{needs}
+use borrow.Author.Tests.{eq-eqb, ne-eqb, le-leb, lt-leb}
+use mathlib.Core.Path.{_≡_, refl, sym, ap, _∙_}
+use Prim.Native.Nat.{_-_}
+use Rattle.label.specs.declared.fields.Label.{Label}
+use Rattle.shelf.specs.Stage.{startStage, roundStage}
 use Rattle.shelf.proofs.stage.start_stage.Statement.{statement}
 use Rattle.shelf.proofs.stage.start_stage.Tie as tie
-use Rattle.shelf.proofs.stage.start_stage.Reads as reads
-use Rattle.shelf.proofs.stage.start_stage.Lts as lts
-use Rattle.shelf.proofs.stage.late_stage.Reads as late-stage-reads
-use Rattle.shelf.proofs.stage.round_stage.Reads as round-stage-reads
-use Rattle.shelf.proofs.stage.with_generation.Reads as with-generation-reads
 
--- src/stage.rt:114:9
 returns : tie.Need-returns
-returns c = search needs
+unfolding startStage
+returns c = rw (eq-eqb _ _ (c .if1 .taken))
 
--- src/stage.rt:119:28
 sub-round-stage : tie.Need-sub-round-stage
 sub-round-stage c = search needs
 
--- src/stage.rt:119:9
 round-stage-requires : tie.Need-round-stage-requires
 round-stage-requires c κs = search needs
 
--- src/stage.rt:119:9
 returns-2 : tie.Need-returns-2
-returns-2 c = search needs
+unfolding startStage
+returns-2 c = rw (ne-eqb _ _ (c .before .before .if1 .left), le-leb _ _ (c .before .if2 .taken)) (c .round-stage .ensures)
 
--- src/stage.rt:122:28
 sub-round-stage-2 : tie.Need-sub-round-stage-2
 sub-round-stage-2 c = search needs
 
--- src/stage.rt:122:69
 add-with-generation : tie.Need-add-with-generation
 add-with-generation c = search needs
 
--- src/stage.rt:122:48
 with-generation-requires : tie.Need-with-generation-requires
 with-generation-requires c κs = search needs
 
--- src/stage.rt:122:9
 round-stage-requires-2 : tie.Need-round-stage-requires-2
 round-stage-requires-2 c κs = search needs
 
--- src/stage.rt:122:9
 returns-3 : tie.Need-returns-3
-returns-3 c = search needs
+unfolding startStage
+returns-3 c =
+    let a = c .before .before .before .before .before .before .before .before .before .args in
+    rw (ne-eqb _ _ (c .before .before .before .before .before .if1 .left), lt-leb _ _ (c .before .before .before .before .if2 .left), le-leb _ _ (c .before .before .before .if3 .taken))
+    (c .round-stage2 .ensures ∙ ap (λ (x : Label). roundStage (a .i - 3) (a .s .marks .parts) x) (c .before .with-generation .ensures))
 
--- src/stage.rt:125:28
 sub-round-stage-3 : tie.Need-sub-round-stage-3
 sub-round-stage-3 c = search needs
 
--- src/stage.rt:125:9
 round-stage-requires-3 : tie.Need-round-stage-requires-3
 round-stage-requires-3 c κs = search needs
 
--- src/stage.rt:125:9
 returns-4 : tie.Need-returns-4
-returns-4 c = search needs
+unfolding startStage
+returns-4 c = rw (ne-eqb _ _ (c .before .before .before .before .if1 .left), lt-leb _ _ (c .before .before .before .if2 .left), lt-leb _ _ (c .before .before .if3 .left), le-leb _ _ (c .before .if4 .taken)) (c .round-stage3 .ensures)
 
--- src/stage.rt:127:19
 sub-late-stage : tie.Need-sub-late-stage
 sub-late-stage c = search needs
 
--- src/stage.rt:127:5
 late-stage-requires : tie.Need-late-stage-requires
 late-stage-requires c κs = search needs
 
--- src/stage.rt:106:1
 returns-5 : tie.Need-returns-5
-returns-5 c = search needs
+unfolding startStage
+returns-5 c = rw (ne-eqb _ _ (c .before .before .before .before .if1 .left), lt-leb _ _ (c .before .before .before .if2 .left), lt-leb _ _ (c .before .before .if3 .left), lt-leb _ _ (c .before .if4 .left)) (c .late-stage .ensures)
 
 pub start-stage-spec : {M : Type 1} → statement M
 start-stage-spec =

@@ -1,21 +1,17 @@
-use Prim.Native.Nat.{ℕ, _≤_, _<_, _-_, _+_, _*_}
-use mathlib.Core.Path.{_≡_}
-use native.Mathlib.Omega.{arith}
-use lib.ListN.{length, length-set, getD}
+-- It is the state at rest.
 use borrow.Author.Needs.{needs}
+use mathlib.Core.Path.{_≡_, refl, sym, ap, _∙_}
+use Rattle.shelf.specs.declared.state.State.{State}
+use Rattle.shelf.specs.declared.state.Stepped.{Stepped}
+use Rattle.shelf.specs.declared.state.Answer.the-variants.{Done}
 use Rattle.shelf.proofs.step.finish.Statement.{statement}
 use Rattle.shelf.proofs.step.finish.Tie as tie
-use Rattle.shelf.proofs.step.finish.Reads as reads
-use Rattle.shelf.proofs.step.finish.Lts as lts
-use Rattle.shelf.proofs.state.rest.Reads as rest-reads
 
--- src/step.rt:60:9
 rest-requires : tie.Need-rest-requires
 rest-requires c κs = search needs
 
--- src/step.rt:57:1
 returns : tie.Need-returns
-returns c = search needs
+returns c = let make : State → Stepped = λ x. record { state = x; answer = Done } in ap make (c .rest .ensures)
 
 pub finish-spec : {M : Type 1} → statement M
 finish-spec = tie.close (tie.spec rest-requires returns)

@@ -1,18 +1,13 @@
-use Prim.Native.Nat.{ℕ, _≤_, _<_, _-_, _+_, _*_}
-use mathlib.Core.Path.{_≡_}
-use native.Mathlib.Omega.{arith}
-use lib.ListN.{length, length-set, getD}
+-- k and m are small in a label in range.
 use borrow.Author.Needs.{needs}
+use native.Mathlib.Omega.{arith}
+use Rattle.label.proofs.Fits.{fits-says}
 use Rattle.shelf.proofs.step.geometry.Statement.{statement}
 use Rattle.shelf.proofs.step.geometry.Tie as tie
-use Rattle.shelf.proofs.step.geometry.Reads as reads
-use Rattle.shelf.proofs.step.geometry.Lts as lts
 
--- src/step.rt:118:12
 add-t2 : tie.Need-add-t2
-add-t2 c = search needs
+add-t2 c = let f = fits-says _ (c .before .pre) in omega (arith, f .few-data, f .few-parity)
 
--- src/step.rt:113:1
 returns : tie.Need-returns
 returns c = search needs
 
