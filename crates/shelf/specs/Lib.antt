@@ -4,3 +4,5 @@ pub mod Stage
 pub mod Act
 pub mod Step
 pub mod Says
+pub mod Laws
+pub mod Bound

@@ -28,7 +28,7 @@ use Rattle.record.specs.Log.{areaOf, restoreAnswer, afterRestore}
 use Rattle.shelf.specs.Limits.{mostStages}
 use Rattle.shelf.specs.Stage.{slotsOf, stageOf}
 use Rattle.shelf.specs.Act.{Move, refuses, putMove, named, giveMove, byStrip, byRestored, restoreMove, actMove}
-use Rattle.shelf.specs.Step.{seek, isEnd, finished, onStage, nextSlot, walk, underWay, sound, stepMove}
+use Rattle.shelf.specs.Step.{seek, isEnd, finished, onStage, nextSlot, walk, keeps, underWay, sound, stepMove}
 use Rattle.shelf.specs.declared.state.State.{State}
 use Rattle.shelf.specs.declared.stage.Stage.{Stage}
 
@@ -79,12 +79,13 @@ encode-not l w e = not-encoded (fitsOf l) w e
 
 module _ (s : State) (g : Geometry) (d zeroed : ℕ) (l : Label) (img : List ℕ) (off : inMask zeroed d ≡ false)
     (a : Label) (named-is : a ≡ named l d) (o : Outcome) (answer : o ≡ encodeAnswer a sectorBytes) where
-  pub give-put : o ≡ outcome.Done → (v z : List ℕ) → v ≡ afterEncode o a z → giveMove s g d zeroed l img ≡ putMove s g d (l .generation % 2) 1 v img
+  pub give-put : o ≡ outcome.Done → (to : ℕ) → to ≡ l .generation % 2 → (v z : List ℕ) → v ≡ afterEncode o a z
+      → giveMove s g d zeroed l img ≡ putMove s g d to 1 v img
   unfolding giveMove
-  give-put told v z leaves =
+  give-put told to side v z leaves =
       let f : fitsOf (named l d) ≡ true = ap fitsOf (sym named-is) ∙ encode-done a (sym answer ∙ told) in
       let b : sealed (named l d) ≡ v = ap sealed (sym named-is) ∙ sym (leaves ∙ ap (λ (x : Outcome). afterEncode x a z) told) in
-      unless (inMask zeroed d) _ _ off ∙ when (fitsOf (named l d)) _ _ f ∙ ap (λ (x : List ℕ). putMove s g d (l .generation % 2) 1 x img) b
+      unless (inMask zeroed d) _ _ off ∙ when (fitsOf (named l d)) _ _ f ∙ ap₂ (λ (y : ℕ) (x : List ℕ). putMove s g d y 1 x img) (sym side) b
 
   pub give-not : (w : Refusal) → o ≡ outcome.Refused w → giveMove s g d zeroed l img ≡ refuses s NotNow img
   unfolding giveMove
@@ -206,12 +207,12 @@ module _ (s : State) (img : List ℕ) where
         when (sound s) _ _ ok
         ∙ unless (fitsImage (geometryOf (s .now)) (length img)) _ _ (ap (λ (x : Geometry). fitsImage x (length img)) (sym geometry) ∙ e)
 
-    pub step-goes : fitsImage g (length img) ≡ true → stepMove s img ≡ walk mostStages s g img
+    pub step-goes : fitsImage g (length img) ≡ true → stepMove s img ≡ keeps s (walk mostStages s g img)
     unfolding stepMove
     step-goes e =
         when (sound s) _ _ ok
         ∙ when (fitsImage (geometryOf (s .now)) (length img)) _ _ (ap (λ (x : Geometry). fitsImage x (length img)) (sym geometry) ∙ e)
-        ∙ ap (λ (x : Geometry). walk mostStages s x img) (sym geometry)
+        ∙ ap (λ (x : Geometry). keeps s (walk mostStages s x img)) (sym geometry)
 
 -- ---- the loop of the walk: after i stages t is where the request is, and nothing has changed
 pub record Walking (g : Geometry) (img₀ : List ℕ) (s : State) (img : List ℕ) (t : State) (i : ℕ) : Type 0 where

@@ -59,13 +59,14 @@ startStage s i =
 unfoldable pub createStage : State → ℕ → Stage
 createStage s i = cond (eqb i 0) (Flush (s .marks .present)) (roundStage (i - 1) (s .marks .present) (s .next))
 
-abbrev pub stageBy : Kind → State → Stage
-stageBy Nothing s = End
-stageBy Idle s = End
-stageBy Creating s = createStage s (s .cursor .stage)
-stageBy Starting s = startStage s (s .cursor .stage)
-stageBy Labelling s = roundStage (s .cursor .stage) (s .marks .present) (s .next)
+-- stage i of a request
+abbrev pub stageAt : Kind → State → ℕ → Stage
+stageAt Nothing s i = End
+stageAt Idle s i = End
+stageAt Creating s i = createStage s i
+stageAt Starting s i = startStage s i
+stageAt Labelling s i = roundStage i (s .marks .present) (s .next)
 
 -- the stage at which the request is
 abbrev pub stageOf : State → Stage
-stageOf s = stageBy (s .kind) s
+stageOf s = stageAt (s .kind) s (s .cursor .stage)

@@ -12,12 +12,13 @@ use Rattle.label.specs.Fields.{geometryOf, fitsOf}
 use Rattle.shelf.specs.Limits.{mostStages}
 use Rattle.shelf.specs.State.{moved, rested}
 use Rattle.shelf.specs.Stage.{slotsOf, stageOf}
-use Rattle.shelf.specs.Act.{Move, refuses, actMove}
+use Rattle.shelf.specs.Act.{Move, refusal, refuses, actMove}
 use Rattle.shelf.specs.declared.state.State.{State}
 use Rattle.shelf.specs.declared.state.Stepped.{Stepped}
 use Rattle.shelf.specs.declared.state.Kind.{Kind}
 use Rattle.shelf.specs.declared.state.Kind.the-variants.{Nothing, Idle, Creating, Starting, Labelling}
-use Rattle.shelf.specs.declared.state.Answer.the-variants.{Done}
+use Rattle.shelf.specs.declared.state.Answer.{Answer}
+use Rattle.shelf.specs.declared.state.Answer.the-variants.{Put, Flush, Done, Refused}
 use Rattle.shelf.specs.declared.stage.Stage.{Stage}
 use Rattle.shelf.specs.declared.stage.Stage.the-variants as stage
 
@@ -55,6 +56,19 @@ walk (suc left) s g img =
     cond (isEnd (stageOf s)) (finished s img)
     (cond (ltb (nextSlot s g) (g .n)) (actMove s g (stageOf s) (nextSlot s g) img) (walk left (onStage s) g img))
 
+-- where the step was refused, the state is as it was
+abbrev pub byAnswer : Answer → State → Stepped → Stepped
+byAnswer (Put d to) s r = r
+byAnswer (Flush d) s r = r
+byAnswer Done s r = r
+byAnswer (Refused why) s r = refusal s why
+
+abbrev pub kept : State → Stepped → Stepped
+kept s r = byAnswer (r .answer) s r
+
+abbrev pub keeps : State → Move → Move
+keeps s m = record { stepped = kept s (m .stepped); image = m .image }
+
 abbrev pub underWay : Kind → Bool
 underWay Nothing = false
 underWay Idle = false
@@ -69,5 +83,5 @@ sound s = fitsOf (s .now) && (underWay (s .kind) && (leb (s .cursor .stage) most
 unfoldable pub stepMove : State → List ℕ → Move
 stepMove s img =
     cond (sound s)
-    (cond (fitsImage (geometryOf (s .now)) (length img)) (walk mostStages s (geometryOf (s .now)) img) (refuses s BadImage img))
+    (cond (fitsImage (geometryOf (s .now)) (length img)) (keeps s (walk mostStages s (geometryOf (s .now)) img)) (refuses s BadImage img))
     (refuses s NotNow img)

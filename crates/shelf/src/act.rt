@@ -18,9 +18,10 @@ use label::fields::Label;
 use record::log::area;
 use record::log::restore;
 ghost use mathlib.Core.Path.{_≡_};
-ghost use Prim.Native.Nat.{_≤_, _<_};
+ghost use Prim.Native.Nat.{_≤_, _<_, _%_};
 ghost use lib.ListN.{length};
 ghost use Rattle.disk.specs.Limits.{mostN, mostC, mostSectors, sectorBytes};
+ghost use Rattle.disk.specs.Mask.{inMask};
 ghost use Rattle.shelf.specs.Act.{onward, refusal, putMove, flushMove, named, giveMove, wipeMove, restoreMove, actMove};
 
 // The state after sector `sector` of `count` was put on slot d.
@@ -45,6 +46,13 @@ pub(crate) fn refuse(s: State, why: Refusal) -> Stepped
     }
 }
 
+// Whether slot d is absent.
+fn is_absent(s: State, d: usize) -> bool
+    ensures { λ r. ⌜ r ≡ inMask (s .absent) d ⌝ }
+{
+    has(s.absent, d)
+}
+
 // Puts these bytes at sector `to` of slot d, one of `count`.
 fn put_bytes(
     s: State,
@@ -58,7 +66,7 @@ fn put_bytes(
     requires { ⌜ (d < mostN) × (s .cursor .sector < mostC) ⌝ }
     ensures { λ r. ⌜ (r ≡ putMove s g d to count (now (bytes .entry)) (now (image .entry)) .stepped) × (now (image .exit) ≡ putMove s g d to count (now (bytes .entry)) (now (image .entry)) .image) ⌝ }
 {
-    if has(s.absent, d) {
+    if is_absent(s, d) {
         return refuse(s, Refusal::NotNow);
     }
     let outcome = put(image, g, d, to, bytes);
@@ -82,7 +90,7 @@ fn flush(s: State, d: usize) -> Stepped
     requires { ⌜ (d < mostN) × (s .cursor .sector < mostC) ⌝ }
     ensures { λ r. ⌜ r ≡ flushMove s d ⌝ }
 {
-    if has(s.absent, d) {
+    if is_absent(s, d) {
         return refuse(s, Refusal::NotNow);
     }
     let on = onward_from(s, d, 1);
@@ -110,12 +118,19 @@ fn name(l: Label, d: usize) -> Label
     }
 }
 
+// The sector of the label: 1 for an odd generation, 0 for an even one.
+fn side(l: Label) -> usize
+    ensures { λ r. ⌜ r ≡ l .generation % 2 ⌝ }
+{
+    (l.generation % 2) as usize
+}
+
 // Gives slot d the label, or zeros over the sector that is the label's.
 fn give(s: State, g: Geometry, d: usize, zeroed: u64, l: Label, image: &mut [u8]) -> Stepped
     requires { ⌜ (d < mostN) × (s .cursor .sector < mostC) ⌝ }
     ensures { λ r. ⌜ (r ≡ giveMove s g d zeroed l (now (image .entry)) .stepped) × (now (image .exit) ≡ giveMove s g d zeroed l (now (image .entry)) .image) ⌝ }
 {
-    let to = (l.generation % 2) as usize;
+    let to = side(l);
     let mut b = [0u8; SECTOR];
     if has(zeroed, d) {
         return put_bytes(s, g, d, to, 1, &b, image);

@@ -24,7 +24,7 @@ ghost use lib.ListN.{length};
 ghost use Rattle.disk.specs.Limits.{mostN, mostC};
 ghost use Rattle.label.specs.Fields.{mostGeneration, geometryOf, fitsOf};
 ghost use Rattle.shelf.specs.Limits.{mostStages};
-ghost use Rattle.shelf.specs.Step.{seek, isEnd, onStage, done, walk, underWay, sound, stepMove};
+ghost use Rattle.shelf.specs.Step.{seek, isEnd, onStage, done, walk, kept, underWay, sound, stepMove};
 
 // The first slot from `from` on that is in the mask, or n (or `from`, where that is above n).
 fn find(mask: u64, n: usize, from: usize) -> usize
@@ -116,6 +116,19 @@ fn under_way(kind: Kind) -> bool
     }
 }
 
+// Where the step was refused, the state is as it was.
+fn keep(s: State, r: Stepped) -> Stepped
+    ensures { λ t. ⌜ t ≡ kept s r ⌝ }
+{
+    let answer = r.answer;
+    match answer {
+        Answer::Put { slot: _, sector: _ } => r,
+        Answer::Flush { slot: _ } => r,
+        Answer::Done => r,
+        Answer::Refused(why) => refuse(s, why),
+    }
+}
+
 // n, c and S of a label in range.
 fn geometry(l: Label) -> Geometry
     requires { ⌜ fitsOf l ≡ true ⌝ }
@@ -159,5 +172,6 @@ pub fn step(s: State, image: &mut [u8]) -> Stepped
     if !fits_image(g, image.len()) {
         return refuse(s, Refusal::BadImage);
     }
-    go(s, g, image)
+    let r = go(s, g, image);
+    keep(s, r)
 }

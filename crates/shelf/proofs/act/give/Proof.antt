@@ -1,10 +1,16 @@
 -- Zeros, or the bytes of the label, where it has any.
 use borrow.Author.Needs.{needs}
+use Prim.Native.Nat.{ℕ}
+use lib.ListN.{replicate}
+use Rattle.disk.specs.Limits.{sectorBytes}
 use mathlib.Core.Path.{_≡_, refl, sym, ap, _∙_}
-use Rattle.shelf.specs.Act.{Move, giveMove}
+use Rattle.shelf.specs.Act.{Move, putMove, giveMove}
 use Rattle.shelf.specs.Says.{give-put, give-not}
 use Rattle.shelf.proofs.act.give.Statement.{statement}
 use Rattle.shelf.proofs.act.give.Tie as tie
+
+side-requires : tie.Need-side-requires
+side-requires c κs = search needs
 
 has-requires : tie.Need-has-requires
 has-requires c κs = search needs
@@ -20,7 +26,11 @@ same-length c = search needs
 
 returns : tie.Need-returns
 unfolding giveMove
-returns c = let e = sym (c .before .before .before .before .before .before .has .ensures) ∙ c .before .before .before .before .before .if1 .taken in (rw e (c .before .before .put-bytes .ensures .0), rw e (c .before .before .put-bytes .ensures .1))
+returns c =
+    let a = c .before .before .before .before .before .before .before .before .before .args in
+    let e = sym (c .before .before .before .before .before .before .has .ensures) ∙ c .before .before .before .before .before .if1 .taken in
+    let m = ap (λ (x : ℕ). putMove (a .s) (a .g) (a .d) x 1 (replicate sectorBytes 0) (a .image .now)) (c .before .before .before .before .before .before .before .side .ensures) in
+    (rw e (c .before .before .put-bytes .ensures .0 ∙ ap (λ (x : Move). x .stepped) m), rw e (c .before .before .put-bytes .ensures .1 ∙ ap (λ (x : Move). x .image) m))
 
 name-requires : tie.Need-name-requires
 name-requires c κs = search needs
@@ -55,7 +65,7 @@ returns-2 c =
     let e = c .before .before .before .before .before .before .before .before .encode in
     let m =
     give-put (a .s) (a .g) (a .d) (a .zeroed) (a .l) (a .image .now) (sym (c .before .before .before .before .before .before .before .before .before .before .before .before .has .ensures) ∙ c .before .before .before .before .before .before .before .before .before .before .before .if1 .left)
-    (c .before .before .before .before .before .before .before .before .before .before .name .result) (c .before .before .before .before .before .before .before .before .before .before .name .ensures) (e .result) (e .ensures .0) (c .before .before .before .before .before .enum-told .given .1) _ _ (e .ensures .1) in
+    (c .before .before .before .before .before .before .before .before .before .before .name .result) (c .before .before .before .before .before .before .before .before .before .before .name .ensures) (e .result) (e .ensures .0) (c .before .before .before .before .before .enum-told .given .1) (c .before .before .before .before .before .before .before .before .before .before .before .before .before .side .result) (c .before .before .before .before .before .before .before .before .before .before .before .before .before .side .ensures) _ _ (e .ensures .1) in
     (c .before .before .put-bytes2 .ensures .0 ∙ sym (ap (λ (x : Move). x .stepped) m), c .before .before .put-bytes2 .ensures .1 ∙ sym (ap (λ (x : Move). x .image) m))
 
 returns-3 : tie.Need-returns-3
@@ -71,6 +81,7 @@ pub give-spec : {M : Type 1} → statement M
 give-spec =
     tie.close
     (tie.spec
+    side-requires
     has-requires
     slice-aggregate-put-bytes
     put-bytes-requires

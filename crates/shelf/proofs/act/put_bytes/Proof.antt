@@ -12,15 +12,15 @@ use Rattle.shelf.specs.declared.state.Answer.the-variants.{Put}
 use Rattle.shelf.proofs.act.put_bytes.Statement.{statement}
 use Rattle.shelf.proofs.act.put_bytes.Tie as tie
 
-has-requires : tie.Need-has-requires
-has-requires c κs = search needs
+is-absent-requires : tie.Need-is-absent-requires
+is-absent-requires c κs = search needs
 
 refuse-requires : tie.Need-refuse-requires
 refuse-requires c κs = search needs
 
 returns : tie.Need-returns
 unfolding putMove
-returns c = let e = sym (c .before .before .has .ensures) ∙ c .before .if1 .taken in (rw e (c .refuse .ensures), rw e refl)
+returns c = let e = sym (c .before .before .is-absent .ensures) ∙ c .before .if1 .taken in (rw e (c .refuse .ensures), rw e refl)
 
 put-requires : tie.Need-put-requires
 put-requires c κs = search needs
@@ -44,7 +44,7 @@ returns-2 : tie.Need-returns-2
 unfolding putMove
 returns-2 c =
     let a = c .before .before .before .before .before .before .before .before .before .before .before .args in
-    let e = sym (c .before .before .before .before .before .before .before .before .has .ensures) ∙ c .before .before .before .before .before .before .before .if1 .left in
+    let e = sym (c .before .before .before .before .before .before .before .before .is-absent .ensures) ∙ c .before .before .before .before .before .before .before .if1 .left in
     let told = c .before .enum-told .given .1 in
     let p = sym (c .before .before .before .before .before .put .ensures .0) ∙ told in
     let make : State → Stepped = λ x. record { state = x; answer = Put (a .d) (a .to) } in
@@ -57,7 +57,7 @@ returns-3 : tie.Need-returns-3
 unfolding putMove
 returns-3 c =
     let a = c .before .before .before .before .before .before .before .before .before .before .before .before .args in
-    let e = sym (c .before .before .before .before .before .before .before .before .before .has .ensures) ∙ c .before .before .before .before .before .before .before .before .if1 .left in
+    let e = sym (c .before .before .before .before .before .before .before .before .before .is-absent .ensures) ∙ c .before .before .before .before .before .before .before .before .if1 .left in
     let told = c .before .before .outcome .given .1 in
     let p = sym (c .before .before .before .before .before .before .put .ensures .0) ∙ told in
     (rw (e, p) (c .refuse2 .ensures), rw (e, p) (c .before .before .before .before .before .before .put .ensures .1 ∙ ap (λ (o : Outcome). afterPut o (a .g) (a .image .now) (a .d) (a .to) (a .bytes .now)) told))
@@ -66,7 +66,7 @@ pub put-bytes-spec : {M : Type 1} → statement M
 put-bytes-spec =
     tie.close
     (tie.spec
-    has-requires
+    is-absent-requires
     refuse-requires
     returns
     put-requires

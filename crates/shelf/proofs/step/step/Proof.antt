@@ -6,7 +6,7 @@ use native.Mathlib.Omega.{arith}
 use borrow.Author.Tests.{not-true, not-false}
 use Rattle.disk.specs.declared.geometry.Geometry.{Geometry}
 use Rattle.shelf.specs.Act.{Move}
-use Rattle.shelf.specs.Step.{sound}
+use Rattle.shelf.specs.Step.{sound, kept}
 use Rattle.shelf.specs.Says.{sound-says, step-unsound, step-other, step-goes}
 use Rattle.shelf.proofs.step.step.Statement.{statement}
 use Rattle.shelf.proofs.step.step.Tie as tie
@@ -49,15 +49,18 @@ go-requires c κs =
     let e = c .before .before .before .geometry .ensures in
     (o .staged, omega (arith, o .within, f .range .short), f .not-last, omega (arith, f .range .few, ap (λ (x : Geometry). x .n) e), omega (arith, f .range .short, ap (λ (x : Geometry). x .c) e))
 
+keep-requires : tie.Need-keep-requires
+keep-requires c κs = search needs
+
 same-length : tie.Need-same-length
 same-length c = search needs
 
 returns-3 : tie.Need-returns-3
 returns-3 c =
-    let a = c .before .before .before .before .before .before .before .before .before .before .args in
-    let g = c .before .before .before .before .before .before .geometry in
-    let m = step-goes (a .s) (a .image .now) (ok (c .before .before .before .before .before .before .before)) (g .result) (g .ensures) (sym (c .before .before .before .before .before .fits-image .ensures) ∙ not-false _ (c .before .before .before .before .if2 .left)) in
-    (c .before .before .go .ensures .0 ∙ sym (ap (λ (x : Move). x .stepped) m), c .before .before .go .ensures .1 ∙ sym (ap (λ (x : Move). x .image) m))
+    let a = c .before .before .before .before .before .before .before .before .before .before .before .args in
+    let g = c .before .before .before .before .before .before .before .geometry in
+    let m = step-goes (a .s) (a .image .now) (ok (c .before .before .before .before .before .before .before .before)) (g .result) (g .ensures) (sym (c .before .before .before .before .before .before .fits-image .ensures) ∙ not-false _ (c .before .before .before .before .before .if2 .left)) in
+    (c .keep .ensures ∙ ap (kept (a .s)) (c .before .before .before .go .ensures .0) ∙ sym (ap (λ (x : Move). x .stepped) m), c .before .before .before .go .ensures .1 ∙ sym (ap (λ (x : Move). x .image) m))
 
 pub step-spec : {M : Type 1} → statement M
 step-spec =
@@ -71,5 +74,6 @@ step-spec =
     refuse-requires-2
     returns-2
     go-requires
+    keep-requires
     same-length
     returns-3)
