@@ -49,6 +49,52 @@ mod c {
             fields: *mut u64,
             count: usize,
         ) -> u32;
+        pub fn pl_state_bytes() -> usize;
+        pub fn pl_work_bytes(n: u8, c: u8) -> usize;
+        pub fn pl_create(
+            k: u8,
+            m: u8,
+            c: u8,
+            sectors: u32,
+            shelf: u64,
+            image: *mut u8,
+            image_len: usize,
+            state: *mut u8,
+            state_len: usize,
+            work: *mut u8,
+            work_len: usize,
+        ) -> u32;
+        pub fn pl_start(
+            n: u8,
+            c: u8,
+            sectors: u32,
+            absent: u64,
+            image: *mut u8,
+            image_len: usize,
+            state: *mut u8,
+            state_len: usize,
+            work: *mut u8,
+            work_len: usize,
+        ) -> u32;
+        pub fn pl_take_out(
+            slot: u32,
+            image: *mut u8,
+            image_len: usize,
+            state: *mut u8,
+            state_len: usize,
+            work: *mut u8,
+            work_len: usize,
+        ) -> u32;
+        pub fn pl_step(
+            image: *mut u8,
+            image_len: usize,
+            state: *mut u8,
+            state_len: usize,
+            work: *mut u8,
+            work_len: usize,
+        ) -> u64;
+        pub fn pl_status(state: *const u8, state_len: usize, fields: *mut u64, count: usize)
+            -> u32;
     }
 }
 
@@ -65,11 +111,23 @@ impl Refusal {
     pub const BAD_SHARD: Refusal = Refusal(3);
     /// A division by the field's zero.
     pub const ZERO: Refusal = Refusal(4);
-    /// A number of a label out of range, or a sector that isn't 512 bytes.
+    /// A number of a label or a shelf out of range, or a sector or an image of another length.
     pub const BAD_IMAGE: Refusal = Refusal(10);
-    /// No valid label.
+    /// No valid label, or labels that disagree.
     pub const NO_LABEL: Refusal = Refusal(11);
+    /// More than m slots absent or out.
+    pub const TOO_FEW: Refusal = Refusal(12);
+    /// A slot number out of range.
+    pub const BAD_BLOCK: Refusal = Refusal(13);
+    /// Another changing request is under way.
+    pub const BUSY: Refusal = Refusal(14);
+    /// The request makes no sense in this state.
+    pub const NOT_NOW: Refusal = Refusal(15);
+    /// A state, a work area or a list of another length.
+    pub const BAD_BUFFER: Refusal = Refusal(16);
 }
+
+pub mod shelf;
 
 /// The field of 256 elements.
 pub mod field {

@@ -1,0 +1,249 @@
+//! The shelf: an image of n disks of S sectors, one behind the other; what the program remembers between two calls, as bytes
+//! that the caller keeps; and a work area. A request (`create`, `start`, `take_out`) is accepted or refused at once; `step` then
+//! does one action after the other until it says that the request is done.
+//!
+//! Any bytes may be handed in as image, state or work area. A refusal changes nothing.
+use crate::{c, Refusal};
+
+/// The bytes of a sector.
+pub const SECTOR: usize = 512;
+
+/// What one step did.
+#[derive(Clone, Copy, Debug, PartialEq, Eq)]
+pub enum Step {
+    /// This sector of the image was put, and no other byte of it changed: write it to that disk.
+    Put {
+        slot: usize,
+        sector: usize,
+    },
+    /// Nothing changed: flush this disk before the next step.
+    Flush {
+        slot: usize,
+    },
+    /// The request is done; this is what acknowledges it.
+    Done,
+    Refused(Refusal),
+}
+
+/// What the program knows of the shelf; the masks have one bit a slot, and `sectors` is S.
+#[derive(Clone, Copy, Debug, PartialEq, Eq)]
+pub struct Status {
+    /// Whether create or start-up has answered. Before that the label is the one that was read, or is to be written.
+    pub ready: bool,
+    pub k: u8,
+    pub m: u8,
+    pub c: u8,
+    pub sectors: u32,
+    pub shelf: u64,
+    pub generation: u64,
+    pub out: u64,
+    pub absent: u64,
+    /// The slot being rebuilt, or 255.
+    pub rebuilding: u8,
+    pub mark: u32,
+}
+
+/// How many bytes a state has. Zeros are the state in which no shelf is started.
+pub fn state_bytes() -> usize {
+    // SAFETY: numbers only.
+    unsafe { c::pl_state_bytes() }
+}
+
+/// How many bytes the work area of such a shelf has; 0 where n or c is out of range.
+pub fn work_bytes(n: u8, c: u8) -> usize {
+    // SAFETY: numbers only.
+    unsafe { c::pl_work_bytes(n, c) }
+}
+
+/// 0, or the refusal.
+fn begun(answer: u32) -> Result<(), Refusal> {
+    match answer {
+        0 => Ok(()),
+        _ => Err(Refusal(answer)),
+    }
+}
+
+/// Begins to make a shelf of an image of zeros. A shelf number serves one create.
+#[allow(clippy::too_many_arguments)]
+pub fn create(
+    k: u8,
+    m: u8,
+    c: u8,
+    sectors: u32,
+    shelf: u64,
+    image: &mut [u8],
+    state: &mut [u8],
+    work: &mut [u8],
+) -> Result<(), Refusal> {
+    // SAFETY: each pointer and length are one slice's, lent to this call alone.
+    begun(unsafe {
+        c::pl_create(
+            k,
+            m,
+            c,
+            sectors,
+            shelf,
+            image.as_mut_ptr(),
+            image.len(),
+            state.as_mut_ptr(),
+            state.len(),
+            work.as_mut_ptr(),
+            work.len(),
+        )
+    })
+}
+
+/// Begins to start the shelf up, whatever the state was. The bytes of the slots in `absent` may be anything.
+pub fn start(
+    n: u8,
+    c: u8,
+    sectors: u32,
+    absent: u64,
+    image: &mut [u8],
+    state: &mut [u8],
+    work: &mut [u8],
+) -> Result<(), Refusal> {
+    // SAFETY: each pointer and length are one slice's, lent to this call alone.
+    begun(unsafe {
+        c::pl_start(
+            n,
+            c,
+            sectors,
+            absent,
+            image.as_mut_ptr(),
+            image.len(),
+            state.as_mut_ptr(),
+            state.len(),
+            work.as_mut_ptr(),
+            work.len(),
+        )
+    })
+}
+
+/// Begins to call a slot out: its strips are not to be believed any more.
+pub fn take_out(
+    slot: u32,
+    image: &mut [u8],
+    state: &mut [u8],
+    work: &mut [u8],
+) -> Result<(), Refusal> {
+    // SAFETY: each pointer and length are one slice's, lent to this call alone.
+    begun(unsafe {
+        c::pl_take_out(
+            slot,
+            image.as_mut_ptr(),
+            image.len(),
+            state.as_mut_ptr(),
+            state.len(),
+            work.as_mut_ptr(),
+            work.len(),
+        )
+    })
+}
+
+/// Does the next action of the request that is under way.
+pub fn step(image: &mut [u8], state: &mut [u8], work: &mut [u8]) -> Step {
+    // SAFETY: each pointer and length are one slice's, lent to this call alone.
+    let answer = unsafe {
+        c::pl_step(
+            image.as_mut_ptr(),
+            image.len(),
+            state.as_mut_ptr(),
+            state.len(),
+            work.as_mut_ptr(),
+            work.len(),
+        )
+    };
+    let slot = (answer >> 8 & 255) as usize;
+    match answer & 255 {
+        1 => Step::Put {
+            slot,
+            sector: (answer >> 16) as usize,
+        },
+        2 => Step::Flush { slot },
+        3 => Step::Done,
+        _ => Step::Refused(Refusal(slot as u32)),
+    }
+}
+
+/// What the state says. It is NOT_NOW where no shelf is started.
+pub fn status(state: &[u8]) -> Result<Status, Refusal> {
+    let mut f = [0u64; 11];
+    // SAFETY: each pointer and length are one slice's, and `f` is lent to the call alone.
+    begun(unsafe { c::pl_status(state.as_ptr(), state.len(), f.as_mut_ptr(), f.len()) })?;
+    Ok(Status {
+        ready: f[0] == 1,
+        k: f[1] as u8,
+        m: f[2] as u8,
+        c: f[3] as u8,
+        sectors: f[4] as u32,
+        shelf: f[5],
+        generation: f[6],
+        out: f[7],
+        absent: f[8],
+        rebuilding: f[9] as u8,
+        mark: f[10] as u32,
+    })
+}
+
+/// The three together, for a caller who keeps the image in memory.
+#[derive(Clone, Debug, PartialEq, Eq)]
+pub struct Shelf {
+    pub image: Vec<u8>,
+    pub state: Vec<u8>,
+    pub work: Vec<u8>,
+}
+
+impl Shelf {
+    /// An image with no shelf started on it; n and c are the shape that the work area is for.
+    pub fn new(n: u8, c: u8, image: Vec<u8>) -> Shelf {
+        Shelf {
+            image,
+            state: vec![0; state_bytes()],
+            work: vec![0; work_bytes(n, c)],
+        }
+    }
+
+    pub fn create(&mut self, k: u8, m: u8, c: u8, sectors: u32, shelf: u64) -> Result<(), Refusal> {
+        create(
+            k,
+            m,
+            c,
+            sectors,
+            shelf,
+            &mut self.image,
+            &mut self.state,
+            &mut self.work,
+        )
+    }
+
+    pub fn start(&mut self, n: u8, c: u8, sectors: u32, absent: u64) -> Result<(), Refusal> {
+        start(
+            n,
+            c,
+            sectors,
+            absent,
+            &mut self.image,
+            &mut self.state,
+            &mut self.work,
+        )
+    }
+
+    pub fn take_out(&mut self, slot: u32) -> Result<(), Refusal> {
+        take_out(slot, &mut self.image, &mut self.state, &mut self.work)
+    }
+
+    pub fn step(&mut self) -> Step {
+        step(&mut self.image, &mut self.state, &mut self.work)
+    }
+
+    pub fn status(&self) -> Result<Status, Refusal> {
+        status(&self.state)
+    }
+
+    /// The bytes of a sector; `sectors` is S.
+    pub fn sector(&self, sectors: usize, slot: usize, sector: usize) -> &[u8] {
+        let at = (slot * sectors + sector) * SECTOR;
+        &self.image[at..at + SECTOR]
+    }
+}
