@@ -1,6 +1,6 @@
 //! Long histories: random requests, writes played by the test, and cuts at random steps that lose random parts of the caches.
 use crate::bytes::{Shape, Stamp, SECTOR};
-use crate::disks::after_cut;
+use crate::disks::{after_cut, LeftOut};
 use crate::random::Random;
 use crate::watch::Watch;
 use crate::writes::Write;
@@ -149,7 +149,7 @@ impl Run {
 }
 
 /// So many histories of so many events.
-fn run(shape: Shape, histories: u64, events: usize) {
+fn run(shape: Shape, histories: u64, events: usize, left_out: LeftOut) {
     let mut counts = Counts::default();
     for seed in 1..=histories {
         let mut run = Run {
@@ -158,6 +158,7 @@ fn run(shape: Shape, histories: u64, events: usize) {
             stamp: Stamp { epoch: 1, count: 0 },
             counts,
         };
+        run.watch.disks.left_out = left_out;
         run.events(events);
         counts = run.counts;
     }
@@ -167,16 +168,29 @@ fn run(shape: Shape, histories: u64, events: usize) {
     );
 }
 
+const SMALL: Shape = Shape {
+    k: 2,
+    m: 1,
+    c: 1,
+    sectors: 69,
+    shelf: 0,
+};
+
 #[test]
 fn small_shelf() {
-    let shape = Shape {
-        k: 2,
-        m: 1,
-        c: 1,
-        sectors: 69,
-        shelf: 0,
-    };
-    run(shape, 1500, 30);
+    run(SMALL, 1500, 30, None);
+}
+
+/// What is tested here can fail: with a flush of create, of start-up or of taking out left out, or a whole round, some history goes
+/// wrong.
+#[test]
+fn stages_left_out_are_noticed() {
+    let starting: [&'static [u8]; 8] = [&[1, 2], &[2], &[3, 4], &[4], &[6], &[7, 8], &[8], &[12]];
+    let all = starting.map(|stages| (3, stages));
+    for left_out in all.into_iter().chain([(2, &[2][..]), (4, &[1])]) {
+        let noticed = std::panic::catch_unwind(|| run(SMALL, 1500, 30, Some(left_out)));
+        assert!(noticed.is_err(), "{left_out:?} was not noticed");
+    }
 }
 
 #[test]
@@ -188,7 +202,7 @@ fn three_parities() {
         sectors: 72,
         shelf: 1 << 63,
     };
-    run(shape, 500, 30);
+    run(shape, 500, 30, None);
 }
 
 #[test]
@@ -200,5 +214,5 @@ fn larger_shelf() {
         sectors: 200,
         shelf: u64::MAX,
     };
-    run(shape, 100, 30);
+    run(shape, 100, 30, None);
 }
