@@ -1,6 +1,6 @@
 -- Laws of what start-up decides. Assumes nothing.
 use mathlib.Core.Path.{_≡_, refl, sym, ap, ap₂, _∙_}
-use mathlib.Core.Bool.{Bool, true, false, _&&_, _||_, cond, not}
+use mathlib.Core.Bool.{Bool, true, false, _||_, cond, not}
 use mathlib.Core.List.{List}
 use Prim.Native.Nat.{ℕ, _<_}
 use native.Mathlib.Omega.{arith}
@@ -13,7 +13,6 @@ use Rattle.disk.specs.declared.geometry.Geometry.{Geometry}
 use Rattle.label.specs.declared.fields.Label.{Label}
 use Rattle.record.specs.Stamp.{zeroStamp}
 use Rattle.record.specs.Tail.{tailAt, mayBe, decodeOf}
-use Rattle.record.specs.declared.stamp.Stamp.{Stamp}
 use Rattle.record.specs.declared.tail.Tail.{Tail}
 use Rattle.record.specs.declared.tail.Found as tail
 use Rattle.redo.specs.Decide.{plainlyOut, looked, believed, logAt, tailOf, stampIn, keyOf, settled, decided}

@@ -19,9 +19,9 @@ use record::tail::Tail;
 ghost use mathlib.Core.Path.{_≡_};
 ghost use mathlib.Core.Bool.{true, cond};
 ghost use Prim.Native.Nat.{_<_};
-ghost use Rattle.disk.specs.Geometry.{inRange, shardOf};
+ghost use Rattle.disk.specs.Geometry.{inRange};
 ghost use Rattle.disk.specs.Limits.{maskBits};
-ghost use Rattle.disk.specs.Mask.{inMask, withSlot, maskOf};
+ghost use Rattle.disk.specs.Mask.{withSlot, maskOf};
 ghost use Rattle.record.specs.Stamp.{stampAt, sameStamp};
 ghost use Rattle.redo.specs.Decide.{logAt, involved, completeWith, serves, wholeOf, marked, settled};
 

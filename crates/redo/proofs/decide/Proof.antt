@@ -1,7 +1,6 @@
 -- By the leader's tail.
 use mathlib.Core.Bool.{true}
 use mathlib.Core.Path.{_≡_, sym, ap, _∙_}
-use Prim.Native.Nat.{ℕ}
 use lib.Dec.{eqb}
 use lib.ListN.{length}
 use borrow.Author.Tests.{not-true, not-false}
@@ -9,7 +8,7 @@ use borrow.Author.Needs.{needs}
 use Rattle.disk.specs.Tests.{and-left}
 use Rattle.disk.specs.Geometry.{inRange, imageBytes}
 use Rattle.disk.specs.Image.{fitsImage}
-use Rattle.redo.specs.Decide.{tailOf, leadOf, decided, redoOf}
+use Rattle.redo.specs.Decide.{tailOf, leadOf, redoOf}
 use Rattle.redo.specs.Laws.{decided-some, decided-none}
 use Rattle.redo.proofs.decide.Statement.{statement}
 use Rattle.redo.proofs.decide.Tie as tie

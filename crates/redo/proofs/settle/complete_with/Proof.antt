@@ -1,11 +1,10 @@
 -- Complete, and of this stamp.
-use mathlib.Core.Bool.{Bool}
 use mathlib.Core.List.{List}
-use mathlib.Core.Path.{_≡_, sym, ap, _∙_}
+use mathlib.Core.Path.{sym, ap, _∙_}
 use Prim.Native.Nat.{ℕ}
 use borrow.Author.Tests.{not-true, not-false}
 use borrow.Author.Needs.{needs}
-use Rattle.record.specs.Log.{completeOf, areaOf}
+use Rattle.record.specs.Log.{completeOf}
 use Rattle.redo.specs.Decide.{completeWith}
 use Rattle.redo.proofs.settle.complete_with.Statement.{statement}
 use Rattle.redo.proofs.settle.complete_with.Tie as tie

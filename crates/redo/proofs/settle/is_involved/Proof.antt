@@ -9,7 +9,6 @@ use borrow.Author.Needs.{needs}
 use Rattle.disk.specs.Tests.{both}
 use Rattle.disk.specs.Geometry.{found, stripesOf, shardOf}
 use Rattle.disk.specs.Mask.{inMask}
-use Rattle.disk.specs.declared.geometry.Found.the-variants.{At}
 use Rattle.redo.specs.Decide.{believed, involved}
 use Rattle.redo.specs.Laws.{looked-below, believed-looked, believed-below}
 use Rattle.redo.proofs.settle.is_involved.Statement.{statement}

@@ -1,7 +1,5 @@
 -- The stamp of the tail's sector.
-use mathlib.Core.List.{List}
 use mathlib.Core.Path.{ap, _∙_}
-use Prim.Native.Nat.{ℕ}
 use borrow.Author.Needs.{needs}
 use Rattle.record.specs.Stamp.{stampAt, sameStamp}
 use Rattle.record.specs.declared.stamp.Stamp.{Stamp}
