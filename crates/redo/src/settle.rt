@@ -54,10 +54,12 @@ fn complete_with(image: &[u8], g: Geometry, a: Stamp, d: usize) -> bool
     requires { ⌜ inRange g ≡ true ⌝ }
     ensures { λ r. ⌜ r ≡ completeWith g (now (image .entry)) a d ⌝ }
 {
-    if !complete(area(image, g, d), g.c) {
+    let every = complete(area(image, g, d), g.c);
+    let tail = tail_has(image, g, a, d);
+    if !every {
         return false;
     }
-    tail_has(image, g, a, d)
+    tail
 }
 
 // Whether slot d's record is complete, if the write changes it.
