@@ -43,16 +43,20 @@ unfoldable pub logAt : Geometry → List ℕ → ℕ → ℕ → List ℕ
 logAt g img d j = readOf g img d (firstLog + j)
 
 -- slot d's tail, where it is looked at and is no garbage
-unfoldable pub tailOf : Geometry → List ℕ → Label → ℕ → tail.Found
-tailOf g img l d = cond (looked g l d) (decodeOf (logAt g img d (g .c)) (stripesOf g) (g .n) (l .generation)) tail.the-variants.Nothing
+unfoldable pub tailFound : Geometry → List ℕ → Label → ℕ → tail.Found
+tailFound g img l d = cond (looked g l d) (decodeOf (logAt g img d (g .c)) (stripesOf g) (g .n) (l .generation)) tail.the-variants.Nothing
 
--- the stamp of what was found, that of zeros for nothing
-abbrev pub stampIn : tail.Found → Stamp
-stampIn (tail.the-variants.Record x) = x .stamp
-stampIn tail.the-variants.Nothing = record { epoch = 0; count = 0 }
+-- no write's stamp
+abbrev pub noStamp : Stamp
+noStamp = record { epoch = 0; count = 0 }
+
+-- the stamp of what was found
+abbrev pub stampFound : tail.Found → Stamp
+stampFound (tail.the-variants.Record x) = x .stamp
+stampFound tail.the-variants.Nothing = noStamp
 
 unfoldable pub keyOf : Geometry → List ℕ → Label → ℕ → Stamp
-keyOf g img l d = stampIn (tailOf g img l d)
+keyOf g img l d = stampFound (tailFound g img l d)
 
 -- the slot below n whose key is greatest (the lowest of them)
 unfoldable pub leaderOf : (ℕ → Stamp) → ℕ → ℕ

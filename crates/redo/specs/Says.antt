@@ -1,7 +1,7 @@
 -- What each decision says. Nothing: no tail that is looked at is one. Forward: a stripe of the shelf, and slots of it that are looked at and have complete records, so
 -- that giving a strip's sector back from them is never refused. Kill: slots that are looked at. Assumes nothing.
 use mathlib.Core.Path.{_≡_, refl, sym, ap, _∙_}
-use mathlib.Core.Bool.{Bool, true, false, _||_, cond, not, true≢false}
+use mathlib.Core.Bool.{Bool, true, false, cond, not, true≢false}
 use mathlib.Core.List.{List}
 use mathlib.Core.Logic.{⊎-elim}
 use Prim.Native.Nat.{ℕ, _+_, _*_, _≤_, _<_}
@@ -17,45 +17,35 @@ use Rattle.disk.specs.Mask.{inMask, maskOf, mask-below, mask-past}
 use Rattle.disk.specs.declared.geometry.Geometry.{Geometry}
 use Rattle.disk.specs.declared.refusal.Outcome.the-variants.{Done}
 use Rattle.label.specs.declared.fields.Label.{Label}
-use Rattle.label.proofs.Counts.{all-at}
 use Rattle.record.specs.Stamp.{stampAt, zeroStamp, sameStamp}
 use Rattle.record.specs.Tail.{tailAt, mayBe}
 use Rattle.record.specs.Log.{areaOf, completeOf, restoreAnswer}
 use Rattle.record.specs.declared.stamp.Stamp.{Stamp}
 use Rattle.record.specs.declared.tail.Tail.{Tail}
 use Rattle.record.specs.declared.tail.Found as tail
-use Rattle.redo.specs.Decide.{looked, believed, logAt, tailOf, stampIn, keyOf, leaderOf, leadOf, involved, completeWith, serves, wholeOf, marked, settled, decided, redoOf}
-use Rattle.redo.specs.Laws.{looked-below, believed-looked, tail-tells, may-some}
+use Rattle.redo.specs.Decide.{looked, logAt, tailFound, stampFound, keyOf, leaderOf, leadOf, involved, completeWith, wholeOf, marked, settled, decided, redoOf}
+use Rattle.redo.specs.Laws.{looked-below, tail-tells, may-some}
+use Rattle.redo.specs.Complete.{involved-looked, whole-says}
 use Rattle.redo.specs.Leader.{leader-top, zero-top}
 use Rattle.redo.specs.declared.Redo as declared
 use Rattle.redo.specs.declared.Redo.the-variants.{Nothing, Forward, Kill}
 
 -- the key of a slot that has a tail
-some-key : (g : Geometry) (img : List ℕ) (l : Label) (d : ℕ) (x : Tail) → tailOf g img l d ≡ tail.the-variants.Record x → zeroStamp (keyOf g img l d) ≡ true → zeroStamp (x .stamp) ≡ true
+some-key : (g : Geometry) (img : List ℕ) (l : Label) (d : ℕ) (x : Tail) → tailFound g img l d ≡ tail.the-variants.Record x → zeroStamp (keyOf g img l d) ≡ true → zeroStamp (x .stamp) ≡ true
 unfolding keyOf
-some-key g img l d x e z = sym (ap (λ (f : tail.Found). zeroStamp (stampIn f)) e) ∙ z
+some-key g img l d x e z = sym (ap (λ (f : tail.Found). zeroStamp (stampFound f)) e) ∙ z
 
 -- a slot of the mask that a test makes
 mask-says : (p : ℕ → Bool) (n d : ℕ) → inMask (maskOf p n) d ≡ true → p d ≡ true
 mask-says p n d e =
     ⊎-elim (λ (h : d < n). sym (mask-below p n d h) ∙ e) (λ (h : n ≤ d). absurd (true≢false (sym e ∙ mask-past p n d h))) (lt-or-ge d n)
 
--- a slot that the write changes is looked at
-involved-looked : (g : Geometry) (l : Label) (x : Tail) (d : ℕ) → involved g l x d ≡ true → looked g l d ≡ true
-unfolding involved
-involved-looked g l x d e = believed-looked g l d (x .stripe) (and-left (believed g l d (x .stripe)) _ e)
-
--- a slot that the write changes, and that serves, has a complete record
-served : (g : Geometry) (img : List ℕ) (l : Label) (a : Stamp) (x : Tail) (d : ℕ) → serves g img l a x d ≡ true → involved g l x d ≡ true → completeWith g img a d ≡ true
-unfolding serves
-served g img l a x d e i = sym (ap (λ (b : Bool). not b || completeWith g img a d) i) ∙ e
-
 -- where the leader's key is a stamp, its stripe is one of the shelf's
 stripe-below : (g : Geometry) (img : List ℕ) (l : Label) (d : ℕ) → zeroStamp (keyOf g img l d) ≡ false → tailAt (logAt g img d (g .c)) .stripe < stripesOf g
 unfolding keyOf zeroStamp mayBe
-stripe-below g img l d = by (tailOf g img l d) refl
+stripe-below g img l d = by (tailFound g img l d) refl
   where
-    by : (f : tail.Found) → tailOf g img l d ≡ f → zeroStamp (stampIn f) ≡ false → tailAt (logAt g img d (g .c)) .stripe < stripesOf g
+    by : (f : tail.Found) → tailFound g img l d ≡ f → zeroStamp (stampFound f) ≡ false → tailAt (logAt g img d (g .c)) .stripe < stripesOf g
     by tail.the-variants.Nothing e z = absurd (let w : _≡_ {A = ℕ} 0 1 = cc in omega arith)
     by (tail.the-variants.Record x) e z =
         let t = tail-tells g img l d x e in
@@ -74,9 +64,9 @@ settled-some g img l a x = by (wholeOf g img l a x)
 
 -- what Nothing says: no slot that is looked at has a tail
 pub nothing-says : (g : Geometry) (img : List ℕ) (l : Label) → fitsImage g (length img) ≡ true → redoOf g img l ≡ Nothing
-    → (d : ℕ) → d < g .n → tailOf g img l d ≡ tail.the-variants.Nothing
+    → (d : ℕ) → d < g .n → tailFound g img l d ≡ tail.the-variants.Nothing
 unfolding redoOf decided leadOf
-nothing-says g img l fits e d h = none (tailOf g img l d) refl
+nothing-says g img l fits e d h = none (tailFound g img l d) refl
   where
     a : Stamp
     a = keyOf g img l (leaderOf (keyOf g img l) (g .n))
@@ -91,7 +81,7 @@ nothing-says g img l fits e d h = none (tailOf g img l d) refl
     no-key : zeroStamp (keyOf g img l d) ≡ true
     no-key = zero-top (keyOf g img l d) a (zero (zeroStamp a) refl (rw fits at e)) (leader-top (keyOf g img l) (g .n) d h)
 
-    none : (f : tail.Found) → tailOf g img l d ≡ f → f ≡ tail.the-variants.Nothing
+    none : (f : tail.Found) → tailFound g img l d ≡ f → f ≡ tail.the-variants.Nothing
     none tail.the-variants.Nothing p = refl
     none (tail.the-variants.Record x) p = absurd (true≢false (sym (some-key g img l d x p no-key) ∙ may-some x (stripesOf g) (g .n) (l .generation) (tail-tells g img l d x p .may)))
 
@@ -103,7 +93,7 @@ pub record Forwards (g : Geometry) (img : List ℕ) (l : Label) (t slots : ℕ) 
   pub complete : (d : ℕ) → inMask slots d ≡ true → completeOf (areaOf g img d) (g .c) ≡ true
 
 pub forward-says : (g : Geometry) (img : List ℕ) (l : Label) (t slots : ℕ) → redoOf g img l ≡ Forward t slots → Forwards g img l t slots
-unfolding redoOf decided settled wholeOf completeWith
+unfolding redoOf decided settled completeWith
 forward-says g img l t slots = by (fitsImage g (length img)) (zeroStamp a) refl (wholeOf g img l a x) refl
   where
     a : Stamp
@@ -125,14 +115,14 @@ forward-says g img l t slots = by (fitsImage g (length img)) (zeroStamp a) refl 
         let s : x .stripe ≡ t = cc in
         let m : I ≡ slots = cc in
         let i : (d : ℕ) → inMask slots d ≡ true → involved g l x d ≡ true = λ d h. mask-says (involved g l x) (g .n) d (ap (λ (y : ℕ). inMask y d) m ∙ h) in
-        let k : (d : ℕ) → inMask slots d ≡ true → looked g l d ≡ true = λ d h. involved-looked g l x d (i d h) in
+        let k : (d : ℕ) → inMask slots d ≡ true → looked g l d ≡ true = λ d h. involved-looked g img l a x d (i d h) in
         record {
           stripe = omega (arith, stripe-below g img l (leadOf g img l) p);
           seen = k;
           below = λ d h. looked-below g l d (k d h);
           complete = λ d h.
               and-left (completeOf (areaOf g img d) (g .c)) _
-              (served g img l a x d (all-at (serves g img l a x) (g .n) q d (looked-below g l d (k d h))) (i d h));
+              (whole-says g img l a x q d (i d h));
         }
 
 -- what Kill says

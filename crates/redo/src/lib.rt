@@ -5,8 +5,8 @@ mod settle;
 mod tails;
 
 use crate::settle::settle;
+use crate::tails::find_tail;
 use crate::tails::leader;
-use crate::tails::tail_of;
 use disk::geometry::Geometry;
 use disk::sector::fits_image;
 use label::fields::Label;
@@ -29,7 +29,7 @@ pub fn decide(image: &[u8], g: Geometry, l: Label) -> Redo
     if !fits_image(g, image.len()) {
         return Redo::Nothing;
     }
-    let found = tail_of(image, g, l, leader(image, g, l));
+    let found = find_tail(image, g, l, leader(image, g, l));
     match found {
         Found::Record(x) => {
             let stamp = x.stamp;

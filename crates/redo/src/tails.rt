@@ -13,7 +13,7 @@ ghost use mathlib.Core.Path.{_≡_};
 ghost use mathlib.Core.Bool.{true, cond};
 ghost use Rattle.disk.specs.Geometry.{inRange};
 ghost use Rattle.record.specs.Stamp.{laterOf};
-ghost use Rattle.redo.specs.Decide.{logAt, tailOf, keyOf, leadOf};
+ghost use Rattle.redo.specs.Decide.{logAt, tailFound, keyOf, leadOf};
 
 // The tail of slot d's record, the last of its c + 1 sectors.
 pub(crate) fn tail_sector(image: &[u8], g: Geometry, d: usize) -> &[u8]
@@ -24,9 +24,9 @@ pub(crate) fn tail_sector(image: &[u8], g: Geometry, d: usize) -> &[u8]
 }
 
 // What slot d's tail tells, where it is looked at.
-pub(crate) fn tail_of(image: &[u8], g: Geometry, l: Label, d: usize) -> Found
+pub(crate) fn find_tail(image: &[u8], g: Geometry, l: Label, d: usize) -> Found
     requires { ⌜ inRange g ≡ true ⌝ }
-    ensures { λ r. ⌜ r ≡ tailOf g (now (image .entry)) l d ⌝ }
+    ensures { λ r. ⌜ r ≡ tailFound g (now (image .entry)) l d ⌝ }
 {
     if !looked_at(g, l, d) {
         return Found::Nothing;
@@ -44,7 +44,7 @@ fn key(image: &[u8], g: Geometry, l: Label, d: usize) -> Stamp
     requires { ⌜ inRange g ≡ true ⌝ }
     ensures { λ r. ⌜ r ≡ keyOf g (now (image .entry)) l d ⌝ }
 {
-    let found = tail_of(image, g, l, d);
+    let found = find_tail(image, g, l, d);
     match found {
         Found::Record(x) => x.stamp,
         Found::Nothing => Stamp { epoch: 0, count: 0 },

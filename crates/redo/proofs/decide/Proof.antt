@@ -8,7 +8,7 @@ use borrow.Author.Needs.{needs}
 use Rattle.disk.specs.Tests.{and-left}
 use Rattle.disk.specs.Geometry.{inRange, imageBytes}
 use Rattle.disk.specs.Image.{fitsImage}
-use Rattle.redo.specs.Decide.{tailOf, leadOf, redoOf}
+use Rattle.redo.specs.Decide.{tailFound, leadOf, redoOf}
 use Rattle.redo.specs.Laws.{decided-some, decided-none}
 use Rattle.redo.proofs.decide.Statement.{statement}
 use Rattle.redo.proofs.decide.Tie as tie
@@ -30,8 +30,8 @@ range c = let a = c .before .before .before .args in and-left (inRange (a .g)) (
 leader-requires : tie.Need-leader-requires
 leader-requires c κs = range c
 
-tail-of-requires : tie.Need-tail-of-requires
-tail-of-requires c κs = range (c .before)
+find-tail-requires : tie.Need-find-tail-requires
+find-tail-requires c κs = range (c .before)
 
 enum-known-found : tie.Need-enum-known-found
 enum-known-found c = search needs
@@ -49,7 +49,7 @@ returns-2 c =
     let t = f .before .before in
     let b = t .before .before in
     let a = b .before .before .before .args in
-    let e = sym (t .tail-of .ensures ∙ ap (tailOf (a .g) (a .image .now) (a .l)) (t .before .leader .ensures)) ∙ f .found .given .1 in
+    let e = sym (t .find-tail .ensures ∙ ap (tailFound (a .g) (a .image .now) (a .l)) (t .before .leader .ensures)) ∙ f .found .given .1 in
     rw (fits b) (c .settle .ensures ∙ sym (decided-some (a .g) (a .image .now) (a .l) (leadOf (a .g) (a .image .now) (a .l)) _ e))
 
 returns-3 : tie.Need-returns-3
@@ -58,7 +58,7 @@ returns-3 c =
     let t = c .before .before in
     let b = t .before .before in
     let a = b .before .before .before .args in
-    let e = sym (t .tail-of .ensures ∙ ap (tailOf (a .g) (a .image .now) (a .l)) (t .before .leader .ensures)) ∙ c .enum-told .given .1 in
+    let e = sym (t .find-tail .ensures ∙ ap (tailFound (a .g) (a .image .now) (a .l)) (t .before .leader .ensures)) ∙ c .enum-told .given .1 in
     rw (fits b) (sym (decided-none (a .g) (a .image .now) (a .l) (leadOf (a .g) (a .image .now) (a .l)) e))
 
 pub decide-spec : {M : Type 1} → statement M
@@ -68,7 +68,7 @@ decide-spec =
     fits-image-requires
     returns
     leader-requires
-    tail-of-requires
+    find-tail-requires
     enum-known-found
     settle-requires
     enum-told

@@ -5,15 +5,15 @@ use Prim.Native.Nat.{ℕ}
 use borrow.Author.Tests.{not-true, not-false}
 use borrow.Author.Needs.{needs}
 use Rattle.record.specs.Tail.{decodeOf}
-use Rattle.redo.specs.Decide.{tailOf}
-use Rattle.redo.proofs.tails.tail_of.Statement.{statement}
-use Rattle.redo.proofs.tails.tail_of.Tie as tie
+use Rattle.redo.specs.Decide.{tailFound}
+use Rattle.redo.proofs.tails.find_tail.Statement.{statement}
+use Rattle.redo.proofs.tails.find_tail.Tie as tie
 
 looked-at-requires : tie.Need-looked-at-requires
 looked-at-requires c κs = search needs
 
 returns : tie.Need-returns
-unfolding tailOf
+unfolding tailFound
 returns c = rw (sym (c .before .looked-at .ensures) ∙ not-true _ (c .if1 .taken))
 
 tail-sector-requires : tie.Need-tail-sector-requires
@@ -26,7 +26,7 @@ decode-requires : tie.Need-decode-requires
 decode-requires c κs = search needs
 
 returns-2 : tie.Need-returns-2
-unfolding tailOf
+unfolding tailFound
 returns-2 c =
     let b = c .before .before in
     let e = b .before in
@@ -35,8 +35,8 @@ returns-2 c =
     (c .decode .ensures
     ∙ ap₂ (λ (x : List ℕ) (t : ℕ). decodeOf x t (a .g .n) (a .l .generation)) (b .tail-sector .ensures) (c .before .stripes-of .ensures))
 
-pub tail-of-spec : {M : Type 1} → statement M
-tail-of-spec =
+pub find-tail-spec : {M : Type 1} → statement M
+find-tail-spec =
     tie.close
     (tie.spec
     looked-at-requires
