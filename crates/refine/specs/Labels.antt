@@ -24,6 +24,7 @@ use Rattle.label.specs.declared.codec.Decoded.{Decoded}
 use Rattle.label.specs.declared.codec.Decoded.the-variants.{Valid, Nothing}
 use Rattle.label.proofs.Fits.{fits-says}
 use Rattle.label.proofs.Counts.{SameShelf, same-says, agreed-says, shelf-says, present-says, disk-says, copy-says, disk-own}
+use Rattle.rounds.specs.Slot.{ageOf}
 use Rattle.protocol.specs.World.{label, Image}
 use Rattle.protocol.specs.Slots.{from, of-from, leader, leader-below, every-all}
 use Rattle.protocol.specs.Label.{Label, copy}
@@ -91,11 +92,6 @@ ours-same z l x e s =
     })
 
 -- ---- the newer of two
-
--- the generation of a label, 0 where there is none
-abbrev ageOf : Decoded → ℕ
-ageOf Nothing = 0
-ageOf (Valid l) = l .generation
 
 -- a label has a generation from 1 on
 abbrev Aged : Decoded → Type 0
@@ -165,11 +161,8 @@ module _ (z : Shelf) where
   -- ---- what is read
 
   module _ (img : List ℕ) (disks : Disks z img) (absent : ℕ) (A : ℕ → Bool) (are : (d : ℕ) → d < slots z → A d ≡ inMask absent d) where
-    abbrev f0 : Image Sector
-    f0 = seenOf z A img
-
     -- each copy
-    pub copy-is : (d : ℕ) (b : Bool) → d < slots z → inMask absent d ≡ false → copy (labels z) f0 d b ≡ meant z (copyOf (geometry z) img d (Labels.sectorOf b))
+    pub copy-is : (d : ℕ) (b : Bool) → d < slots z → inMask absent d ≡ false → copy (labels z) (seenOf z A img) d b ≡ meant z (copyOf (geometry z) img d (Labels.sectorOf b))
     unfolding copy decodeLabel copyOf sectorOf copySector
     copy-is d b h e =
         ap (λ (x : List ℕ). meant z (decodeOf x d (Labels.sectorOf b)))
@@ -186,62 +179,72 @@ module _ (z : Shelf) where
 
     -- a present disk's label, if it is one of this shelf
     pub newest-is : (d : ℕ) (a : bytes.Label) → d < slots z → inMask absent d ≡ false → diskLabel (geometry z) img d ≡ Valid a → ours z a ≡ true
-        → newest (size z) (labels z) A f0 d ≡ labelOf z a
+        → newest (size z) (labels z) A (seenOf z A img) d ≡ labelOf z a
     unfolding diskLabel newestOf
     newest-is d a h e q o =
         ap₂ newerOf (copy-is d false h e) (copy-is d true h e)
         ∙ newer-ours (copyOf (geometry z) img d 0) (copyOf (geometry z) img d 1) a (copy-aged d 0) (copy-aged d 1) o q
 
-    -- ---- the shelf's label l names this shelf, and each present disk's agrees with it
-    module _ (l : bytes.Label) (own : ours z l ≡ true) (leads : shelfLabel (geometry z) img absent ≡ Valid l) (agree : agreed (geometry z) img absent l ≡ true) where
-      -- the label of each present disk, and its generation
-      pub newest-of : (d : ℕ) (a : bytes.Label) → d < slots z → inMask absent d ≡ false → diskLabel (geometry z) img d ≡ Valid a → newest (size z) (labels z) A f0 d ≡ labelOf z a
-      newest-of d a h e q =
-          let s = agreed-says (geometry z) img absent l agree d h e in
-          let i : s .label ≡ a = cc (s .is) in
-          newest-is d a h e q (ap (ours z) (sym i) ∙ ours-same z l (s .label) own (s .same))
+-- ---- the shelf's label l names this shelf, and each present disk has one that agrees with it. (A: the absent slots, as a test.)
+pub record Led (z : Shelf) (img : List ℕ) (absent : ℕ) (A : ℕ → Bool) (l : bytes.Label) : Type 0 where
+  pub disks : Disks z img
+  pub are : (d : ℕ) → d < slots z → A d ≡ inMask absent d
+  pub own : ours z l ≡ true
+  pub leads : shelfLabel (geometry z) img absent ≡ Valid l
+  pub agree : agreed (geometry z) img absent l ≡ true
 
-      pub seen-of : (d : ℕ) (a : bytes.Label) → d < slots z → inMask absent d ≡ false → diskLabel (geometry z) img d ≡ Valid a → seen (size z) (labels z) A f0 d ≡ a .generation
-      seen-of d a h e q =
-          ap (λ (b : Bool). cond b 0 (newest (size z) (labels z) A f0 d .generation)) (are d h ∙ e) ∙ ap (λ (x : Label). x .generation) (newest-of d a h e q)
+module _ (z : Shelf) (img : List ℕ) (absent : ℕ) (A : ℕ → Bool) (l : bytes.Label) (led : Led z img absent A l) where
+  abbrev f0 : Image Sector
+  f0 = seenOf z A img
 
-      seen-age : (d : ℕ) → d < slots z → seen (size z) (labels z) A f0 d ≡ ageOf (presentLabel (geometry z) img absent d)
-      unfolding presentLabel
-      seen-age d h = by (inMask absent d) refl
-        where
-          by : (b : Bool) → inMask absent d ≡ b → seen (size z) (labels z) A f0 d ≡ ageOf (presentLabel (geometry z) img absent d)
-          by true e =
-              ap (λ (b : Bool). cond b 0 (newest (size z) (labels z) A f0 d .generation)) (are d h ∙ e)
-              ∙ sym (ap (λ (b : Bool). ageOf (cond b Nothing (diskLabel (geometry z) img d))) e)
-          by false e =
-              let s = agreed-says (geometry z) img absent l agree d h e in
-              seen-of d (s .label) h e (s .is) ∙ sym (ap (λ (b : Bool). ageOf (cond b Nothing (diskLabel (geometry z) img d))) e ∙ ap ageOf (s .is))
+  -- the label of each present disk, and its generation
+  pub newest-of : (d : ℕ) (a : bytes.Label) → d < slots z → inMask absent d ≡ false → diskLabel (geometry z) img d ≡ Valid a → newest (size z) (labels z) A f0 d ≡ labelOf z a
+  newest-of d a h e q =
+      let s = agreed-says (geometry z) img absent l (led .agree) d h e in
+      let i : s .label ≡ a = cc (s .is) in
+      newest-is z img (led .disks) absent A (led .are) d a h e q (ap (ours z) (sym i) ∙ ours-same z l (s .label) (led .own) (s .same))
 
-      -- every present slot has a label
-      pub labelled-is : labelled (size z) (labels z) A f0 ≡ true
-      labelled-is = every-all (λ d. A d || ltb 0 (seen (size z) (labels z) A f0 d)) (from 0 (slots z)) (λ d m. go d (omega (arith, of-from (slots z) 0 d m)) (inMask absent d) refl)
-        where
-          go : (d : ℕ) → d < slots z → (b : Bool) → inMask absent d ≡ b → (A d || ltb 0 (seen (size z) (labels z) A f0 d)) ≡ true
-          go d h true e = ap (λ (b : Bool). b || ltb 0 (seen (size z) (labels z) A f0 d)) (are d h ∙ e)
-          go d h false e =
-              let s = agreed-says (geometry z) img absent l agree d h e in
-              ap (λ (b : Bool). b || ltb 0 (seen (size z) (labels z) A f0 d)) (are d h ∙ e)
-              ∙ lt-ltb 0 (seen (size z) (labels z) A f0 d) (omega (arith, seen-of d (s .label) h e (s .is), disk-aged d (s .label) (s .is)))
+  pub seen-of : (d : ℕ) (a : bytes.Label) → d < slots z → inMask absent d ≡ false → diskLabel (geometry z) img d ≡ Valid a → seen (size z) (labels z) A f0 d ≡ a .generation
+  seen-of d a h e q =
+      ap (λ (b : Bool). cond b 0 (newest (size z) (labels z) A f0 d .generation)) (led .are d h ∙ e) ∙ ap (λ (x : Label). x .generation) (newest-of d a h e q)
 
-      -- the leader's is the shelf's
-      lead-is : presentLabel (geometry z) img absent (lead (size z) (labels z) A f0) ≡ Valid l
-      unfolding shelfLabel
-      lead-is =
-          sym (newest-leads (presentLabel (geometry z) img absent) (seen (size z) (labels z) A f0) (slots z) (some-slots z) present-aged seen-age)
-          ∙ sym (ap (λ (b : Bool). cond b (newestOf (presentLabel (geometry z) img absent) (slots z)) Nothing) (image-fits z img disks)) ∙ leads
+  seen-age : (d : ℕ) → d < slots z → seen (size z) (labels z) A f0 d ≡ ageOf (presentLabel (geometry z) img absent d)
+  unfolding presentLabel
+  seen-age d h = by (inMask absent d) refl
+    where
+      by : (b : Bool) → inMask absent d ≡ b → seen (size z) (labels z) A f0 d ≡ ageOf (presentLabel (geometry z) img absent d)
+      by true e =
+          ap (λ (b : Bool). cond b 0 (newest (size z) (labels z) A f0 d .generation)) (led .are d h ∙ e)
+          ∙ sym (ap (λ (b : Bool). ageOf (cond b Nothing (diskLabel (geometry z) img d))) e)
+      by false e =
+          let s = agreed-says (geometry z) img absent l (led .agree) d h e in
+          seen-of d (s .label) h e (s .is) ∙ sym (ap (λ (b : Bool). ageOf (cond b Nothing (diskLabel (geometry z) img d))) e ∙ ap ageOf (s .is))
 
-      lead-below : lead (size z) (labels z) A f0 < slots z
-      lead-below = leader-below (seen (size z) (labels z) A f0) (slots z) (some-slots z)
+  -- every present slot has a label
+  pub labelled-is : labelled (size z) (labels z) A f0 ≡ true
+  labelled-is = every-all (λ d. A d || ltb 0 (seen (size z) (labels z) A f0 d)) (from 0 (slots z)) (λ d m. go d (omega (arith, of-from (slots z) 0 d m)) (inMask absent d) refl)
+    where
+      go : (d : ℕ) → d < slots z → (b : Bool) → inMask absent d ≡ b → (A d || ltb 0 (seen (size z) (labels z) A f0 d)) ≡ true
+      go d h true e = ap (λ (b : Bool). b || ltb 0 (seen (size z) (labels z) A f0 d)) (led .are d h ∙ e)
+      go d h false e =
+          let s = agreed-says (geometry z) img absent l (led .agree) d h e in
+          ap (λ (b : Bool). b || ltb 0 (seen (size z) (labels z) A f0 d)) (led .are d h ∙ e)
+          ∙ lt-ltb 0 (seen (size z) (labels z) A f0 d) (omega (arith, seen-of d (s .label) h e (s .is), disk-aged z img (led .disks) absent A (led .are) d (s .label) (s .is)))
 
-      pub M-is : M (size z) (labels z) A f0 ≡ l .generation
-      M-is = seen-age (lead (size z) (labels z) A f0) lead-below ∙ ap ageOf lead-is
+  -- the leader's is the shelf's
+  lead-is : presentLabel (geometry z) img absent (lead (size z) (labels z) A f0) ≡ Valid l
+  unfolding shelfLabel
+  lead-is =
+      sym (newest-leads (presentLabel (geometry z) img absent) (seen (size z) (labels z) A f0) (slots z) (some-slots z) (present-aged z img (led .disks) absent A (led .are)) seen-age)
+      ∙ sym (ap (λ (b : Bool). cond b (newestOf (presentLabel (geometry z) img absent) (slots z)) Nothing) (image-fits z img (led .disks))) ∙ led .leads
 
-      pub L-is : L (size z) (labels z) A f0 ≡ labelOf z l
-      L-is =
-          let p = present-says (geometry z) img absent (lead (size z) (labels z) A f0) l lead-is in
-          newest-of (lead (size z) (labels z) A f0) l lead-below (p .0) (p .1)
+  lead-below : lead (size z) (labels z) A f0 < slots z
+  lead-below = leader-below (seen (size z) (labels z) A f0) (slots z) (some-slots z)
+
+  pub M-is : M (size z) (labels z) A f0 ≡ l .generation
+  M-is = seen-age (lead (size z) (labels z) A f0) lead-below ∙ ap ageOf lead-is
+
+  pub L-is : L (size z) (labels z) A f0 ≡ labelOf z l
+  L-is =
+      let p = present-says (geometry z) img absent (lead (size z) (labels z) A f0) l lead-is in
+      newest-of (lead (size z) (labels z) A f0) l lead-below (p .0) (p .1)

@@ -1,3 +1,4 @@
 pub mod Places
 pub mod Disks
 pub mod Labels
+pub mod Rounds
