@@ -2,3 +2,4 @@ pub mod Places
 pub mod Disks
 pub mod Labels
 pub mod Rounds
+pub mod Redo

@@ -45,6 +45,14 @@ use Rattle.shards.specs.Promise.{sectors}
 use Rattle.refine.specs.Disks.{seenOf}
 use Rattle.refine.specs.Labels.{shelfOf, shelf-ours, named, Led, labelled-is, copy-is, newest-of, seen-of, M-is, L-is}
 
+-- the slot being rebuilt: the same test of a slot, whether n or 255 stands for none
+pub slot-test : (z : Shelf) (r d : ℕ) → d < slots z → eqb d (slotMeant (slots z) r) ≡ eqb d r
+slot-test z r d h = by (eqb r noSlot) refl
+  where
+    by : (b : Bool) → eqb r noSlot ≡ b → eqb d (cond b (slots z) r) ≡ eqb d r
+    by true e = ne-eqb d (slots z) (λ q. omega arith) ∙ sym (ne-eqb d r (λ q. omega (arith, eqb-true r noSlot e, few-slots z)))
+    by false e = refl
+
 module _ (z : Shelf) (img : List ℕ) (absent : ℕ) (A : ℕ → Bool) (l : bytes.Label) (led : Led z img absent A l) where
   abbrev f0 : Image Sector
   f0 = seenOf z A img
@@ -54,16 +62,9 @@ module _ (z : Shelf) (img : List ℕ) (absent : ℕ) (A : ℕ → Bool) (l : byt
 
   -- ---- who is gone
 
-  slot-test : (r d : ℕ) → d < slots z → eqb d (slotMeant (slots z) r) ≡ eqb d r
-  slot-test r d h = by (eqb r noSlot) refl
-    where
-      by : (b : Bool) → eqb r noSlot ≡ b → eqb d (cond b (slots z) r) ≡ eqb d r
-      by true e = ne-eqb d (slots z) (λ q. omega arith) ∙ sym (ne-eqb d r (λ q. omega (arith, eqb-true r noSlot e, few-slots z)))
-      by false e = refl
-
   plainly-same : (a : bytes.Label) (d : ℕ) → d < slots z → plainly-out (labelOf z a) d ≡ plainlyOut a d
   unfolding plainlyOut
-  plainly-same a d h = ap (λ (b : Bool). inMask (a .out) d && not b) (slot-test (a .rebuilding) d h)
+  plainly-same a d h = ap (λ (b : Bool). inMask (a .out) d && not b) (slot-test z (a .rebuilding) d h)
 
   pub stale-is : (d : ℕ) → d < slots z → inMask absent d ≡ false → Startup.stale (size z) (labels z) A f0 d ≡ Slot.stale (geometry z) img absent l d
   unfolding Slot.stale Slot.behind Slot.disowned Startup.behind Startup.disowned presentLabel
