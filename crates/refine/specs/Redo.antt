@@ -5,7 +5,8 @@ use mathlib.Core.Path.{_≡_, refl, sym, ap, ap₂, _∙_, subst}
 use mathlib.Core.Logic.{⊎-elim}
 use mathlib.Core.Bool.{Bool, true, false, cond, not, _&&_, _||_, true≢false}
 use mathlib.Core.List.{List, []}
-use Prim.Native.Nat.{ℕ, zero, suc, _≤_, _<_}
+use Prim.Native.Nat.{ℕ, zero, suc, _≤_, _<_, _/_}
+use native.Mathlib.Nat.{mod-eq-of-lt}
 use native.Mathlib.Omega.{arith}
 use lib.Dec.{ltb, eqb, lit<}
 use borrow.Author.Tests.{eq-eqb, eqb-true, lt-ltb, le-ltb}
@@ -16,29 +17,34 @@ use Rattle.disk.specs.Geometry.{stripesOf, shardOf}
 use Rattle.label.specs.declared.fields.Label as bytes
 use Rattle.record.specs.Stamp.{stampAt, zeroStamp, sameStamp, laterOf, StampFits, same-true, same-refl}
 use Rattle.record.specs.Tail.{tailAt, mayBe}
+use Rattle.record.specs.Log.{part, areaOf, restoreOf}
 use Rattle.record.specs.declared.stamp.Stamp.{Stamp}
 use Rattle.record.specs.declared.tail.Tail.{Tail}
+use Rattle.rounds.specs.Survey.{nextOf}
 use Rattle.redo.specs.Decide.{plainlyOut, looked, believed, logAt, noStamp, keyOf, leaderOf, leadOf, involved, completeWith, wholeOf, marked, settled, decided, redoOf}
 use Rattle.redo.specs.Laws.{looked-below, believed-looked, key-is}
-use Rattle.redo.specs.Complete.{complete-stamps, stamps-complete, involved-looked, whole-says, says-whole}
+use Rattle.redo.specs.Complete.{area-sector, complete-stamps, stamps-complete, involved-looked, whole-says, says-whole}
 use Rattle.redo.specs.declared.Redo as declared
 use Rattle.redo.specs.declared.Redo.the-variants.{Nothing, Forward, Kill}
 use Rattle.protocol.specs.World.{log, Image}
 use Rattle.protocol.specs.Slots.{leader, from, in-from, of-from, every, every-of, every-all}
-use Rattle.protocol.specs.Log.{Belief}
+use Rattle.protocol.specs.Log.{Belief, Logs}
+use Rattle.protocol.specs.Log as Log
 use Rattle.protocol.specs.Label.{belief}
 use Rattle.protocol.specs.Label as Label
 use Rattle.protocol.specs.Write.{in-involved, of-involved}
 use Rattle.protocol.specs.Write as Write
 use Rattle.protocol.specs.Redo as Redo
+use Rattle.protocol.specs.Startup.{L, M, stale, gone, without-gone}
 use Rattle.codecs.specs.Sector.{Sector}
 use Rattle.codecs.specs.Shelf.{Shelf, slots, geometry, size}
-use Rattle.codecs.specs.Labels.{labelOf}
-use Rattle.codecs.specs.Records.{counts, stampNumber, stampIn, stripeIn, changesIn, records}
-use Rattle.codecs.specs.Order.{sector-stamp, stamp-one, later-number, zero-number}
+use Rattle.codecs.specs.Labels.{labelOf, labels}
+use Rattle.codecs.specs.Records.{counts, stampNumber, stampIn, stripeIn, changesIn, pieceOf, records, end-back}
+use Rattle.codecs.specs.Order.{sector-stamp, stamp-one, later-number, zero-number, tail-may}
 use Rattle.refine.specs.Places.{sectorOf, log-inside}
 use Rattle.refine.specs.Disks.{Disks, image-fits, cur-read, seenOf, seen-present}
-use Rattle.refine.specs.Rounds.{slot-test}
+use Rattle.refine.specs.Labels.{Led}
+use Rattle.refine.specs.Rounds.{slot-test, next-is}
 
 -- two tests that say the same
 same-test : (a b : Bool) → (a ≡ true → b ≡ true) → (b ≡ true → a ≡ true) → a ≡ b
@@ -95,10 +101,37 @@ module _ (z : Shelf) (l : bytes.Label) where
     log-fits : (d j : ℕ) → looked (geometry z) l d ≡ true → j ≤ z .c → StampFits (stampAt (logAt (geometry z) img d j))
     log-fits d j e h = subst (λ (b : List ℕ). StampFits (stampAt b)) (log-is d j e h) (sector-stamp (f0 (log d j)))
 
+    -- what goes forward: each sector of a strip, from its record
+    pub redone-is : (d j : ℕ) → looked (geometry z) l d ≡ true → j < z .c
+        → Redo.redone (records z) B f0 d j .bytes ≡ restoreOf (part (areaOf (geometry z) img d) j) (part (areaOf (geometry z) img d) (z .c)) j
+    unfolding pieceOf
+    redone-is d j e h =
+        let below = looked-below (geometry z) l d e in
+        let at : (i : ℕ) → i ≤ z .c → f0 (log d i) .bytes ≡ part (areaOf (geometry z) img d) i = λ i k. log-is d i e k ∙ sym (area-sector (geometry z) img d (image-fits z img disks) below i k) in
+        ap (restoreOf (f0 (log d j) .bytes) (f0 (log d (z .c)) .bytes)) (mod-eq-of-lt h)
+        ∙ ap₂ (λ (x y : List ℕ). restoreOf x y j) (at j (omega arith)) (at (z .c) (omega arith))
+
     -- no tail that is looked at and has a stamp is garbage
     abbrev pub Fair : Type 0
     Fair = (d : ℕ) → looked (geometry z) l d ≡ true → zeroStamp (stampAt (logAt (geometry z) img d (z .c))) ≡ false
         → mayBe (tailAt (logAt (geometry z) img d (z .c))) (stripesOf (geometry z)) (slots z) (l .generation) ≡ true
+
+    -- so it is where each log sector is zeros or a true sector of a write, of an epoch that is settled
+    pub logs-fair : (history : ℕ → Log.Write Sector) (u : ℕ) → Logs (records z) B history u f0 → u / counts ≤ l .generation → Fair
+    unfolding belief
+    logs-fair history u logs old d e some = by (stampIn (f0 (log d (z .c)))) refl
+      where
+        look : Label.looked (size z) (labelOf z l) d ≡ true
+        look = look-is d ∙ e
+
+        by : (σ : ℕ) → stampIn (f0 (log d (z .c))) ≡ σ → mayBe (tailAt (logAt (geometry z) img d (z .c))) (stripesOf (geometry z)) (slots z) (l .generation) ≡ true
+        by zero q = absurd (true≢false (sym (zero-number (stampAt (logAt (geometry z) img d (z .c))) ∙ eq-eqb _ 0 (sym (log-stamp d (z .c) e (omega arith)) ∙ q)) ∙ some))
+        by (suc τ) q =
+            let r = logs .real d (z .c) τ look (omega arith) q in
+            let o = logs .old d (z .c) look (omega arith) in
+            ap (λ (x : Tail). mayBe x (stripesOf (geometry z)) (slots z) (l .generation))
+            (ap tailAt (sym (log-is d (z .c) e (omega arith)) ∙ ap (λ (x : Sector). x .bytes) (r .0)) ∙ end-back z (suc τ) (history (suc τ)) d (r .2))
+            ∙ tail-may z (suc τ) (history (suc τ)) (r .2) (l .generation) d (omega arith) (omega (arith, old, o, q)) (r .1)
 
     module _ (fair : Fair) where
       abbrev keys : ℕ → Stamp
@@ -291,3 +324,19 @@ module _ (z : Shelf) (l : bytes.Label) where
                 acts false false e (whole-is e ∙ f),
                 λ d k. ap (λ (x : ℕ). inMask x d) (sym b) ∙ mask-below (marked (geometry z) img l (keys top)) (slots z) d k ∙ sym (marked-is e d),
               )
+
+-- ---- UNDER THE LABEL THAT START-UP SETTLES no absent slot is looked at
+pub settled-dark : (z : Shelf) (img : List ℕ) (absent : ℕ) (A : ℕ → Bool) (l : bytes.Label) → Led z img absent A l
+    → (d : ℕ) → looked (geometry z) (nextOf (geometry z) img absent l) d ≡ true → A d ≡ false
+unfolding gone
+settled-dark z img absent A l led d e =
+    let n = nextOf (geometry z) img absent l in
+    let f = seenOf z A img in
+    let g = gone (size z) (labels z) A f in
+    let q = without-gone (size z) (L (size z) (labels z) A f) g (suc (suc (M (size z) (labels z) A f))) d
+    (ap (λ (x : Label.Label). Label.looked (size z) x d) (next-is z img absent A l led) ∙ look-is z n d ∙ e) in
+    by (A d) (stale (size z) (labels z) A f d) (sym (ap (λ (b : Bool). b && (A d || stale (size z) (labels z) A f d)) (lt-ltb d (slots z) (looked-below (geometry z) n d e))) ∙ q)
+  where
+    by : (a s : Bool) → (a || s) ≡ false → a ≡ false
+    by true s q = q
+    by false s q = refl
