@@ -1,5 +1,6 @@
 pub mod Places
 pub mod Disks
 pub mod Labels
+pub mod Told
 pub mod Rounds
 pub mod Redo

@@ -1,7 +1,7 @@
 -- What `Rattle.redo` decides about the log is what the protocol's start-up decides: the tails that are looked at, the greatest
 -- stamp, whether its write is whole, and who is written or wiped; where no tail that is looked at is garbage. In a world that the
 -- protocol keeps none is (`logs-fair`). Assumes nothing.
-use mathlib.Core.Path.{_≡_, refl, sym, ap, ap₂, _∙_, subst}
+use mathlib.Core.Path.{_≡_, refl, sym, ap, ap₂, _∙_, subst, fun-ext}
 use mathlib.Core.Logic.{⊎-elim}
 use mathlib.Core.Bool.{Bool, true, false, cond, not, _&&_, _||_, true≢false}
 use mathlib.Core.List.{List, []}
@@ -26,9 +26,9 @@ use Rattle.redo.specs.Laws.{looked-below, believed-looked, key-is}
 use Rattle.redo.specs.Complete.{area-sector, complete-stamps, stamps-complete, involved-looked, whole-says, says-whole}
 use Rattle.redo.specs.declared.Redo as declared
 use Rattle.redo.specs.declared.Redo.the-variants.{Nothing, Forward, Kill}
-use Rattle.protocol.specs.World.{log, Image}
+use Rattle.protocol.specs.World.{label, log, strip, Image}
 use Rattle.protocol.specs.Slots.{leader, from, in-from, of-from, every, every-of, every-all}
-use Rattle.protocol.specs.Log.{Belief, Logs}
+use Rattle.protocol.specs.Log.{RecordCodec, Belief, Logs}
 use Rattle.protocol.specs.Log as Log
 use Rattle.protocol.specs.Label.{belief}
 use Rattle.protocol.specs.Label as Label
@@ -340,3 +340,17 @@ settled-dark z img absent A l led d e =
     by : (a s : Bool) → (a || s) ≡ false → a ≡ false
     by true s q = q
     by false s q = refl
+
+-- ---- what the log decides goes by the log alone: labels that are put meanwhile make no difference
+
+-- the log of an image, and nothing else
+abbrev logged : {X : Type 0} → X → (ℕ → ℕ → X) → Image X
+logged x h (label d b) = x
+logged x h (log d j) = h d j
+logged x h (strip d t j) = x
+
+pub redo-same : {X : Type 0} (K : RecordCodec X) (B : Belief) (f g : Image X) → ((d j : ℕ) → f (log d j) ≡ g (log d j)) → Redo.redo K B f ≡ Redo.redo K B g
+unfolding Redo.redo Redo.whole Redo.completeB Redo.forward Redo.marked Redo.kill-batch
+redo-same K B f g e =
+    let h : _≡_ {A = ℕ → ℕ → _} (λ d j. f (log d j)) (λ d j. g (log d j)) = fun-ext (λ d. fun-ext (λ j. e d j)) in
+    ap (λ h. Redo.redo K B (logged (K .zeros) h)) h
