@@ -4,3 +4,4 @@ pub mod Labels
 pub mod Told
 pub mod Rounds
 pub mod Redo
+pub mod Refusals

@@ -1,7 +1,7 @@
 -- The bytes of a label as the code writes them are those that the protocol's put of that label writes. Assumes nothing.
 use mathlib.Core.Path.{_≡_, refl, sym, ap, ap₂, _∙_, subst}
 use mathlib.Core.Bool.{Bool, true, false, cond, _&&_, true≢false}
-use Prim.Native.Nat.{ℕ, zero, suc, _+_, _*_, _≤_, _<_, _/_, _%_, _^_}
+use Prim.Native.Nat.{ℕ, zero, suc, _+_, _<_, _/_, _%_, _^_}
 use native.Mathlib.Nat.{div-one, pow-suc, pow-succ', div-div-eq-div-mul, mod-lt}
 use native.Mathlib.Omega.{arith}
 use lib.Dec.{eqb, ltb, leb, lit<}
@@ -14,7 +14,7 @@ use Rattle.label.specs.Bytes.{sealed}
 use Rattle.label.specs.declared.fields.Label as bytes
 use Rattle.label.proofs.Fits.{Fits, fits-says}
 use Rattle.label.proofs.Counts.{SameShelf, same-says}
-use Rattle.codecs.specs.Shelf.{Shelf, slots, few-slots}
+use Rattle.codecs.specs.Shelf.{Shelf, slots}
 use Rattle.codecs.specs.Labels.{fieldsOf, slotByte, slotMeant, noLabel, labelOf, ours, encodeLabel}
 
 -- ---- two masks with the same slots are one
