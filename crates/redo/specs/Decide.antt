@@ -1,6 +1,7 @@
 -- What start-up decides about the log, once the label l is settled. The greatest stamp among the tails decides; none:
 -- nothing. Complete, with that stamp, on every slot that its write changes, as far as that is believed: forward.
--- Otherwise: kill. These are the protocol's own definitions, of the bytes of one image. Assumes nothing.
+-- Otherwise: kill. Said of the bytes of one image, and taken apart as the protocol's `redo` is; the protocol knows no
+-- garbage among the tails, here it counts as none. Assumes nothing.
 use mathlib.Core.Bool.{Bool, _&&_, _||_, cond, not}
 use mathlib.Core.List.{List}
 use Prim.Native.Nat.{ℕ, zero, suc, _+_}

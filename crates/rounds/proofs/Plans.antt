@@ -4,11 +4,12 @@ use mathlib.Core.Logic.{⊎-elim}
 use mathlib.Core.Bool.{Bool, true, false, not, _&&_, _||_, cond}
 use mathlib.Core.List.{List}
 use Prim.Native.Nat.{ℕ, _+_, _≤_, _<_, _^_}
+use native.Mathlib.Nat.{mod-lt}
 use native.Mathlib.Omega.{arith}
 use lib.Count.{ones}
-use lib.Dec.{leb, ltb, eqb}
+use lib.Dec.{lit<, leb, ltb, eqb}
 use lib.ListN.{length}
-use borrow.Author.Tests.{eqb-true, leb-true, le-leb, ltb-true, lt-ltb, le-ltb}
+use borrow.Author.Tests.{eqb-true, ne-eqb, leb-true, le-leb, ltb-true, lt-ltb, le-ltb, not-true}
 use Rattle.disk.specs.Limits.{mostK, mostM}
 use Rattle.disk.specs.Tests.{and-left, and-right, both}
 use Rattle.disk.specs.Image.{lt-or-ge, fitsImage}
@@ -18,13 +19,13 @@ use Rattle.disk.specs.declared.geometry.Geometry.{Geometry}
 use Rattle.disk.specs.declared.refusal.Refusal.{Refusal}
 use Rattle.disk.specs.declared.refusal.Refusal.the-variants.{BadImage, NoLabel, TooFew, BadBlock, NotNow}
 use Rattle.label.specs.Fields.{noSlot, mostGeneration, geometryOf, rebuildFits, fitsOf}
-use Rattle.label.specs.Newest.{shelfLabel, agreed}
+use Rattle.label.specs.Newest.{copyOf, diskLabel, presentLabel, shelfLabel, sameShelf, agreed}
 use Rattle.label.specs.declared.fields.Label.{Label}
 use Rattle.label.specs.declared.codec.Decoded.{Decoded}
 use Rattle.label.specs.declared.codec.Decoded.the-variants.{Valid, Nothing}
 use Rattle.label.proofs.Fits.{fits-says}
-use Rattle.label.proofs.Counts.{shelf-says, present-says, disk-own}
-use Rattle.rounds.specs.Slot.{stale, gone, goesOut, adopts, prepared, wiped, getsZeros, getsLabel, asked}
+use Rattle.label.proofs.Counts.{newest-none, disk-says, shelf-says, present-says, disk-own}
+use Rattle.rounds.specs.Slot.{stale, gone, goesOut, adopts, ageUnder, sectorFor, copyAge, prepared, wiped, getsZeros, getsLabel, asked}
 use Rattle.rounds.specs.Survey.{slotsThat, nextOf, planOf, fitsShelf, labelled, enough, later, unless, table, surveyOf}
 use Rattle.rounds.specs.declared.slot.Question.{Question}
 use Rattle.rounds.specs.declared.slot.Question.the-variants.{Out, Parts, Late, Zeroed, Kept}
@@ -93,6 +94,12 @@ one-way-raw true false true = refl
 one-way-raw true false false = refl
 one-way-raw false r w = refl
 
+given-raw : (a r w : Bool) → (a ≡ true → r ≡ false) → ((a && (not r && w)) || (a && (not r && not w))) ≡ a
+given-raw true true w h = absurd (let e = h refl in let z : _≡_ {A = ℕ} 0 1 = cc in omega arith)
+given-raw true false true h = refl
+given-raw true false false h = refl
+given-raw false r w h = refl
+
 late-raw : (o t a s : Bool) → t ≡ true → (not a && s) ≡ true → (o || (t && (a || s))) ≡ true
 late-raw true t a s e h = refl
 late-raw false true true s e h = refl
@@ -139,17 +146,45 @@ module _ (g : Geometry) (img : List ℕ) (absent : ℕ) (lead : Label) where
       (λ (h : g .n ≤ d). ap₂ (λ (x y : Bool). x && y) (that-past Zeroed d h) (that-past Kept d h))
       (lt-or-ge d (g .n))
 
-  zeroed-slots : (d : ℕ) → inMask (slotsThat g img absent Zeroed lead) d ≡ true → inMask (slotsThat g img absent Late lead) d ≡ true
-  unfolding getsZeros
-  zeroed-slots d e =
-      let u = that-in Zeroed d e in
-      that-below Late d (u .0) ∙ and-left (adopts g img absent lead d) (not (prepared g img lead d) && wiped g img lead d) (u .1)
+  -- no copy on a present disk is ahead of the shelf's label, so no slot is prepared
+  module _ (leads : shelfLabel g img absent ≡ Valid lead) where
+    copy-top : (d s : ℕ) (x : Label) → d < g .n → s < 2 → inMask absent d ≡ false → copyOf g img d s ≡ Valid x → x .generation ≤ lead .generation
+    unfolding diskLabel presentLabel
+    copy-top d s x hd hs e q = by (diskLabel g img d) refl
+      where
+        by : (u : Decoded) → diskLabel g img d ≡ u → x .generation ≤ lead .generation
+        by Nothing f = absurd (newest-none (copyOf g img d) 2 f s x hs q)
+        by (Valid l) f =
+            omega (arith, disk-says g img d l f .greatest s x hs q, shelf-says g img absent lead leads .greatest d l hd (ap (λ (t : Bool). cond t Nothing (diskLabel g img d)) e ∙ f))
 
-  kept-slots : (d : ℕ) → inMask (slotsThat g img absent Kept lead) d ≡ true → inMask (slotsThat g img absent Late lead) d ≡ true
-  unfolding getsLabel
-  kept-slots d e =
-      let u = that-in Kept d e in
-      that-below Late d (u .0) ∙ and-left (adopts g img absent lead d) (not (prepared g img lead d) && not (wiped g img lead d)) (u .1)
+    age-top : (d s : ℕ) → d < g .n → s < 2 → inMask absent d ≡ false → copyAge g img lead d s ≤ lead .generation
+    unfolding copyAge
+    age-top d s hd hs e = by (copyOf g img d s) refl
+      where
+        by : (u : Decoded) → copyOf g img d s ≡ u → ageUnder lead u ≤ lead .generation
+        by Nothing q = omega arith
+        by (Valid x) q = go (sameShelf lead x)
+          where
+            go : (t : Bool) → cond t (x .generation) 0 ≤ lead .generation
+            go true = copy-top d s x hd hs e q
+            go false = omega arith
+
+    unprepared : (d : ℕ) → d < g .n → inMask absent d ≡ false → prepared g img lead d ≡ false
+    unfolding prepared
+    unprepared d hd e =
+        ne-eqb (copyAge g img lead d (sectorFor (lead .generation + 1))) (lead .generation + 1)
+        (λ q. omega (arith, age-top d (sectorFor (lead .generation + 1)) hd (mod-lt (lead .generation + 1) (lit< tt)) e))
+
+    given-slots : (d : ℕ) → (inMask (slotsThat g img absent Zeroed lead) d || inMask (slotsThat g img absent Kept lead) d) ≡ inMask (slotsThat g img absent Late lead) d
+    unfolding adopts getsZeros getsLabel
+    given-slots d = ⊎-elim
+        (λ (l : d < g .n).
+        ap₂ (λ (x y : Bool). x || y) (that-below Zeroed d l) (that-below Kept d l)
+        ∙ given-raw (adopts g img absent lead d) (prepared g img lead d) (wiped g img lead d)
+        (λ e. unprepared d l (not-true (inMask absent d) (and-left (not (inMask absent d)) (stale g img absent lead d) e)))
+        ∙ sym (that-below Late d l))
+        (λ (h : g .n ≤ d). ap₂ (λ (x y : Bool). x || y) (that-past Zeroed d h) (that-past Kept d h) ∙ sym (that-past Late d h))
+        (lt-or-ge d (g .n))
 
   late-slots : (d : ℕ) → inMask (slotsThat g img absent Late lead) d ≡ true → inMask (slotsThat g img absent Out lead) d ≡ true
   unfolding gone goesOut adopts
@@ -280,8 +315,7 @@ plan-sound g img absent p e =
     subst (Sound g absent) (sym (w .is)) (record {
       present = present-slots g img absent l;
       apart = apart-slots g img absent l;
-      zeroed-late = zeroed-slots g img absent l;
-      kept-late = kept-slots g img absent l;
+      given = given-slots g img absent l (w .leads);
       one-way = one-way-slots g img absent l;
       absent-out = absent-slots g img absent l (w .on-shelf);
       late-out = late-slots g img absent l;

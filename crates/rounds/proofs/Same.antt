@@ -5,14 +5,14 @@ use mathlib.Core.Path.{_≡_, refl, sym, ap, ap₂, _∙_}
 use mathlib.Core.Logic.{⊎-elim}
 use mathlib.Core.Bool.{Bool, true, false, not, _&&_, _||_, cond}
 use mathlib.Core.List.{List}
-use Prim.Native.Nat.{ℕ, zero, suc, _+_, _≤_, _<_, _%_, _^_}
+use Prim.Native.Nat.{ℕ, zero, suc, _+_, _≤_, _<_, _%_}
 use native.Mathlib.Nat.{mod-lt}
 use native.Mathlib.Omega.{arith}
 use lib.Count.{ones}
 use lib.Dec.{lit<, leb, ltb, eqb}
 use lib.ListN.{length}
 use borrow.Author.Tests.{le-ltb}
-use Rattle.disk.specs.Image.{lt-or-ge, fitsImage, readOf}
+use Rattle.disk.specs.Image.{lt-or-ge, fitsImage}
 use Rattle.disk.specs.Mask.{inMask, withSlot, maskOf}
 use Rattle.disk.specs.declared.geometry.Geometry.{Geometry}
 use Rattle.disk.specs.declared.refusal.Refusal.the-variants.{BadImage, NoLabel, TooFew, BadBlock, NotNow}
@@ -27,9 +27,8 @@ use Rattle.rounds.specs.Survey.{slotsThat, nextOf, planOf, fitsShelf, la
 use Rattle.rounds.specs.Plans.{Alike}
 use Rattle.rounds.specs.declared.slot.Question.{Question}
 use Rattle.rounds.specs.declared.slot.Question.the-variants.{Out, Parts, Late, Zeroed, Kept}
-use Rattle.rounds.specs.declared.plan.Plan as plan
 use Rattle.rounds.specs.declared.plan.Survey.{Survey}
-use Rattle.rounds.specs.declared.plan.Survey.the-variants.{Plan, Refused}
+use Rattle.rounds.specs.declared.plan.Survey.the-variants.{Plan}
 
 -- ---- the first n alone matter
 

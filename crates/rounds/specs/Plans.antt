@@ -50,9 +50,8 @@ pub record Sound (g : Geometry) (absent : ℕ) (p : plan.Plan) : Type 0 where
   -- who takes part and who adopts: together the present slots below n, and nobody is both
   pub present : (d : ℕ) → (inMask (p .parts) d || inMask (p .late) d) ≡ (ltb d (g .n) && not (inMask absent d))
   pub apart : (d : ℕ) → (inMask (p .parts) d && inMask (p .late) d) ≡ false
-  -- who is given something before it adopts: some of those that adopt, and nobody both
-  pub zeroed-late : (d : ℕ) → inMask (p .zeroed) d ≡ true → inMask (p .late) d ≡ true
-  pub kept-late : (d : ℕ) → inMask (p .kept) d ≡ true → inMask (p .late) d ≡ true
+  -- who adopts is given zeros or a label first, and nobody both (at start-up no slot is prepared already)
+  pub given : (d : ℕ) → (inMask (p .zeroed) d || inMask (p .kept) d) ≡ inMask (p .late) d
   pub one-way : (d : ℕ) → (inMask (p .zeroed) d && inMask (p .kept) d) ≡ false
   -- the settled label calls every absent slot out, and every one that adopts, and is two generations on
   pub absent-out : (d : ℕ) → inMask absent d ≡ true → inMask (p .next .out) d ≡ true

@@ -53,6 +53,7 @@ fn slots_that(q: Question, image: &[u8], g: Geometry, absent: u64, lead: Label) 
     mask
 }
 
+// x where b holds, y where not.
 fn pick(b: bool, x: usize, y: usize) -> usize
     ensures { λ r. ⌜ r ≡ cond b x y ⌝ }
 {

@@ -1,7 +1,6 @@
 -- `rounds::slot::is_prepared` meets its contract. The sector that is not the new label's. Assumes nothing.
 use mathlib.Core.Path.{ap, _∙_}
 use Prim.Native.Nat.{ℕ, _+_}
-use native.Mathlib.Omega.{arith}
 use lib.Dec.{eqb}
 use Rattle.rounds.specs.Slot.{copyAge, prepared}
 use Rattle.rounds.proofs.Told.{other-side}

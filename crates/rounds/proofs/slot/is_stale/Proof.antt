@@ -1,8 +1,6 @@
 -- `rounds::slot::is_stale` meets its contract. By the generation, then by what the label says. Assumes nothing.
-use mathlib.Core.Path.{_≡_, sym, ap, _∙_}
-use mathlib.Core.Bool.{Bool, true, false}
+use mathlib.Core.Path.{sym, ap, _∙_}
 use Prim.Native.Nat.{ℕ}
-use Rattle.label.specs.Newest.{presentLabel}
 use Rattle.label.specs.declared.codec.Decoded.{Decoded}
 use Rattle.rounds.specs.Slot.{ageOf, behind, disowned, stale}
 use borrow.Author.Needs.{needs}
