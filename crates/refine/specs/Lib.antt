@@ -5,3 +5,4 @@ pub mod Told
 pub mod Rounds
 pub mod Redo
 pub mod Refusals
+pub mod Start

@@ -192,7 +192,7 @@ module _ (z : Shelf) (img : List ℕ) (absent : ℕ) (A : ℕ → Bool) (l : byt
   abbrev after : ℕ
   after = suc (M (size z) (labels z) A f0)
 
-  after-is : after ≡ l .generation + 1
+  pub after-is : after ≡ l .generation + 1
   after-is = omega (arith, M-is z img absent A l led)
 
   -- the sector that is not the settled label's may be wiped
