@@ -1,5 +1,5 @@
 -- One action of a stage, on one slot: the answer, the state and the image that it leaves. Assumes nothing.
-use mathlib.Core.Bool.{Bool, cond}
+use mathlib.Core.Bool.{cond}
 use mathlib.Core.List.{List}
 use Prim.Native.Nat.{ℕ, _+_, _%_}
 use lib.Dec.{ltb}

@@ -9,7 +9,7 @@ use native.Mathlib.Nat.{suc-mul, one-mul, mul-le-mul-right}
 use native.Mathlib.Omega.{arith}
 use lib.Dec.{ltb, eqb, leb}
 use lib.ListN.{length, replicate}
-use borrow.Author.Tests.{ltb-true, ltb-false, ne-eqb, lt-leb}
+use borrow.Author.Tests.{ltb-true, ne-eqb, lt-leb}
 use Rattle.disk.specs.Limits.{sectorBytes, firstLog}
 use Rattle.disk.specs.Mask.{inMask}
 use Rattle.disk.specs.Image.{lt-or-ge, fitsImage, putAnswer}
@@ -28,8 +28,8 @@ use Rattle.shelf.specs.Limits.{mostStages}
 use Rattle.shelf.specs.State.{moved}
 use Rattle.shelf.specs.Stage.{roundStage, lateStage, startStage, createStage, stageAt, stageOf}
 use Rattle.shelf.specs.Act.{Move, refusal, refuses, onward, byOutcome, putMove, flushMove, named, giveMove, wipeMove, byStrip, byRestored, restoreMove, actMove}
-use Rattle.shelf.specs.Step.{seek, isEnd, finished, onStage, nextSlot, walk, byAnswer, kept, keeps, sound, stepMove}
-use Rattle.shelf.specs.Says.{when, unless, sound-says}
+use Rattle.shelf.specs.Step.{seek, isEnd, finished, onStage, nextSlot, walk, byAnswer, keeps, sound, stepMove}
+use Rattle.shelf.specs.Says.{unless, sound-says}
 use Rattle.shelf.specs.declared.state.State.{State}
 use Rattle.shelf.specs.declared.state.Stepped.{Stepped}
 use Rattle.shelf.specs.declared.state.Kind.{Kind}

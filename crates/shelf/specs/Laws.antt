@@ -1,17 +1,18 @@
 -- The laws of a step, for every state and every image, from `stepMove` alone: it changes at most one sector, and that of a
--- present slot; a refusal changes nothing; no byte of any disk decides the answer. Assumes nothing.
+-- present slot; a refusal changes nothing; no byte of any disk decides the answer, and none of an absent slot reaches a present
+-- one. Assumes nothing.
 use mathlib.Core.Path.{_≡_, refl, sym, ap, ap₂, _∙_, subst}
 use mathlib.Core.Logic.{_⊎_}
 use mathlib.Core.Bool.{Bool, true, false, cond, _&&_}
 use mathlib.Core.List.{List, []}
-use Prim.Native.Nat.{ℕ, zero, suc, _+_, _*_, _-_, _≤_, _<_, _%_}
+use Prim.Native.Nat.{ℕ, zero, suc, _+_, _*_, _≤_, _<_, _%_}
 use native.Mathlib.Omega.{arith}
 use lib.Dec.{ltb, eqb}
 use lib.ListN.{length, replicate, getD, take, drop, length-take, length-drop, length-append}
-use borrow.Author.Tests.{ltb-true, eqb-true}
+use borrow.Author.Tests.{ltb-true, eqb-true, eqb-false}
 use Rattle.disk.specs.Limits.{sectorBytes, firstLog}
 use Rattle.disk.specs.Mask.{inMask}
-use Rattle.disk.specs.Image.{place, sector, putSector, Shape, fitsImage, onShelf, putAnswer, fits-image, on-shelf, length-put, sector-put-other, byte-put-other}
+use Rattle.disk.specs.Image.{place, sector, putSector, Shape, fitsImage, onShelf, putAnswer, fits-image, on-shelf, place-fits, length-put, sector-put, sector-put-other, byte-put-other}
 use Rattle.disk.specs.Geometry.{inRange, stripesOf, stripOf, found}
 use Rattle.disk.specs.declared.geometry.Geometry.{Geometry}
 use Rattle.disk.specs.declared.geometry.Found.{Found}
@@ -23,11 +24,12 @@ use Rattle.disk.specs.declared.refusal.Outcome.the-variants as outcome
 use Rattle.label.specs.Fields.{geometryOf, fitsOf}
 use Rattle.label.specs.Bytes.{sealed}
 use Rattle.label.specs.declared.fields.Label.{Label}
-use Rattle.record.specs.Log.{part, areaOf, restoreOf, restoreAnswer}
+use Rattle.record.specs.Log.{part, areaOf, restoreOf, restoreAnswer, area-part}
 use Rattle.shelf.specs.Limits.{mostStages}
 use Rattle.shelf.specs.Stage.{stageOf}
 use Rattle.shelf.specs.Act.{Move, refusal, refuses, onward, byOutcome, putMove, flushMove, named, giveMove, wipeMove, byStrip, byRestored, restoreMove, actMove}
 use Rattle.shelf.specs.Step.{isEnd, finished, onStage, nextSlot, walk, byAnswer, kept, keeps, sound, stepMove}
+use Rattle.shelf.specs.Says.{when, sound-says}
 use Rattle.shelf.specs.declared.state.State.{State}
 use Rattle.shelf.specs.declared.state.Stepped.{Stepped}
 use Rattle.shelf.specs.declared.state.Answer.{Answer}
@@ -335,3 +337,178 @@ step-blind s img jmg e =
     by true true = ap (kept s) (walk-blind mostStages s (geometryOf (s .now)) img jmg e)
     by true false = refl
     by false f = refl
+
+-- ---- and no byte of an absent slot reaches a present one
+
+-- two images agree on the sectors of the present slots
+abbrev pub Agree : ℕ → Geometry → List ℕ → List ℕ → Type 0
+Agree absent g img jmg =
+    (e u : ℕ) → e < g .n → u < g .sectors → inMask absent e ≡ false → sector (g .sectors) img e u ≡ sector (g .sectors) jmg e u
+
+-- the same sector of both
+put-agree : (absent : ℕ) (g : Geometry) (d to : ℕ) (v img jmg : List ℕ) → d < g .n → to < g .sectors → length v ≡ sectorBytes
+    → Shape (g .n) (g .sectors) img → Shape (g .n) (g .sectors) jmg → Agree absent g img jmg
+    → Agree absent g (putSector (g .sectors) img d to v) (putSector (g .sectors) jmg d to v)
+put-agree absent g d to v img jmg hd ht lv si sj a e u he hu p = by (eqb e d) (eqb u to) refl refl
+  where
+    other : ((e ≡ d) × (u ≡ to) → ⊥) → sector (g .sectors) (putSector (g .sectors) img d to v) e u ≡ sector (g .sectors) (putSector (g .sectors) jmg d to v) e u
+    other ne =
+        sector-put-other (g .n) (g .sectors) img v si lv d to hd ht e u he hu ne ∙ a e u he hu p
+        ∙ sym (sector-put-other (g .n) (g .sectors) jmg v sj lv d to hd ht e u he hu ne)
+
+    by : (b c : Bool) → eqb e d ≡ b → eqb u to ≡ c
+        → sector (g .sectors) (putSector (g .sectors) img d to v) e u ≡ sector (g .sectors) (putSector (g .sectors) jmg d to v) e u
+    by true true q r =
+        ap₂ (λ (i j : ℕ). sector (g .sectors) (putSector (g .sectors) img d to v) i j) (eqb-true e d q) (eqb-true u to r)
+        ∙ sector-put (g .n) (g .sectors) img v si lv d to hd ht
+        ∙ sym (sector-put (g .n) (g .sectors) jmg v sj lv d to hd ht)
+        ∙ sym (ap₂ (λ (i j : ℕ). sector (g .sectors) (putSector (g .sectors) jmg d to v) i j) (eqb-true e d q) (eqb-true u to r))
+    by true false q r = other (λ h. eqb-false u to r (h .1))
+    by false c q r = other (λ h. eqb-false e d q (h .0))
+
+put-absent : (s : State) (g : Geometry) (d to count : ℕ) (v img : List ℕ) → inMask (s .absent) d ≡ true → putMove s g d to count v img .image ≡ img
+unfolding putMove
+put-absent s g d to count v img p = ap (λ (x : Move). x .image) (when (inMask (s .absent) d) _ _ p)
+
+module _ (g : Geometry) (img jmg : List ℕ) (same : length img ≡ length jmg) where
+  shapes : fitsImage g (length img) ≡ true → Shape (g .n) (g .sectors) img × Shape (g .n) (g .sectors) jmg
+  shapes f = (fits-image g img f .1, fits-image g jmg (ap (fitsImage g) (sym same) ∙ f) .1)
+
+  move-agree : (s : State) (d to count : ℕ) (v : List ℕ) → Agree (s .absent) g img jmg
+      → Agree (s .absent) g (putMove s g d to count v img .image) (putMove s g d to count v jmg .image)
+  unfolding putMove putAnswer
+  move-agree s d to count v a = by (inMask (s .absent) d)
+    where
+      tried : (f o w : Bool) → fitsImage g (length img) ≡ f → onShelf g d to ≡ o → eqb (length v) sectorBytes ≡ w
+          → let answer = cond {A = Outcome} f (cond {A = Outcome} o (cond {A = Outcome} w outcome.Done (outcome.Refused BadBuffer)) (outcome.Refused BadBlock)) (outcome.Refused BadImage) in
+          Agree (s .absent) g (byOutcome answer s g d to count v img .image) (byOutcome answer s g d to count v jmg .image)
+      tried true true true f o w =
+          let h = on-shelf g d to o in
+          put-agree (s .absent) g d to v img jmg (h .0) (h .1) (eqb-true (length v) sectorBytes w) (shapes f .0) (shapes f .1) a
+      tried true true false f o w = a
+      tried true false w f o e = a
+      tried false o w f e u = a
+
+      by : (b : Bool)
+          → Agree (s .absent) g (cond {A = Move} b (refuses s NotNow img) (byOutcome (putAnswer g (length img) d to (length v)) s g d to count v img) .image)
+          (cond {A = Move} b (refuses s NotNow jmg) (byOutcome (putAnswer g (length jmg) d to (length v)) s g d to count v jmg) .image)
+      by true = a
+      by false =
+          subst (λ (k : ℕ). Agree (s .absent) g (byOutcome (putAnswer g (length img) d to (length v)) s g d to count v img .image) (byOutcome (putAnswer g k d to (length v)) s g d to count v jmg .image))
+          same (tried (fitsImage g (length img)) (onShelf g d to) (eqb (length v) sectorBytes) refl refl refl)
+
+  give-agree : (s : State) (d zeroed : ℕ) (l : Label) → Agree (s .absent) g img jmg
+      → Agree (s .absent) g (giveMove s g d zeroed l img .image) (giveMove s g d zeroed l jmg .image)
+  unfolding giveMove
+  give-agree s d zeroed l a = by (inMask zeroed d) (fitsOf (named l d))
+    where
+      move : Bool → Bool → List ℕ → Move
+      move b f x =
+          cond {A = Move} b (putMove s g d (l .generation % 2) 1 (replicate sectorBytes 0) x)
+          (cond {A = Move} f (putMove s g d (l .generation % 2) 1 (sealed (named l d)) x) (refuses s NotNow x))
+
+      by : (b f : Bool) → Agree (s .absent) g (move b f img .image) (move b f jmg .image)
+      by true f = move-agree s d (l .generation % 2) 1 (replicate sectorBytes 0) a
+      by false true = move-agree s d (l .generation % 2) 1 (sealed (named l d)) a
+      by false false = a
+
+  -- a present slot's record reads the same in both
+  area-agree : (absent d k : ℕ) → inMask absent d ≡ false → k ≤ g .c → Agree absent g img jmg → part (areaOf g img d) k ≡ part (areaOf g jmg d) k
+  unfolding areaOf Shape
+  area-agree absent d k p h a = by (fitsImage g (length img)) (ltb d (g .n)) refl refl ∙ ap (λ (i : ℕ). part (cond {A = List ℕ} (fitsImage g i && ltb d (g .n)) (cut jmg) []) k) same
+    where
+      cut : List ℕ → List ℕ
+      cut x = take ((g .c + 1) * sectorBytes) (drop (place (g .sectors) d firstLog) x)
+
+      there : fitsImage g (length img) ≡ true → d < g .n → part (cut img) k ≡ part (cut jmg) k
+      there f l =
+          let r = fits-image g img f .0 in
+          let si = shapes f .0 in
+          let sj = shapes f .1 in
+          let fit = place-fits (g .n) (g .sectors) d (firstLog + g .c) l (omega (arith, r .room)) in
+          area-part (g .sectors) d (g .c) k img (omega (arith, si, fit)) h
+          ∙ a d (firstLog + k) l (omega (arith, r .room)) p
+          ∙ sym (area-part (g .sectors) d (g .c) k jmg (omega (arith, sj, fit)) h)
+
+      by : (f b : Bool) → fitsImage g (length img) ≡ f → ltb d (g .n) ≡ b
+          → part (cond {A = List ℕ} (f && b) (cut img) []) k ≡ part (cond {A = List ℕ} (f && b) (cut jmg) []) k
+      by true true q l = there q (ltb-true d (g .n) l)
+      by true false q l = refl
+      by false b q l = refl
+
+  restore-agree : (s : State) (d t : ℕ) → s .cursor .sector ≤ g .c → Agree (s .absent) g img jmg
+      → Agree (s .absent) g (restoreMove s g d t img .image) (restoreMove s g d t jmg .image)
+  unfolding restoreMove
+  restore-agree s d t h a =
+      subst (λ (k : ℕ). Agree (s .absent) g (byRestored (answer (length (areaOf g img d))) s g d t img .image) (byRestored (answer k) s g d t jmg .image))
+      (area-length g d img jmg same) (by (answer (length (areaOf g img d))))
+    where
+      answer : ℕ → Outcome
+      answer k = restoreAnswer (g .c) (s .cursor .sector) k sectorBytes
+
+      v : List ℕ → List ℕ
+      v x = restoreOf (part (areaOf g x d) (s .cursor .sector)) (part (areaOf g x d) (g .c)) (s .cursor .sector)
+
+      put : (to : ℕ) (b : Bool) → inMask (s .absent) d ≡ b
+          → Agree (s .absent) g (putMove s g d to (g .c) (v img) img .image) (putMove s g d to (g .c) (v jmg) jmg .image)
+      put to true p =
+          let still : (x : List ℕ) → x ≡ putMove s g d to (g .c) (v x) x .image = λ x. sym (put-absent s g d to (g .c) (v x) x p) in
+          subst (λ (x : List ℕ). Agree (s .absent) g x (putMove s g d to (g .c) (v jmg) jmg .image)) (still img)
+          (subst (λ (x : List ℕ). Agree (s .absent) g img x) (still jmg) a)
+      put to false p =
+          let e : v img ≡ v jmg =
+          ap₂ (λ (x y : List ℕ). restoreOf x y (s .cursor .sector)) (area-agree (s .absent) d (s .cursor .sector) p h a) (area-agree (s .absent) d (g .c) p (omega arith) a) in
+          subst (λ (x : List ℕ). Agree (s .absent) g (putMove s g d to (g .c) (v img) img .image) (putMove s g d to (g .c) x jmg .image)) e
+          (move-agree s d to (g .c) (v img) a)
+
+      on : (f : Found) → Agree (s .absent) g (byStrip f s g d img .image) (byStrip f s g d jmg .image)
+      on (spot.At p) = put (p + s .cursor .sector) (inMask (s .absent) d) refl
+      on (spot.Refused why) = a
+
+      by : (o : Outcome) → Agree (s .absent) g (byRestored o s g d t img .image) (byRestored o s g d t jmg .image)
+      by outcome.Done = on (found (inRange g) (ltb t (stripesOf g)) (stripOf g t))
+      by (outcome.Refused why) = a
+
+  act-agree : (s : State) (x : Stage) (d : ℕ) → s .cursor .sector ≤ g .c → Agree (s .absent) g img jmg
+      → Agree (s .absent) g (actMove s g x d img .image) (actMove s g x d jmg .image)
+  unfolding wipeMove
+  act-agree s (stage.Flush slots) d h a = a
+  act-agree s (stage.Give slots zeroed l) d h a = give-agree s d zeroed l a
+  act-agree s (stage.Wipe slots) d h a = move-agree s d (firstLog + g .c) 1 (replicate sectorBytes 0) a
+  act-agree s (stage.Restore slots t) d h a = restore-agree s d t h a
+  act-agree s stage.End d h a = a
+
+walk-agree : (k : ℕ) (s : State) (g : Geometry) (img jmg : List ℕ) → length img ≡ length jmg → s .cursor .sector ≤ g .c → Agree (s .absent) g img jmg
+    → Agree (s .absent) g (walk k s g img .image) (walk k s g jmg .image)
+unfolding walk
+walk-agree zero s g img jmg e h a = a
+walk-agree (suc k) s g img jmg e h a =
+    by (isEnd (stageOf s)) (ltb (nextSlot s g) (g .n)) (walk-agree k (onStage s) g img jmg e (omega arith) a)
+  where
+    move : Bool → Bool → List ℕ → Move
+    move c b x = cond {A = Move} c (finished s x) (cond {A = Move} b (actMove s g (stageOf s) (nextSlot s g) x) (walk k (onStage s) g x))
+
+    by : (c b : Bool) → Agree (s .absent) g (walk k (onStage s) g img .image) (walk k (onStage s) g jmg .image)
+        → Agree (s .absent) g (move c b img .image) (move c b jmg .image)
+    by true b r = a
+    by false true r = act-agree g img jmg e s (stageOf s) (nextSlot s g) h a
+    by false false r = r
+
+-- images that agree on the present slots before a step agree on them after it: what is put is the same
+pub step-agrees : (s : State) (img jmg : List ℕ) → length img ≡ length jmg → Agree (s .absent) (geometryOf (s .now)) img jmg
+    → Agree (s .absent) (geometryOf (s .now)) (stepMove s img .image) (stepMove s jmg .image)
+unfolding stepMove
+step-agrees s img jmg e a =
+    subst (λ (k : ℕ). Agree (s .absent) g (move (sound s) (fitsImage g (length img)) img .image) (move (sound s) (fitsImage g k) jmg .image)) e
+    (by (sound s) (fitsImage g (length img)) refl)
+  where
+    g : Geometry
+    g = geometryOf (s .now)
+
+    move : Bool → Bool → List ℕ → Move
+    move b f x = cond {A = Move} b (cond {A = Move} f (keeps s (walk mostStages s g x)) (refuses s BadImage x)) (refuses s NotNow x)
+
+    by : (b f : Bool) → sound s ≡ b → Agree (s .absent) g (move b f img .image) (move b f jmg .image)
+    by true true q = walk-agree mostStages s g img jmg e (omega (arith, sound-says s q .within)) a
+    by true false q = a
+    by false f q = a

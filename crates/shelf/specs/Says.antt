@@ -1,14 +1,14 @@
 -- What the tests of a step say, and each way through it, as the code goes it. Assumes nothing.
 use mathlib.Core.Path.{_≡_, refl, sym, ap, ap₂, _∙_}
-use mathlib.Core.Bool.{Bool, true, false, cond, _&&_}
+use mathlib.Core.Bool.{Bool, true, false, cond}
 use mathlib.Core.List.{List}
-use Prim.Native.Nat.{ℕ, zero, suc, _+_, _-_, _≤_, _<_, _%_}
+use Prim.Native.Nat.{ℕ, suc, _+_, _-_, _≤_, _<_, _%_}
 use native.Mathlib.Numerals.{add-one}
 use native.Mathlib.Omega.{arith}
 use lib.Dec.{ltb, leb}
 use lib.ListN.{length, replicate}
 use borrow.Author.Tests.{ltb-true, leb-true, lt-ltb, le-ltb}
-use Rattle.disk.specs.Limits.{mostN, mostC, mostSectors, sectorBytes}
+use Rattle.disk.specs.Limits.{mostC, mostSectors, sectorBytes}
 use Rattle.disk.specs.Tests.{and-left, and-right}
 use Rattle.disk.specs.Mask.{inMask}
 use Rattle.disk.specs.Image.{fitsImage}
@@ -27,7 +27,7 @@ use Rattle.label.proofs.Fits.{Fits, fits-says}
 use Rattle.record.specs.Log.{areaOf, restoreAnswer, afterRestore}
 use Rattle.shelf.specs.Limits.{mostStages}
 use Rattle.shelf.specs.Stage.{slotsOf, stageOf}
-use Rattle.shelf.specs.Act.{Move, refuses, putMove, named, giveMove, byStrip, byRestored, restoreMove, actMove}
+use Rattle.shelf.specs.Act.{refuses, putMove, named, giveMove, byStrip, byRestored, restoreMove, actMove}
 use Rattle.shelf.specs.Step.{seek, isEnd, finished, onStage, nextSlot, walk, keeps, underWay, sound, stepMove}
 use Rattle.shelf.specs.declared.state.State.{State}
 use Rattle.shelf.specs.declared.stage.Stage.{Stage}

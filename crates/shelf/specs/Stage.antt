@@ -1,5 +1,5 @@
 -- The stages of each request. Assumes nothing.
-use mathlib.Core.Bool.{Bool, cond}
+use mathlib.Core.Bool.{cond}
 use Prim.Native.Nat.{ℕ, _+_, _-_}
 use lib.Dec.{eqb, leb}
 use Rattle.label.specs.declared.fields.Label.{Label}

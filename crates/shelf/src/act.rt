@@ -19,8 +19,7 @@ use record::log::area;
 use record::log::restore;
 ghost use mathlib.Core.Path.{_≡_};
 ghost use Prim.Native.Nat.{_≤_, _<_, _%_};
-ghost use lib.ListN.{length};
-ghost use Rattle.disk.specs.Limits.{mostN, mostC, mostSectors, sectorBytes};
+ghost use Rattle.disk.specs.Limits.{mostN, mostC};
 ghost use Rattle.disk.specs.Mask.{inMask};
 ghost use Rattle.shelf.specs.Act.{onward, refusal, putMove, flushMove, named, giveMove, wipeMove, restoreMove, actMove};
 

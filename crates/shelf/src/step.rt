@@ -20,7 +20,6 @@ use label::fields::fits;
 ghost use mathlib.Core.Path.{_≡_};
 ghost use mathlib.Core.Bool.{true};
 ghost use Prim.Native.Nat.{_+_, _-_, _≤_, _<_};
-ghost use lib.ListN.{length};
 ghost use Rattle.disk.specs.Limits.{mostN, mostC};
 ghost use Rattle.label.specs.Fields.{mostGeneration, geometryOf, fitsOf};
 ghost use Rattle.shelf.specs.Limits.{mostStages};

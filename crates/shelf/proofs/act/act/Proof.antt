@@ -1,6 +1,6 @@
 -- One arm for each kind of stage.
 use borrow.Author.Needs.{needs}
-use mathlib.Core.Path.{_≡_, refl, sym, ap, _∙_}
+use mathlib.Core.Path.{sym, ap, _∙_}
 use Rattle.shelf.specs.Act.{Move, actMove}
 use Rattle.shelf.specs.declared.stage.Stage.{Stage}
 use Rattle.shelf.proofs.act.act.Statement.{statement}

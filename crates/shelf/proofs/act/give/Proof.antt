@@ -3,7 +3,7 @@ use borrow.Author.Needs.{needs}
 use Prim.Native.Nat.{ℕ}
 use lib.ListN.{replicate}
 use Rattle.disk.specs.Limits.{sectorBytes}
-use mathlib.Core.Path.{_≡_, refl, sym, ap, _∙_}
+use mathlib.Core.Path.{sym, ap, _∙_}
 use Rattle.shelf.specs.Act.{Move, putMove, giveMove}
 use Rattle.shelf.specs.Says.{give-put, give-not}
 use Rattle.shelf.proofs.act.give.Statement.{statement}

@@ -1,8 +1,6 @@
 -- An absent slot is refused; what the put answers decides the rest.
 use borrow.Author.Needs.{needs}
-use mathlib.Core.Path.{_≡_, refl, sym, ap, _∙_}
-use mathlib.Core.List.{List}
-use Prim.Native.Nat.{ℕ, _+_, _-_, _≤_, _<_}
+use mathlib.Core.Path.{refl, sym, ap, _∙_}
 use Rattle.disk.specs.Image.{afterPut}
 use Rattle.disk.specs.declared.refusal.Outcome.{Outcome}
 use Rattle.shelf.specs.Act.{putMove}

@@ -1,6 +1,6 @@
 -- What the record gives back decides, then whether there is such a strip.
 use borrow.Author.Needs.{needs}
-use mathlib.Core.Path.{_≡_, refl, sym, ap, _∙_}
+use mathlib.Core.Path.{sym, ap, _∙_}
 use native.Mathlib.Omega.{arith}
 use Rattle.shelf.specs.Act.{Move}
 use Rattle.shelf.specs.Says.{strip-low, redo-not, redo-none, redo-put}

@@ -1,7 +1,7 @@
 -- One test after the other.
 use borrow.Author.Needs.{needs}
 use borrow.Author.Tests.{eq-eqb, ne-eqb, le-leb, lt-leb}
-use mathlib.Core.Path.{_≡_, refl, sym, ap, _∙_}
+use mathlib.Core.Path.{ap}
 use Rattle.label.specs.declared.fields.Label.{Label}
 use Rattle.shelf.specs.Stage.{lateStage}
 use Rattle.shelf.specs.declared.stage.Stage.the-variants.{Give}

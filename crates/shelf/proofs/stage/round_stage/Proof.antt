@@ -1,5 +1,4 @@
 -- One test after the other.
-use borrow.Author.Needs.{needs}
 use borrow.Author.Tests.{eq-eqb, ne-eqb}
 use Rattle.shelf.specs.Stage.{roundStage}
 use Rattle.shelf.proofs.stage.round_stage.Statement.{statement}

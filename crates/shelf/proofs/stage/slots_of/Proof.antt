@@ -1,6 +1,6 @@
 -- One arm for each kind of stage.
 use borrow.Author.Needs.{needs}
-use mathlib.Core.Path.{_≡_, refl, sym, ap, _∙_}
+use mathlib.Core.Path.{sym, ap}
 use Rattle.shelf.specs.Stage.{slotsOf}
 use Rattle.shelf.proofs.stage.slots_of.Statement.{statement}
 use Rattle.shelf.proofs.stage.slots_of.Tie as tie

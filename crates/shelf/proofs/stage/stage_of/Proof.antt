@@ -1,6 +1,6 @@
 -- One arm for each kind.
 use borrow.Author.Needs.{needs}
-use mathlib.Core.Path.{_≡_, refl, sym, ap, _∙_}
+use mathlib.Core.Path.{sym, ap, _∙_}
 use Rattle.shelf.specs.Stage.{stageAt}
 use Rattle.shelf.specs.declared.state.Kind.{Kind}
 use Rattle.shelf.proofs.stage.stage_of.Statement.{statement}

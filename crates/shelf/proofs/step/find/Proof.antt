@@ -1,7 +1,7 @@
 -- The loop's invariant: from d on the search goes as from the start. Its measure is what is left.
 use borrow.Author.Needs.{needs}
-use mathlib.Core.Path.{_≡_, refl, sym, ap, _∙_}
-use Prim.Native.Nat.{ℕ, _+_, _-_, _≤_, _<_}
+use mathlib.Core.Path.{_≡_, refl, sym, _∙_}
+use Prim.Native.Nat.{_-_}
 use native.Mathlib.Omega.{arith}
 use Rattle.shelf.specs.Step.{seek}
 use Rattle.shelf.specs.Says.{seek-here, seek-on, seek-end}

@@ -1,13 +1,11 @@
 -- The loop's invariant: see `Walking`. Its measure is the number of stages left.
 use borrow.Author.Needs.{needs}
-use mathlib.Core.Path.{_≡_, refl, sym, ap, _∙_}
+use mathlib.Core.Path.{refl, sym, ap, _∙_}
 use mathlib.Core.List.{List}
-use Prim.Native.Nat.{ℕ, _+_, _-_, _≤_, _<_}
+use Prim.Native.Nat.{ℕ, _+_, _-_}
 use native.Mathlib.Omega.{arith}
 use lib.ListN.{length}
-use Rattle.disk.specs.declared.geometry.Geometry.{Geometry}
 use Rattle.shelf.specs.Limits.{mostStages}
-use Rattle.shelf.specs.Stage.{slotsOf}
 use Rattle.shelf.specs.Act.{Move, actMove}
 use Rattle.shelf.specs.Step.{seek, walk}
 use Rattle.shelf.specs.Says.{Walking, walk-end, walk-act, walk-on, walk-out}

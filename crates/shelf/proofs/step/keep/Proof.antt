@@ -1,6 +1,6 @@
 -- One arm for each answer.
 use borrow.Author.Needs.{needs}
-use mathlib.Core.Path.{_≡_, refl, sym, ap, _∙_}
+use mathlib.Core.Path.{sym, ap, _∙_}
 use Rattle.shelf.specs.Step.{byAnswer}
 use Rattle.shelf.specs.declared.state.Answer.{Answer}
 use Rattle.shelf.proofs.step.keep.Statement.{statement}
