@@ -1,2 +1,6 @@
 pub mod Places
 pub mod Disks
+pub mod ToDo
+pub mod Given
+pub mod Restored
+pub mod Steps
