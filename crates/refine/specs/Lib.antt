@@ -4,3 +4,5 @@ pub mod ToDo
 pub mod Given
 pub mod Restored
 pub mod Steps
+pub mod Lists
+pub mod StartList

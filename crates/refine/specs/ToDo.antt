@@ -242,7 +242,8 @@ module _ (z : Shelf) where
         (acts-same s h (stageOf s) (redoes (s .kind) s (s .cursor .stage)) (s .cursor .slot) (s .cursor .sector)) (left-same k (onStage s) h)
 
   module _ (f : Image Sector) where
-    left-ended : (k : ℕ) (s : State) → isEnd (stageOf s) ≡ true → leftOf z f (suc k) s ≡ []
+    -- where the request is over, nothing
+    pub left-ended : (k : ℕ) (s : State) → isEnd (stageOf s) ≡ true → leftOf z f (suc k) s ≡ []
     unfolding leftOf
     left-ended k s e = rw e
 
