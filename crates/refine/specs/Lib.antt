@@ -6,3 +6,4 @@ pub mod Restored
 pub mod Steps
 pub mod Lists
 pub mod StartList
+pub mod Begins

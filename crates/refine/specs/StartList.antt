@@ -146,12 +146,12 @@ module _ (z : Shelf) (A : ℕ → Bool) (img : List ℕ) (s : State) (h : Starts
 
   -- ---- the log part
 
-  gone-there : (d : ℕ) → d < slots z → A d ≡ true → gone (size z) (labels z) A f d ≡ true
+  pub gone-there : (d : ℕ) → d < slots z → A d ≡ true → gone (size z) (labels z) A f d ≡ true
   unfolding gone
   gone-there d l e = rw (lt-ltb d (slots z) l, e)
 
   -- a slot that is looked at is present
-  seen-there : (d : ℕ) → looked (size z) N d ≡ true → A d ≡ false
+  pub seen-there : (d : ℕ) → looked (size z) N d ≡ true → A d ≡ false
   seen-there d e = by (A d) refl
     where
       by : (b : Bool) → A d ≡ b → b ≡ false

@@ -63,7 +63,7 @@ abbrev pub Can : Shelf → ℕ → Stage → Type 0
 Can z absent (Flush mask) = Present z absent mask
 Can z absent (Give mask zeroed l) = Present z absent mask × Tells z l
 Can z absent (Wipe mask) = Present z absent mask
-Can z absent (Restore mask t) = Present z absent mask × (t < stripesOf (geometry z))
+Can z absent (Restore mask t) = Present z absent mask × ((d : ℕ) → d < slots z → inMask mask d ≡ true → t < stripesOf (geometry z))
 Can z absent End = Unit {0}
 
 -- a request is under way on an image of this shelf, and every stage of it can be carried out
@@ -264,7 +264,7 @@ module _ (z : Shelf) (s : State) (img : List ℕ) (fair : Fair z s img) where
       restore-puts : actMove s G (Restore mask t) (D mask) img ≡ putMove s G (D mask) (sectorOf z here-strip) (z .c) (restored z F here-strip .bytes) img
       unfolding restoreMove sectorOf
       restore-puts =
-          let there : found (inRange G) (ltb t (stripesOf G)) (stripOf G t) ≡ spot.At (stripOf G t) = rw (in-limits z, lt-ltb t (stripesOf G) (can (Restore mask t) e .1)) in
+          let there : found (inRange G) (ltb t (stripesOf G)) (stripOf G t) ≡ spot.At (stripOf G t) = rw (in-limits z, lt-ltb t (stripesOf G) (can (Restore mask t) e .1 (D mask) (h .below) (h .set))) in
           ap (λ (o : Outcome). byRestored o s G (D mask) t img) (restores z img (fair .disks) (D mask) (h .below) (s .cursor .sector) within)
           ∙ ap (λ (f : Found). byStrip f s G (D mask) img) there
           ∙ ap (λ (b : List ℕ). putMove s G (D mask) (stripOf G t + s .cursor .sector) (z .c) b img) (piece-is z img (fair .disks) (D mask) (h .below) (s .cursor .sector) within)
@@ -296,7 +296,7 @@ module _ (z : Shelf) (s : State) (img : List ℕ) (fair : Fair z s img) where
           ∙ ap (λ (ks : List Place). puts (restored z F) ks ++ R) (rows-next strips (z .c) (s .cursor .sector) (D mask) (slotsFrom (slots z) mask (D mask + 1)) within) in
           subst (Does z img s (actMove s G (Restore mask t) (D mask) img)) (sym p)
           (puts-so here-strip (restored z F here-strip) (z .c) (actMove s G (Restore mask t) (D mask) img) (puts (restored z F) L ++ R)
-          (strip-is-inside z (D mask) t (s .cursor .sector) (h .below) (can (Restore mask t) e .1) within) (can (Restore mask t) e .0 (D mask) (h .below) (h .set)) (omega arith) restore-puts
+          (strip-is-inside z (D mask) t (s .cursor .sector) (h .below) (can (Restore mask t) e .1 (D mask) (h .below) (h .set)) within) (can (Restore mask t) e .0 (D mask) (h .below) (h .set)) (omega arith) restore-puts
           (left-restored (update F here-strip (restored z F here-strip)) (λ q d j. update-other F here-strip (restored z F here-strip) (log d j) (λ o. let i : _≡_ {A = ℕ} 0 1 = cc in omega arith))))
 
     has : (mask : ℕ) → D mask < slots z → Has mask

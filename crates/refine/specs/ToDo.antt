@@ -157,23 +157,22 @@ module _ (P : Stage → Type 0) (end : P End) where
     unfolding createStage
     create-each f g i = pick (eqb i 0) _ _ f (round-each (s .marks .present) (s .next) g f (i - 1))
 
-    -- the stages of start-up: what it flushes, the labels that it gives, and the redoing
-    pub start-each : ((mask : ℕ) → (mask ≡ s .marks .present) ⊎ ((mask ≡ s .marks .parts) ⊎ ((mask ≡ s .marks .prep) ⊎ ((mask ≡ s .marks .late) ⊎ (mask ≡ s .marks .redo)))) → P (Flush mask))
+    -- the stages of start-up: what it flushes, the labels that it gives, and what it does with the records
+    pub start-each : P (Flush (s .marks .present)) → P (Flush (s .marks .parts)) → P (Flush (s .marks .prep)) → P (Flush (s .marks .late)) → P (Flush (s .marks .redo))
         → P (Give (s .marks .parts) 0 (s .now)) → P (Give (s .marks .parts) 0 (again (s .now) (s .now .generation + 1))) → P (Give (s .marks .parts) 0 (s .next))
         → P (Give (s .marks .prep) (s .marks .zeroed) (again (s .next) (s .now .generation + 1))) → P (Give (s .marks .late) 0 (s .next))
         → (s .marks .forward ≡ true → P (Restore (s .marks .redo) (s .marks .stripe))) → (s .marks .forward ≡ false → P (Wipe (s .marks .redo)))
         → (i : ℕ) → P (startStage s i)
     unfolding startStage lateStage
-    start-each f level once last prep late restore wipe i =
-        let parts = f (s .marks .parts) (inr (inl refl)) in
-        pick (eqb i 0) _ _ (f (s .marks .present) (inl refl))
+    start-each present parts prep late redone level once last ready adopt restore wipe i =
+        pick (eqb i 0) _ _ present
         (pick (leb i 2) _ _ (round-each (s .marks .parts) (s .now) level parts (i - 1))
         (pick (leb i 4) _ _ (round-each (s .marks .parts) (again (s .now) (s .now .generation + 1)) once parts (i - 3))
         (pick (leb i 6) _ _ (round-each (s .marks .parts) (s .next) last parts (i - 5))
-        (pick (eqb (i - 7) 0) _ _ prep
-        (pick (eqb (i - 7) 1) _ _ (f (s .marks .prep) (inr (inr (inl refl))))
-        (pick (leb (i - 7) 3) _ _ (round-each (s .marks .late) (s .next) late (f (s .marks .late) (inr (inr (inr (inl refl))))) (i - 7 - 2))
-        (pick (eqb (i - 7) 4) _ _ (redo (s .marks .forward) refl) (pick (eqb (i - 7) 5) _ _ (f (s .marks .redo) (inr (inr (inr (inr refl))))) end))))))))
+        (pick (eqb (i - 7) 0) _ _ ready
+        (pick (eqb (i - 7) 1) _ _ prep
+        (pick (leb (i - 7) 3) _ _ (round-each (s .marks .late) (s .next) adopt late (i - 7 - 2))
+        (pick (eqb (i - 7) 4) _ _ (redo (s .marks .forward) refl) (pick (eqb (i - 7) 5) _ _ redone end))))))))
       where
         redo : (b : Bool) → s .marks .forward ≡ b → P (cond b (Restore (s .marks .redo) (s .marks .stripe)) (Wipe (s .marks .redo)))
         redo true e = restore e
@@ -191,7 +190,7 @@ pub redoes : (k : Kind) (s : State) (i : ℕ) → Redoes (s .marks .forward) (st
 redoes Nothing s i = tt
 redoes Idle s i = tt
 redoes Creating s i = create-each (Redoes (s .marks .forward)) tt s tt tt i
-redoes Starting s i = start-each (Redoes (s .marks .forward)) tt s (λ mask e. tt) tt tt tt tt tt (λ e. e) (λ e. e) i
+redoes Starting s i = start-each (Redoes (s .marks .forward)) tt s tt tt tt tt tt tt tt tt tt tt (λ e. e) (λ e. e) i
 redoes Labelling s i = round-each (Redoes (s .marks .forward)) tt (s .marks .present) (s .next) tt tt i
 
 -- no request has a stage from mostStages - 1 on
