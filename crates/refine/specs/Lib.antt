@@ -1,9 +1,11 @@
 pub mod Places
 pub mod Disks
-pub mod ToDo
 pub mod Given
+pub mod ToDo
 pub mod Restored
 pub mod Steps
 pub mod Lists
 pub mod StartList
 pub mod Begins
+pub mod Tied
+pub mod Asked

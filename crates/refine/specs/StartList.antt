@@ -39,7 +39,7 @@ use Rattle.shelf.specs.declared.state.Kind.the-variants.{Starting}
 use Rattle.shelf.specs.declared.stage.Stage.{Stage}
 use Rattle.shelf.specs.declared.stage.Stage.the-variants.{Flush, Give, Wipe, Restore}
 use Rattle.refine.specs.Disks.{curOf, seenOf, seen-present}
-use Rattle.refine.specs.ToDo.{slotsFrom, rowsFrom, restored, actsOf, toDo, rows-fresh, stage-over}
+use Rattle.refine.specs.ToDo.{slotsFrom, tailAt, rowsFrom, restored, actsOf, toDo, rows-fresh, stage-over}
 use Rattle.refine.specs.Lists.{Says, slots-are, from-stage, begun, staged, over, flush-is, round-staged}
 
 module _ (z : Shelf) (A : ℕ → Bool) (img : List ℕ) where
@@ -191,7 +191,7 @@ module _ (z : Shelf) (A : ℕ → Bool) (img : List ℕ) (s : State) (h : Starts
       by true e =
           log-stages (Restore (s .marks .redo) (s .marks .stripe)) (redo-stage true e) refl
           ∙ (λ i. puts (restored z F) (rowsFrom (λ d j. strip d (s .marks .stripe) j) (z .c) 0 (q i)) ++ (flushes (q i) ++ []))
-      by false e = log-stages (Wipe (s .marks .redo)) (redo-stage false e) refl ∙ (λ i. puts (λ k. zeros) (rows (λ d j. log d (z .c)) (0 ∷ []) (q i)) ++ (flushes (q i) ++ []))
+      by false e = log-stages (Wipe (s .marks .redo)) (redo-stage false e) refl ∙ (λ i. puts (λ k. zeros) (rows (tailAt z) (0 ∷ []) (q i)) ++ (flushes (q i) ++ []))
 
   -- FORWARD: the strips from the records
   log-forward : s .marks .forward ≡ true → s .marks .stripe ≡ records z .stripeOf (last z A img) → Says z (s .marks .redo) (forwards z A img)
@@ -219,8 +219,8 @@ module _ (z : Shelf) (A : ℕ → Bool) (img : List ℕ) (s : State) (h : Starts
       let ds = keep (wipes z A img) (from 0 (slots z)) in
       let q = slots-are z (s .marks .redo) (wipes z A img) says in
       log-stages (Wipe (s .marks .redo)) (redo-stage false e) refl
-      ∙ (λ i. puts (λ k. zeros) (rows (λ d j. log d (z .c)) (0 ∷ []) (q i)) ++ (flushes (q i) ++ []))
-      ∙ sym (append-assoc (puts (λ k. zeros) (rows (λ d j. log d (z .c)) (0 ∷ []) ds)) (flushes ds) [])
+      ∙ (λ i. puts (λ k. zeros) (rows (tailAt z) (0 ∷ []) (q i)) ++ (flushes (q i) ++ []))
+      ∙ sym (append-assoc (puts (λ k. zeros) (rows (tailAt z) (0 ∷ []) ds)) (flushes ds) [])
 
   redo-is : from-stage z s img 11 ≡ all-of (redo-phases (labels z) (records z) (B z A img) f)
   redo-is = by (eqb (stamp z A img) 0) refl (whole (records z) (B z A img) f) refl

@@ -23,13 +23,12 @@ use Rattle.disk.specs.declared.refusal.Outcome.the-variants as outcome
 use Rattle.label.specs.Fields.{fitsOf}
 use Rattle.label.specs.Bytes.{sealed}
 use Rattle.label.specs.declared.fields.Label as bytes
-use Rattle.protocol.specs.World.{Place, label, log, strip, slot, Image, update, update-other, Action, put, flush}
+use Rattle.protocol.specs.World.{Place, log, strip, slot, Image, update, update-other, Action, put, flush}
 use Rattle.protocol.specs.Batch.{puts, flushes}
 use Rattle.protocol.specs.Slots.{rows}
 use Rattle.codecs.specs.Sector.{Sector, zeros}
 use Rattle.codecs.specs.Shelf.{Shelf, slots, geometry, some-sectors, in-limits}
-use Rattle.codecs.specs.Labels.{sideOf, ours, labelOf, encodeLabel}
-use Rattle.codecs.specs.Labels as Labels
+use Rattle.codecs.specs.Labels.{sideOf, ours}
 use Rattle.shelf.specs.Limits.{mostStages}
 use Rattle.shelf.specs.State.{moved}
 use Rattle.shelf.specs.Stage.{slotsOf, stageAt, stageOf}
@@ -44,8 +43,8 @@ use Rattle.shelf.specs.declared.stage.Stage.the-variants.{Flush, Give, Wipe, Re
 use Rattle.refine.specs.Places.{sectorOf, inside, slot-below, sector-below, label-inside, log-inside, strip-is-inside}
 use Rattle.refine.specs.Disks.{Disks, curOf, image-fits, disks-put, cur-put}
 use Rattle.refine.specs.Restored.{restores, piece-is}
-use Rattle.refine.specs.Given.{side-sector, sealed-is, shelf-geometry}
-use Rattle.refine.specs.ToDo.{slotsFrom, rowsFrom, given, restored, actsOf, leftOf, toDo, Next, next-slot, slots-here, rows-fresh, rows-next, rows-last, stage-same, stage-over, Redoes, redoes, Alike, left-same, left-at}
+use Rattle.refine.specs.Given.{sealed-is, shelf-geometry}
+use Rattle.refine.specs.ToDo.{slotsFrom, toldAt, tailAt, told-sector, tail-sector, given-zeros, given-label, rowsFrom, given, restored, actsOf, leftOf, toDo, Next, next-slot, slots-here, rows-fresh, rows-next, rows-last, stage-same, stage-over, Redoes, redoes, Alike, left-same, left-at}
 
 -- ---- a state in order
 
@@ -75,10 +74,15 @@ pub record Fair (z : Shelf) (s : State) (img : List ℕ) : Type 0 where
 
 -- ---- what a step is to be, for a list of what is left
 
+-- the cursor alone has moved
+abbrev pub Moved : State → State → Type 0
+Moved s t = t ≡ moved s (t .cursor .stage) (t .cursor .slot) (t .cursor .sector)
+
 module _ (z : Shelf) (img : List ℕ) where
   -- a put of v in place k, with l left
-  pub record Puts (m : Move) (k : Place) (v : Sector) (l : List (Action Sector)) : Type 0 where
+  pub record Puts (s : State) (m : Move) (k : Place) (v : Sector) (l : List (Action Sector)) : Type 0 where
     pub state : State
+    pub kept : Moved s state
     pub here : inside z k ≡ true
     pub is : m ≡ record { stepped = record { state = state; answer = answer.Put (slot k) (sectorOf z k) }; image = putSector (z .sectors) img (slot k) (sectorOf z k) (v .bytes) }
     pub becomes : curOf z (putSector (z .sectors) img (slot k) (sectorOf z k) (v .bytes)) ≡ update (curOf z img) k v
@@ -86,8 +90,9 @@ module _ (z : Shelf) (img : List ℕ) where
     pub fair : Fair z state (putSector (z .sectors) img (slot k) (sectorOf z k) (v .bytes))
 
   -- a flush of slot d, with l left
-  pub record Flushes (m : Move) (d : ℕ) (l : List (Action Sector)) : Type 0 where
+  pub record Flushes (s : State) (m : Move) (d : ℕ) (l : List (Action Sector)) : Type 0 where
     pub state : State
+    pub kept : Moved s state
     pub is : m ≡ record { stepped = record { state = state; answer = answer.Flush d }; image = img }
     pub rest : toDo z state img ≡ l
     pub fair : Fair z state img
@@ -95,8 +100,8 @@ module _ (z : Shelf) (img : List ℕ) where
   -- nothing is left: the request is done
   abbrev pub Does : State → Move → List (Action Sector) → Type 0
   Does s m [] = m ≡ finished s img
-  Does s m (put k v ∷ l) = Puts m k v l
-  Does s m (flush d ∷ l) = Flushes m d l
+  Does s m (put k v ∷ l) = Puts s m k v l
+  Does s m (flush d ∷ l) = Flushes s m d l
 
 -- ---- it stays in order
 
@@ -146,6 +151,14 @@ module _ (z : Shelf) (s : State) (img : List ℕ) (fair : Fair z s img) where
       by true e = fair-moved to disks (s .cursor .stage) d (s .cursor .sector + 1) staged (omega (arith, ltb-true (s .cursor .sector + 1) count e))
       by false e = fair-moved to disks (s .cursor .stage) (d + 1) 0 staged (some-sectors z)
 
+  onward-kept : (d count : ℕ) → Moved s (onward s d count)
+  unfolding onward
+  onward-kept d count = by (ltb (s .cursor .sector + 1) count)
+    where
+      by : (b : Bool) → Moved s (cond b (moved s (s .cursor .stage) d (s .cursor .sector + 1)) (moved s (s .cursor .stage) (d + 1) 0))
+      by true = refl
+      by false = refl
+
   -- the only sector of a slot is done
   once : (d : ℕ) → onward s d 1 ≡ moved s (s .cursor .stage) (d + 1) 0
   unfolding onward
@@ -164,12 +177,13 @@ module _ (z : Shelf) (s : State) (img : List ℕ) (fair : Fair z s img) where
       unless (inMask (s .absent) (slot k)) _ _ a ∙ ap (λ (o : Outcome). byOutcome o s G (slot k) (sectorOf z k) count (v .bytes) img) e
 
   puts-so : (k : Place) (v : Sector) (count : ℕ) (m : Move) (l : List (Action Sector)) → inside z k ≡ true → inMask (s .absent) (slot k) ≡ false → count ≤ z .c
-      → m ≡ putMove s G (slot k) (sectorOf z k) count (v .bytes) img → leftOf z (update (curOf z img) k v) mostStages (onward s (slot k) count) ≡ l → Puts z img m k v l
+      → m ≡ putMove s G (slot k) (sectorOf z k) count (v .bytes) img → leftOf z (update (curOf z img) k v) mostStages (onward s (slot k) count) ≡ l → Puts z img s m k v l
   unfolding toDo
   puts-so k v count m l i a few e r =
       let p = cur-put z img (fair .disks) k v i in
       record {
         state = onward s (slot k) count;
+        kept = onward-kept (slot k) count;
         here = i;
         is = e ∙ put-done k v count i a;
         becomes = p;
@@ -213,6 +227,7 @@ module _ (z : Shelf) (s : State) (img : List ℕ) (fair : Fair z s img) where
         subst (λ (ds : List ℕ). Does z img s (actMove s G (Flush mask) (D mask) img) (flushes ds ++ R)) (sym (h .first))
         (record {
           state = onward s (D mask) 1;
+          kept = onward-kept (D mask) 1;
           is = ap (λ (x : Stepped). record { stepped = x; image = img }) (unless (inMask (s .absent) (D mask)) _ _ (can (Flush mask) e (D mask) (h .below) (h .set)));
           rest = left-once (Flush mask) e F (λ q d j. refl) (D mask);
           fair = fair-onward img (fair .disks) (D mask) 1 (some-sectors z);
@@ -220,38 +235,45 @@ module _ (z : Shelf) (s : State) (img : List ℕ) (fair : Fair z s img) where
 
     module _ (mask zeroed : ℕ) (l : bytes.Label) (e : stageOf s ≡ Give mask zeroed l) (h : Has mask) where
       abbrev here-label : Place
-      here-label = label (D mask) (sideOf (l .generation))
+      here-label = toldAt l (D mask) 0
 
       give-puts : actMove s G (Give mask zeroed l) (D mask) img ≡ putMove s G (D mask) (sectorOf z here-label) 1 (given z zeroed l here-label .bytes) img
-      unfolding giveMove sectorOf
-      give-puts = by (inMask zeroed (D mask))
+      unfolding giveMove
+      give-puts = by (inMask zeroed (D mask)) refl
         where
           t : Tells z l
           t = can (Give mask zeroed l) e .1
 
-          by : (b : Bool) → cond b (putMove s G (D mask) (l .generation % 2) 1 (replicate sectorBytes 0) img)
+          putting : (to : ℕ) (v : List ℕ) → to ≡ sectorOf z here-label → v ≡ given z zeroed l here-label .bytes → putMove s G (D mask) to 1 v img ≡ putMove s G (D mask) (sectorOf z here-label) 1 (given z zeroed l here-label .bytes) img
+          putting to v p q = ap₂ (λ (x : ℕ) (y : List ℕ). putMove s G (D mask) x 1 y img) p q
+
+          by : (b : Bool) → inMask zeroed (D mask) ≡ b
+              → cond (inMask zeroed (D mask)) (putMove s G (D mask) (l .generation % 2) 1 (replicate sectorBytes 0) img)
               (cond (fitsOf (named l (D mask))) (putMove s G (D mask) (l .generation % 2) 1 (sealed (named l (D mask))) img) (refuses s NotNow img))
-              ≡ putMove s G (D mask) (Labels.sectorOf (sideOf (l .generation))) 1 (cond b zeros (encodeLabel z (D mask) (labelOf z l)) .bytes) img
-          by true = ap (λ (to : ℕ). putMove s G (D mask) to 1 (replicate sectorBytes 0) img) (sym (side-sector (l .generation)))
-          by false =
+              ≡ putMove s G (D mask) (sectorOf z here-label) 1 (given z zeroed l here-label .bytes) img
+          by true q =
+              when (inMask zeroed (D mask)) _ _ q
+              ∙ putting (l .generation % 2) (replicate sectorBytes 0) (sym (told-sector z l (D mask) 0)) (ap (λ (v : Sector). v .bytes) (sym (given-zeros z zeroed l here-label q)))
+          by false q =
               let f = t .fit (D mask) (h .below) in
-              when (fitsOf (named l (D mask))) _ _ f
-              ∙ ap₂ (λ (to : ℕ) (b : List ℕ). putMove s G (D mask) to 1 b img) (sym (side-sector (l .generation))) (sealed-is z l (t .same) (D mask) f)
+              unless (inMask zeroed (D mask)) _ _ q ∙ when (fitsOf (named l (D mask))) _ _ f
+              ∙ putting (l .generation % 2) (sealed (named l (D mask))) (sym (told-sector z l (D mask) 0))
+              (sealed-is z l (t .same) (D mask) f ∙ ap (λ (v : Sector). v .bytes) (sym (given-label z zeroed l here-label q)))
 
       give-does : Does z img s (actMove s G (Give mask zeroed l) (D mask) img) (actsOf z F (Give mask zeroed l) (s .cursor .slot) (s .cursor .sector) ++ R)
       unfolding Alike
       give-does =
-          subst (λ (ds : List ℕ). Does z img s (actMove s G (Give mask zeroed l) (D mask) img) (puts (given z zeroed l) (rows (λ d i. label d (sideOf (l .generation))) (0 ∷ []) ds) ++ R)) (sym (h .first))
+          subst (λ (ds : List ℕ). Does z img s (actMove s G (Give mask zeroed l) (D mask) img) (puts (given z zeroed l) (rows (toldAt l) (0 ∷ []) ds) ++ R)) (sym (h .first))
           (puts-so here-label (given z zeroed l here-label) 1 (actMove s G (Give mask zeroed l) (D mask) img) _ (label-inside z (D mask) (sideOf (l .generation)) (h .below)) (can (Give mask zeroed l) e .0 (D mask) (h .below) (h .set)) (some-sectors z) give-puts
           (left-once (Give mask zeroed l) e (update F here-label (given z zeroed l here-label)) (λ q d j. update-other F here-label (given z zeroed l here-label) (log d j) (λ p. let i : _≡_ {A = ℕ} 0 1 = cc in omega arith)) (D mask)))
 
     wipe-does : (mask : ℕ) → stageOf s ≡ Wipe mask → Has mask → Does z img s (actMove s G (Wipe mask) (D mask) img) (actsOf z F (Wipe mask) (s .cursor .slot) (s .cursor .sector) ++ R)
-    unfolding wipeMove sectorOf Alike
+    unfolding wipeMove Alike
     wipe-does mask e h =
-        let here = log (D mask) (z .c) in
+        let here = tailAt z (D mask) 0 in
         let no : s .marks .forward ≡ false = subst (Redoes (s .marks .forward)) e (redoes (s .kind) s (s .cursor .stage)) in
-        subst (λ (ds : List ℕ). Does z img s (actMove s G (Wipe mask) (D mask) img) (puts (λ k. zeros) (rows (λ d i. log d (z .c)) (0 ∷ []) ds) ++ R)) (sym (h .first))
-        (puts-so here zeros 1 (actMove s G (Wipe mask) (D mask) img) _ (log-inside z (D mask) (z .c) (h .below) (omega arith)) (can (Wipe mask) e (D mask) (h .below) (h .set)) (some-sectors z) refl
+        subst (λ (ds : List ℕ). Does z img s (actMove s G (Wipe mask) (D mask) img) (puts (λ k. zeros) (rows (tailAt z) (0 ∷ []) ds) ++ R)) (sym (h .first))
+        (puts-so here zeros 1 (actMove s G (Wipe mask) (D mask) img) _ (log-inside z (D mask) (z .c) (h .below) (omega arith)) (can (Wipe mask) e (D mask) (h .below) (h .set)) (some-sectors z) (ap (λ (to : ℕ). putMove s G (D mask) to 1 (replicate sectorBytes 0) img) (sym (tail-sector z (D mask) 0)))
         (left-once (Wipe mask) e (update F here zeros) (λ q d j. absurd (false≢true (sym no ∙ q))) (D mask)))
 
     module _ (mask t : ℕ) (e : stageOf s ≡ Restore mask t) (h : Has mask) where
@@ -316,8 +338,8 @@ module _ (z : Shelf) (s : State) (img : List ℕ) (fair : Fair z s img) where
 
     acts-none : (x : Stage) → slots z ≤ D (slotsOf x) → actsOf z F x (s .cursor .slot) (s .cursor .sector) ≡ []
     acts-none (Flush mask) l = ap (λ (ds : List ℕ). flushes ds) (none mask l)
-    acts-none (Give mask zeroed b) l = ap (λ (ds : List ℕ). puts (given z zeroed b) (rows (λ d i. label d (sideOf (b .generation))) (0 ∷ []) ds)) (none mask l)
-    acts-none (Wipe mask) l = ap (λ (ds : List ℕ). puts (λ k. zeros) (rows (λ d i. log d (z .c)) (0 ∷ []) ds)) (none mask l)
+    acts-none (Give mask zeroed b) l = ap (λ (ds : List ℕ). puts (given z zeroed b) (rows (toldAt b) (0 ∷ []) ds)) (none mask l)
+    acts-none (Wipe mask) l = ap (λ (ds : List ℕ). puts (λ k. zeros) (rows (tailAt z) (0 ∷ []) ds)) (none mask l)
     acts-none (Restore mask t) l = ap (λ (ds : List ℕ). puts (restored z F) (rowsFrom (λ d i. strip d t i) (z .c) (s .cursor .sector) ds)) (none mask l)
     acts-none End l = refl
 
@@ -330,8 +352,8 @@ module _ (z : Shelf) (s : State) (img : List ℕ) (fair : Fair z s img) where
 module _ (z : Shelf) (img : List ℕ) where
   does-on : (s : State) (m : Move) (l : List (Action Sector)) → Does z img (onStage s) m l → Does z img s m l
   does-on s m [] h = h
-  does-on s m (put k v ∷ l) h = h
-  does-on s m (flush d ∷ l) h = h
+  does-on s m (put k v ∷ l) h = record { state = h .state; kept = h .kept; here = h .here; is = h .is; becomes = h .becomes; rest = h .rest; fair = h .fair }
+  does-on s m (flush d ∷ l) h = record { state = h .state; kept = h .kept; is = h .is; rest = h .rest; fair = h .fair }
 
   walk-does : (k : ℕ) (s : State) → mostStages ≤ suc (s .cursor .stage + k) → Fair z s img → Does z img s (walk k s (geometry z) img) (leftOf z (curOf z img) k s)
   unfolding walk leftOf
@@ -354,8 +376,8 @@ module _ (z : Shelf) (img : List ℕ) where
 
   does-keeps : (s : State) (m : Move) (l : List (Action Sector)) → Does z img s m l → Does z img s (keeps s m) l
   does-keeps s m [] h = ap (keeps s) h
-  does-keeps s m (put k v ∷ l) h = record { state = h .state; here = h .here; is = ap (keeps s) (h .is); becomes = h .becomes; rest = h .rest; fair = h .fair }
-  does-keeps s m (flush d ∷ l) h = record { state = h .state; is = ap (keeps s) (h .is); rest = h .rest; fair = h .fair }
+  does-keeps s m (put k v ∷ l) h = record { state = h .state; kept = h .kept; here = h .here; is = ap (keeps s) (h .is); becomes = h .becomes; rest = h .rest; fair = h .fair }
+  does-keeps s m (flush d ∷ l) h = record { state = h .state; kept = h .kept; is = ap (keeps s) (h .is); rest = h .rest; fair = h .fair }
 
   -- A STEP does the first of what is left to do, and the others are left; or the request is done
   pub step-does : (s : State) → Fair z s img → Does z img s (stepMove s img) (toDo z s img)
@@ -369,8 +391,8 @@ module _ (z : Shelf) (img : List ℕ) where
     pub step-done : toDo z s img ≡ [] → stepMove s img ≡ finished s img
     step-done e = subst (Does z img s (stepMove s img)) e (step-does s fair)
 
-    pub step-puts : (k : Place) (v : Sector) (l : List (Action Sector)) → toDo z s img ≡ put k v ∷ l → Puts z img (stepMove s img) k v l
+    pub step-puts : (k : Place) (v : Sector) (l : List (Action Sector)) → toDo z s img ≡ put k v ∷ l → Puts z img s (stepMove s img) k v l
     step-puts k v l e = subst (Does z img s (stepMove s img)) e (step-does s fair)
 
-    pub step-flushes : (d : ℕ) (l : List (Action Sector)) → toDo z s img ≡ flush d ∷ l → Flushes z img (stepMove s img) d l
+    pub step-flushes : (d : ℕ) (l : List (Action Sector)) → toDo z s img ≡ flush d ∷ l → Flushes z img s (stepMove s img) d l
     step-flushes d l e = subst (Does z img s (stepMove s img)) e (step-does s fair)

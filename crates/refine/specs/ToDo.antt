@@ -4,10 +4,11 @@ use mathlib.Core.Path.{_≡_, refl, sym, ap, ap₂, subst, _∙_, fun-ext}
 use mathlib.Core.Logic.{_⊎_, inl, inr, ⊎-elim}
 use mathlib.Core.Bool.{Bool, true, false, cond}
 use mathlib.Core.List.{List, [], _∷_, _++_}
-use Prim.Native.Nat.{ℕ, zero, suc, _+_, _-_, _≤_, _<_}
+use Prim.Native.Nat.{ℕ, zero, suc, _+_, _-_, _≤_, _<_, _%_}
 use native.Mathlib.Omega.{arith}
 use lib.Dec.{eqb, leb}
 use borrow.Author.Tests.{ne-eqb, lt-leb}
+use Rattle.disk.specs.Limits.{firstLog}
 use Rattle.disk.specs.Image.{lt-or-ge}
 use Rattle.disk.specs.Mask.{inMask}
 use Rattle.label.specs.declared.fields.Label as bytes
@@ -28,7 +29,9 @@ use Rattle.shelf.specs.declared.state.Kind.{Kind}
 use Rattle.shelf.specs.declared.state.Kind.the-variants.{Nothing, Idle, Creating, Starting, Labelling}
 use Rattle.shelf.specs.declared.stage.Stage.{Stage}
 use Rattle.shelf.specs.declared.stage.Stage.the-variants.{Flush, Give, Wipe, Restore, End}
+use Rattle.refine.specs.Places.{sectorOf}
 use Rattle.refine.specs.Disks.{curOf}
+use Rattle.refine.specs.Given.{side-sector}
 
 -- ---- definitions
 
@@ -41,6 +44,14 @@ abbrev pub rowsFrom : (ℕ → ℕ → Place) → ℕ → ℕ → List ℕ → L
 rowsFrom mk c j [] = []
 rowsFrom mk c j (d ∷ ds) = row mk d (from j (c - j)) ++ rows mk (from 0 c) ds
 
+-- where a label goes: to the sector that its generation calls for
+abbrev pub toldAt : bytes.Label → ℕ → ℕ → Place
+toldAt l d i = label d (sideOf (l .generation))
+
+-- the tail of a record
+abbrev pub tailAt : Shelf → ℕ → ℕ → Place
+tailAt z d i = log d (z .c)
+
 -- the label for a slot, or zeros in its place
 abbrev pub given : Shelf → ℕ → bytes.Label → Place → Sector
 given z zeroed l k = cond (inMask zeroed (slot k)) zeros (encodeLabel z (slot k) (labelOf z l))
@@ -52,8 +63,8 @@ restored z f = stored (records z) (λ d j. pieceOf z (f (log d (z .c))) (f (log 
 -- what a stage does from slot d, and sector j of it, on; f is what the places hold
 abbrev pub actsOf : Shelf → Image Sector → Stage → ℕ → ℕ → List (Action Sector)
 actsOf z f (Flush mask) d j = flushes (slotsFrom (slots z) mask d)
-actsOf z f (Give mask zeroed l) d j = puts (given z zeroed l) (rows (λ e i. label e (sideOf (l .generation))) (0 ∷ []) (slotsFrom (slots z) mask d))
-actsOf z f (Wipe mask) d j = puts (λ k. zeros) (rows (λ e i. log e (z .c)) (0 ∷ []) (slotsFrom (slots z) mask d))
+actsOf z f (Give mask zeroed l) d j = puts (given z zeroed l) (rows (toldAt l) (0 ∷ []) (slotsFrom (slots z) mask d))
+actsOf z f (Wipe mask) d j = puts (λ k. zeros) (rows (tailAt z) (0 ∷ []) (slotsFrom (slots z) mask d))
 actsOf z f (Restore mask t) d j = puts (restored z f) (rowsFrom (λ e i. strip e t i) (z .c) j (slotsFrom (slots z) mask d))
 actsOf z f End d j = []
 
@@ -65,6 +76,24 @@ leftOf z f (suc k) s = cond (isEnd (stageOf s)) [] (actsOf z f (stageOf s) (s .c
 -- WHAT IS LEFT TO DO, on this image
 unfoldable pub toDo : Shelf → State → List ℕ → List (Action Sector)
 toDo z s img = leftOf z (curOf z img) mostStages s
+
+-- ---- where things go, and what
+
+module _ (z : Shelf) where
+  pub told-sector : (l : bytes.Label) (d i : ℕ) → sectorOf z (toldAt l d i) ≡ l .generation % 2
+  unfolding sectorOf
+  told-sector l d i = side-sector (l .generation)
+
+  pub tail-sector : (d i : ℕ) → sectorOf z (tailAt z d i) ≡ firstLog + z .c
+  unfolding sectorOf
+  tail-sector d i = refl
+
+  module _ (zeroed : ℕ) (l : bytes.Label) (k : Place) where
+    pub given-zeros : inMask zeroed (slot k) ≡ true → given z zeroed l k ≡ zeros
+    given-zeros e = rw e
+
+    pub given-label : inMask zeroed (slot k) ≡ false → given z zeroed l k ≡ encodeLabel z (slot k) (labelOf z l)
+    given-label e = rw e
 
 -- ---- the next slot of a mask
 
