@@ -43,8 +43,7 @@ uint32_t pl_encode(size_t k, size_t m, size_t len, uint8_t *stripe, size_t strip
 /* Fills in the missing shards, `count` numbers of one byte each, from the others, which are read and never written; what stands in
  * the place of a missing shard doesn't matter. 0; PL_BAD_SHAPE; PL_TOO_MANY where count is more than m; PL_BAD_SHARD where a number
  * is k + m or more, or named twice. An empty list succeeds and changes nothing. Survivors that contradict each other are not
- * noticed: the result then goes by the surviving data shards and as many surviving parity shards as are wanted, the first ones
- * where the list ascends. */
+ * noticed: the result then goes by the k least of them, whatever the others hold and in whatever order the list stands. */
 uint32_t pl_rebuild(size_t k, size_t m, size_t len, const uint8_t *missing, size_t count, uint8_t *stripe, size_t stripe_len);
 
 /* PL_SOUND, PL_ACCUSED + r, PL_UNSOUND, or PL_BAD_SHAPE. Writes nothing. */

@@ -134,7 +134,7 @@ pub mod code {
 
     /// Fills in the missing shards from the others, which stay; what stands in a missing shard's place doesn't matter. An empty
     /// list succeeds and changes nothing. Survivors that contradict each other are not noticed: the result then goes by the
-    /// surviving data shards and as many surviving parity shards as are wanted.
+    /// k least of them, in whatever order the list stands.
     pub fn rebuild(
         k: usize,
         m: usize,

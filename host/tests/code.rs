@@ -185,26 +185,9 @@ impl Shape {
             .collect()
     }
 
-    /// Rebuilt by the surviving data shards and the first surviving parity shards that make them k.
+    /// Rebuilt by the k least survivors.
     fn rebuilt(self, missing: &[u8], stripe: &[u8]) -> Vec<u8> {
         self.filled(missing, &self.survivors(missing)[..self.k], stripe)
-    }
-
-    /// Whether `after` is rebuilt by the surviving data shards and as many surviving parity shards as make them k, no matter which.
-    fn is_rebuilt(self, missing: &[u8], stripe: &[u8], after: &[u8]) -> bool {
-        let (data, parity): (Vec<usize>, Vec<usize>) = self
-            .survivors(missing)
-            .into_iter()
-            .partition(|&r| r < self.k);
-        (0..1 << parity.len()).any(|picks: usize| {
-            let picked = parity
-                .iter()
-                .enumerate()
-                .filter(|(i, _)| picks >> i & 1 == 1)
-                .map(|(_, &r)| r);
-            let chosen: Vec<usize> = data.iter().copied().chain(picked).collect();
-            chosen.len() == self.k && self.filled(missing, &chosen, stripe) == after
-        })
     }
 
     /// The stripe with that content of shard r with which the equations hold, if there is one: rebuilt from the others.
@@ -502,32 +485,41 @@ fn contradictory(check: impl Fn(Shape, &[u8], &[u8])) {
     }
 }
 
-/// The result goes by the surviving data shards and as many parity shards as are wanted; nothing but the missing shards changes.
+/// The result goes by the k least survivors, in whatever order the list stands; nothing but the missing shards changes.
 #[test]
-fn rebuild_from_contradictory_survivors() {
+fn rebuild_goes_by_the_least_survivors() {
     contradictory(|s, missing, stripe| {
         let (answer, after) = rebuild(s, missing, stripe);
         assert_eq!(answer, Ok(()), "{s:?}, missing {missing:?}");
         assert!(
-            s.is_rebuilt(missing, stripe, &after),
+            after == s.rebuilt(missing, stripe),
             "{s:?}, missing {missing:?}"
         );
     });
 }
 
-/// And where the list ascends, these are the first surviving parity shards.
+/// The survivors that it doesn't go by may be anything.
 #[test]
-fn rebuild_goes_by_the_first_surviving_parities() {
-    contradictory(|s, missing, stripe| {
-        if missing.windows(2).all(|pair| pair[0] < pair[1]) {
-            let (answer, after) = rebuild(s, missing, stripe);
-            assert_eq!(answer, Ok(()), "{s:?}, missing {missing:?}");
-            assert!(
-                after == s.rebuilt(missing, stripe),
-                "{s:?}, missing {missing:?}"
-            );
+fn rebuild_looks_at_no_other_survivor() {
+    let mut random = Random(6);
+    for (k, m) in every_shape().filter(|&(k, _)| k <= 5) {
+        let s = Shape { k, m, len: 5 };
+        for missing in every_loss(k, m) {
+            let stripe = random_bytes(&mut random, s.size());
+            let (_, after) = rebuild(s, &missing, &stripe);
+            let mut other = stripe.clone();
+            for r in &s.survivors(&missing)[k..] {
+                random.fill(&mut other[r * s.len..][..s.len]);
+            }
+            let (_, others) = rebuild(s, &missing, &other);
+            for &r in &missing {
+                assert!(
+                    s.shard(&after, r as usize) == s.shard(&others, r as usize),
+                    "{s:?}, missing {missing:?}"
+                );
+            }
         }
-    });
+    }
 }
 
 #[test]

@@ -49,6 +49,7 @@ module _ (k m : ℕ) (missing : List ℕ) (l : Lost k m missing) where
   padded-first c h =
       getD-take m (missing ++ others) c 0 (omega (arith, l .few)) ∙ List·getD-append missing others 0 c h
 
+  -- the greatest others after them
   then : (c : ℕ) → length missing ≤ c → c < m → getD (padded k m missing) c 0 ≡ getD others (c - length missing) 0
   unfolding padded
   then c h g =
@@ -65,7 +66,12 @@ module _ (k m : ℕ) (missing : List ℕ) (l : Lost k m missing) where
       (chosen-all (λ r. not (has missing r)) (λ r. has missing r ≡ false) (k + m) (λ i h e. not-true (has missing i) e))
 
   pub padded-lost : Lost k m (padded k m missing)
-  padded-lost = record { few = omega (arith, padded-length); shards = λ c h. at c (omega (arith, padded-length)) (below-or-not c (length missing)); distinct = λ i c g h. two i c g (omega (arith, padded-length)) (below-or-not i (length missing)) (below-or-not c (length missing)) }
+  padded-lost =
+      record {
+        few = omega (arith, padded-length);
+        shards = λ c h. at c (omega (arith, padded-length)) (below-or-not c (length missing));
+        distinct = λ i c g h. two i c g (omega (arith, padded-length)) (below-or-not i (length missing)) (below-or-not c (length missing));
+      }
     where
       at : (c : ℕ) → c < m → (c < length missing) ⊎ (length missing ≤ c) → getD (padded k m missing) c 0 < k + m
       at c h (inl g) = omega (arith, padded-first c g, l .shards c g)
@@ -88,7 +94,8 @@ module _ (k m : ℕ) (missing : List ℕ) (l : Lost k m missing) where
 
   -- a shard that it goes by is not missing
   pub padded-off : (r : ℕ) → has (padded k m missing) r ≡ false → has missing r ≡ false
-  padded-off r e = go (has missing r) (sym (has-append missing (take (m - length missing) others) r) ∙ ap (λ (t : List ℕ). has t r) (sym padded-is) ∙ e)
+  padded-off r e =
+      go (has missing r) (sym (has-append missing (take (m - length missing) others) r) ∙ ap (λ (t : List ℕ). has t r) (sym padded-is) ∙ e)
     where
       go : (b : Bool) → cond b true (has (take (m - length missing) others) r) ≡ false → b ≡ false
       go true q = q
@@ -118,7 +125,12 @@ module _ (k m : ℕ) (missing : List ℕ) (l : Lost k m missing) where
   -- a table solved for the padded list is solved for the list
   pub solved-first : (e : List ℕ) → SolvedFor k m (padded k m missing) e → SolvedFor k m missing e
   solved-first e s =
-      record { same = s .same; units = λ c h j g. ap (λ (a : ℕ). getD e (j * (k + m) + a) 0) (sym (padded-first c h)) ∙ s .units c (omega (arith, padded-length, l .few)) j g }
+      record {
+        same = s .same;
+        units =
+            λ c h j g.
+            ap (λ (a : ℕ). getD e (j * (k + m) + a) 0) (sym (padded-first c h)) ∙ s .units c (omega (arith, padded-length, l .few)) j g;
+      }
 
 -- in whichever order the list names the missing shards, these are the same shards
 pub any-order : (k m : ℕ) (a b : List ℕ) → Lost k m a → Lost k m b → ((r : ℕ) → r < k + m → has a r ≡ has b r)

@@ -59,6 +59,17 @@ pub record Adding (n dst src c i : ℕ) (e new : List ℕ) : Type 0 where
   pub left : (p : ℕ) → ((r : ℕ) → r < i → p ≢ dst * n + r) → getD new p 0 ≡ getD e p 0
 
 module _ (n dst src c : ℕ) (e : List ℕ) where
+  pub adding-none : c ≡ 0 → Added n dst src c e e
+  adding-none z =
+      record {
+        same = refl;
+        row =
+            λ r l.
+            sym (ap (λ (x : ℕ). bitXor (entry n e dst r) (mulOf x (entry n e src r))) z
+            ∙ ap (bitXor (entry n e dst r)) (zero-times (entry n e src r)) ∙ bytes .add-zero (entry n e dst r));
+        other = λ j r l ne. refl;
+      }
+
   pub adding-first : Adding n dst src c 0 e e
   adding-first = record { most = omega arith; same = refl; done = λ r h. absurd (omega arith); left = λ p h. refl }
 

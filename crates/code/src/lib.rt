@@ -189,7 +189,7 @@ fn pad(k: usize, m: usize, lost: &[u8], all: &mut [u8])
     let n = k + m;
     copy(lost, all);
     let mut c = lost.len();
-    let mut i = 1;
+    let mut i: usize = 1;
     while c < m {
         let a = (n - i) as u8;
         if !named(lost, 0, a) {
@@ -200,7 +200,7 @@ fn pad(k: usize, m: usize, lost: &[u8], all: &mut [u8])
     }
 }
 
-// Fills the lost shards in from those that are not in `all`, with a table to work in.
+// Fills the lost shards in from the k shards that are not in `all`, with a table to work in.
 fn fill_with(
     k: usize,
     m: usize,
@@ -258,7 +258,7 @@ pub fn repair(k: usize, m: usize, len: usize, stripe: &mut [u8]) -> Verdict
     }
 }
 
-// Fills in the shards that are missing.
+// Fills in the shards that are missing, from the k least of the others.
 pub fn rebuild(k: usize, m: usize, len: usize, missing: &[u8], stripe: &mut [u8]) -> Answer
     ensures { λ r. ⌜ Rebuilt k m len (now (missing .entry)) r (now (stripe .entry)) (now (stripe .exit)) ⌝ }
 {

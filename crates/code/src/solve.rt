@@ -53,12 +53,16 @@ fn fill(k: usize, m: usize, e: &mut [u8])
     }
 }
 
-// Adds c times row src to row dst. The two may be the same row.
+// Adds c times row src to row dst. The two may be the same row. Where c is 0, as at the columns of most parity shards, nothing is to
+// be done.
 fn add_row(e: &mut [u8], n: usize, dst: usize, src: usize, c: u8)
     requires { ⌜ dst * n + n ≤ length (now e) ⌝ }
     requires { ⌜ src * n + n ≤ length (now e) ⌝ }
     ensures { λ r. ⌜ Added n dst src c (now (e .entry)) (now (e .exit)) ⌝ }
 {
+    if c == 0 {
+        return;
+    }
     let to = dst * n;
     let from = src * n;
     let mut i = 0;

@@ -15,7 +15,7 @@ use Rattle.crc32c.specs.Crc.{crcOf}
 use Rattle.disk.specs.Limits.{mostK, mostM}
 use Rattle.disk.specs.Number.{bytesOf}
 use Rattle.disk.specs.Image.{lt-or-ge}
-use Rattle.disk.specs.Mask.{inMask, in-past}
+use Rattle.disk.specs.Mask.{inMask, in-past, maskOf, mask-lt, mask-below, mask-past}
 use Rattle.disk.specs.Geometry.{inRangeWith, stripesOf}
 use Rattle.disk.specs.declared.geometry.Geometry.{Geometry}
 use Rattle.label.specs.Fields.{noSlot, mostGeneration, geometryOf, rebuildFits, fitsOf}
@@ -31,7 +31,6 @@ use Rattle.label.proofs.Laws.{decode-encode, zeros-nothing, Meant, decode-says}
 use Rattle.protocol.specs.Label.{Label, LabelCodec}
 use Rattle.protocol.specs.Program.{Proper}
 use Rattle.codecs.specs.Sector.{Sector, Bytes, zeros, bytes-none, bytes-append, bytes-number}
-use Rattle.codecs.specs.Masks.{maskOf, mask-lt, mask-below, mask-past}
 use Rattle.codecs.specs.Shelf.{Shelf, slots, geometry, size, few-data, few-parity, few-slots}
 
 -- sector 1 for an odd generation, sector 0 for an even one
@@ -206,17 +205,6 @@ module _ (z : Shelf) where
             none = λ l. absurd (omega (arith, n));
           }
 
-  rebuilds : (a : bytes.Label) → fitsOf a ≡ true → rebuildFits a ≡ true
-  unfolding fitsOf
-  rebuilds a e =
-      let e1 = and-right (leb (a .k) mostK) _ e in
-      let e2 = and-right (leb (a .m) mostM) _ e1 in
-      let e3 = and-right (inRangeWith (geometryOf a) (a .k)) _ e2 in
-      let e4 = and-right (ltb (a .slot) (a .k + a .m)) _ e3 in
-      let e5 = and-right (leb 1 (a .generation)) _ e4 in
-      let e6 = and-right (leb (a .generation) mostGeneration) _ e5 in
-      and-right (ltb (a .out) (2 ^ (a .k + a .m))) (rebuildFits a) e6
-
   pub decode-fits : (d : ℕ) (b : Bool) (x : Sector) → 0 < decodeLabel z d b x .generation → Fitting z (decodeLabel z d b x)
   decode-fits d b x p = subst (Fitting z) (sym (t .is)) (record {
     sound = record {
@@ -243,7 +231,7 @@ module _ (z : Shelf) where
       g = shelf-same a (t .same)
 
       r : Rebuild a
-      r = rebuild-of a g (rebuilds a (t .means .fit))
+      r = rebuild-of a g (f .rebuild)
 
   -- ---- what fits comes back
 

@@ -1,5 +1,4 @@
 pub mod Sector
-pub mod Masks
 pub mod Shelf
 pub mod Labels
 pub mod Records

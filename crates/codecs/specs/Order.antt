@@ -15,7 +15,7 @@ use borrow.Author.Tests.{lt-ltb, le-ltb, le-leb, eqb-true, eq-eqb, ne-eqb}
 use Rattle.disk.specs.Limits.{sectorBytes}
 use Rattle.disk.specs.Tests.{both}
 use Rattle.disk.specs.Number.{number-lt}
-use Rattle.disk.specs.Mask.{inMask, slot-le}
+use Rattle.disk.specs.Mask.{inMask, slot-le, mask-lt, mask-below}
 use Rattle.disk.specs.Geometry.{stripesOf, shardOf, shard-lt, slot-shard}
 use Rattle.record.specs.Stamp.{stampAt, zeroStamp, laterOf, StampFits, stamp-ext, later-is, later-or}
 use Rattle.record.specs.Tail.{mayBe}
@@ -23,7 +23,6 @@ use Rattle.record.specs.Log.{part, completeOf, complete-is, is-complete}
 use Rattle.record.specs.declared.stamp.Stamp.{Stamp}
 use Rattle.protocol.specs.Log.{Write}
 use Rattle.codecs.specs.Sector.{Sector, Bytes}
-use Rattle.codecs.specs.Masks.{mask-lt, mask-below}
 use Rattle.codecs.specs.Shelf.{Shelf, slots, geometry, some-slots, strips-fit}
 use Rattle.codecs.specs.Records.{counts, stampNumber, stampOf, stampIn, stamp-number, changesShard, shardsOf, tailOf, Fitting}
 

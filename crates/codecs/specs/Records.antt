@@ -15,7 +15,7 @@ use borrow.Author.Tests.{lt-ltb, le-ltb}
 use Rattle.disk.specs.Limits.{sectorBytes, mostC}
 use Rattle.disk.specs.Number.{numberAt, bytesOf}
 use Rattle.disk.specs.Image.{lt-or-ge}
-use Rattle.disk.specs.Mask.{inMask}
+use Rattle.disk.specs.Mask.{inMask, maskOf, mask-lt, mask-below}
 use Rattle.disk.specs.Geometry.{stripesOf, slotOf, shardOf, shard-lt, slot-shard}
 use Rattle.record.specs.Layout.{stampLength, body, restsAt, rest}
 use Rattle.record.specs.Stamp.{stampAt, stampBytes, StampFits}
@@ -25,7 +25,6 @@ use Rattle.record.specs.declared.stamp.Stamp.{Stamp}
 use Rattle.record.specs.declared.tail.Tail.{Tail}
 use Rattle.protocol.specs.Log.{Write, RecordCodec}
 use Rattle.codecs.specs.Sector.{Sector, Bytes, zeros, sector-path, bytes-none, bytes-append, bytes-take, bytes-drop, bytes-zeros, bytes-number}
-use Rattle.codecs.specs.Masks.{maskOf, mask-lt, mask-below}
 use Rattle.codecs.specs.Shelf.{Shelf, slots, geometry, some-slots, few-slots, some-sectors, short-strip, stripes-few}
 
 -- ---- stamps

@@ -1,10 +1,10 @@
--- Masks of slots: slot d is in a mask where bit d is set. Putting a slot in and taking it out change that bit alone; the
--- count of set bits is the count of slots. Assumes nothing.
+-- Masks of slots: slot d is in a mask where bit d is set. Putting a slot in and taking it out change that bit alone; a
+-- test makes a mask, and the mask tells the test; the count of set bits is the count of slots. Assumes nothing.
 use mathlib.Core.Path.{_≡_, refl, sym, ap, ap₂, _∙_}
 use mathlib.Core.Logic.{_⊎_, ⊎-elim}
 use mathlib.Core.Bool.{Bool, true, false, _&&_, _||_, cond, not}
 use Prim.Native.Nat.{ℕ, zero, suc, _+_, _*_, _-_, _≤_, _<_, _/_, _%_, _^_}
-use native.Mathlib.Nat.{div-one, pow-suc, pow-succ', div-div-eq-div-mul, mod-lt, div-eq-of-lt, div-eq-sub-div, lt-of-lt-of-le, eq-zero-or-pos, zero-mul}
+use native.Mathlib.Nat.{div-one, pow-suc, pow-succ', div-div-eq-div-mul, mod-lt, div-eq-of-lt, div-eq-sub-div, lt-of-lt-of-le, eq-zero-or-pos, eq-or-lt-of-le, le-of-suc-le-suc, zero-mul}
 use native.Mathlib.Omega.{arith}
 use lib.Arith.{lt-one, bin-ind}
 use lib.Pow.{pow-pos, pow-mono, shr-shr, split}
@@ -27,6 +27,11 @@ withSlot mask d = cond (inMask mask d) mask (mask + 2 ^ d)
 -- the mask without slot d
 unfoldable pub withoutSlot : ℕ → ℕ → ℕ
 withoutSlot mask d = cond (inMask mask d) (mask - 2 ^ d) mask
+
+-- the slots below n of which p holds
+unfoldable pub maskOf : (ℕ → Bool) → ℕ → ℕ
+maskOf p zero = 0
+maskOf p (suc n) = cond (p n) (withSlot (maskOf p n) n) (maskOf p n)
 
 -- how many of the first n slots are in the mask
 unfoldable pub tally : (ℕ → Bool) → ℕ → ℕ
@@ -161,6 +166,44 @@ unfolding inMask
 slots-below n m h =
     let q : m / 2 ^ n ≡ 0 = no-digits (m / 2 ^ n) (λ e. ap (λ (x : ℕ). x % 2) (shr-shr m n e) ∙ off (digit m (n + e)) (digit-lt m (n + e)) (eqb-false (digit m (n + e)) 1 (h (n + e) (omega arith)))) in
     omega (arith, split m n, mod-lt m {m = 2 ^ n} (pow-pos n), ap (λ (x : ℕ). x * 2 ^ n) q, zero-mul (2 ^ n))
+
+-- ---- a set of slots, told by a test
+
+pub mask-lt : (p : ℕ → Bool) (n : ℕ) → maskOf p n < 2 ^ n
+unfolding maskOf
+mask-lt p zero = omega arith
+mask-lt p (suc n) = by (p n) (omega (arith, pow-suc 2 n, mask-lt p n))
+  where
+    by : (b : Bool) → maskOf p n < 2 ^ suc n → cond b (withSlot (maskOf p n) n) (maskOf p n) < 2 ^ suc n
+    by true wide = with-lt (suc n) (maskOf p n) n wide (omega arith)
+    by false wide = wide
+
+-- below n the mask tells the test
+pub mask-below : (p : ℕ → Bool) (n d : ℕ) → d < n → inMask (maskOf p n) d ≡ p d
+unfolding maskOf
+mask-below p zero d l = absurd (omega arith)
+mask-below p (suc n) d l = ⊎-elim last (λ (h : d < n). before h (mask-below p n d h)) (eq-or-lt-of-le (le-of-suc-le-suc l))
+  where
+    M : ℕ
+    M = maskOf p n
+
+    last : d ≡ n → inMask (cond (p n) (withSlot M n) M) d ≡ p d
+    last e = go (p n) refl
+      where
+        go : (b : Bool) → p n ≡ b → inMask (cond b (withSlot M n) M) d ≡ p d
+        go true q = in-with M n d ∙ ap (λ (x : Bool). x || inMask M d) (eq-eqb d n e) ∙ sym (ap p e ∙ q)
+        go false q = in-past n M d (mask-lt p n) (omega arith) ∙ sym (ap p e ∙ q)
+
+    before : d < n → inMask M d ≡ p d → inMask (cond (p n) (withSlot M n) M) d ≡ p d
+    before h q = go (p n)
+      where
+        go : (b : Bool) → inMask (cond b (withSlot M n) M) d ≡ p d
+        go true = in-with M n d ∙ ap (λ (x : Bool). x || inMask M d) (ne-eqb d n (λ e. omega arith)) ∙ q
+        go false = q
+
+-- and from n on no slot is in it
+pub mask-past : (p : ℕ → Bool) (n d : ℕ) → n ≤ d → inMask (maskOf p n) d ≡ false
+mask-past p n d l = in-past n (maskOf p n) d (mask-lt p n) l
 
 -- ---- the count
 

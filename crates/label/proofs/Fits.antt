@@ -23,6 +23,7 @@ pub record Fits (l : Label) : Type 0 where
   pub out-below : l .out < 2 ^ (l .k + l .m)
   pub slot-small : l .rebuilding ≤ noSlot
   pub mark-below : l .mark ≤ stripesOf (geometryOf l)
+  pub rebuild : rebuildFits l ≡ true
 
 rebuild-says : (l : Label) → l .k + l .m ≤ 255 → rebuildFits l ≡ true → (l .rebuilding ≤ noSlot) × (l .mark ≤ stripesOf (geometryOf l))
 unfolding rebuildFits
@@ -56,7 +57,8 @@ fits-says l e =
     let k = leb-true (l .k) mostK (and-left (leb (l .k) mostK) _ e) in
     let m = leb-true (l .m) mostM (and-left (leb (l .m) mostM) _ e1) in
     let r = in-range-with (geometryOf l) (l .k) (and-left (inRangeWith (geometryOf l) (l .k)) _ e2) in
-    let b = rebuild-says l (omega (arith, k, m)) (and-right (ltb (l .out) (2 ^ (l .k + l .m))) (rebuildFits l) e6) in
+    let f = and-right (ltb (l .out) (2 ^ (l .k + l .m))) (rebuildFits l) e6 in
+    let b = rebuild-says l (omega (arith, k, m)) f in
     record {
       few-data = k;
       few-parity = m;
@@ -68,4 +70,5 @@ fits-says l e =
       out-below = ltb-true _ _ (and-left (ltb (l .out) (2 ^ (l .k + l .m))) (rebuildFits l) e6);
       slot-small = b .0;
       mark-below = b .1;
+      rebuild = f;
     }

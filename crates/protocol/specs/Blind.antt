@@ -134,7 +134,7 @@ module _ {X : Type 0} (z : Size) (W : Quorum (z .n)) (C : LabelCodec X (z .n)) (
   leads : lead z C absent f ≡ lead z C absent g
   leads = ap (λ (k : ℕ → ℕ). leader k (z .n)) seen-same
 
-  M-same : M z C absent f ≡ M z C absent g
+  pub M-same : M z C absent f ≡ M z C absent g
   M-same = λ i. seen-same i (leads i)
 
   lead-present : absent (lead z C absent f) ≡ false

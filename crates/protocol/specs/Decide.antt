@@ -1,20 +1,21 @@
 -- Start-up as a whole: the rounds, then the log. THE DECISION, and that it is made once.
-use Prim.Native.Nat.{ℕ, suc, _+_, _<_}
+use Prim.Native.Nat.{ℕ, suc, _≤_, _<_}
 use mathlib.Core.Path.{_≡_, refl, ap, _∙_}
 use mathlib.Core.Bool.{Bool, true, false, cond, _&&_, _||_, false≢true, or-true}
-use mathlib.Core.Logic.{_⊎_, ⊎-elim, inl, inr, _≢_}
+use mathlib.Core.Logic.{⊎-elim, inl, inr}
 use mathlib.Core.List.{List, [], _∷_, _++_}
 use native.Mathlib.Omega.{arith}
 use lib.Dec.{eqb}
 use Rattle.protocol.specs.World.{Place, label, log, strip, slot, Image, update, update-other, World, Action, run, after, Sane, Always, During, sane-after, sane-run, always-after, always-map, during-map, during-append, during-end, run-append}
 use Rattle.protocol.specs.Batch.{Each, each-batch, each-during, during-both}
 use Rattle.protocol.specs.Slots.{of-slots, of-rows}
-use Rattle.protocol.specs.Log.{Write, RecordCodec, Belief, Table, Wrote, New, Quiet, Agrees, old-frame, new-frame}
+use Rattle.protocol.specs.Log.{Write, RecordCodec, Belief, Table, Wrote, New, Quiet, within-self, Agrees, old-frame, new-frame}
 use Rattle.protocol.specs.Write.{both, involved, of-involved, store, store-batch, stored-sectors, logged-sectors, log-write, log-batch, Mid}
 use Rattle.protocol.specs.Redo.{forward, kill, kill-batch, marked, whole, decision, redo, Redone, redo-quiet, redo-new, redo-mid}
 use Rattle.protocol.specs.Redo as Redo
 use Rattle.protocol.specs.Label.{Label, again, Size, believed, belief, believe-is, Quorum, LabelCodec, Labels, labels-same}
-use Rattle.protocol.specs.Startup.{L, M, labelled, gone, next, rounds, Framed, Shelf, Same, same-agrees, same-self, settled-D, settled-above, rounds-safe, absent-gone}
+use Rattle.protocol.specs.Bays.{front, Bays, bays-all}
+use Rattle.protocol.specs.Startup.{L, M, labelled, gone, next, rounds, Framed, Shelf, Same, same-agrees, same-self, settled-D, Settles, settles, rounds-safe, absent-gone, seen-aged, M-positive}
 
 -- a place of the log or of a strip, on a slot that is looked at
 abbrev pub data-place : Place → Bool
@@ -112,83 +113,133 @@ pub record Accepted {X : Type 0} (z : Size) (W : Quorum (z .n)) (C : LabelCodec 
   pub fits1' : C .Fits (next z C absent f0 (suc (M z C absent f0)))
   pub fits2 : C .Fits (next z C absent f0 (suc (suc (M z C absent f0))))
 
+-- WHAT START-UP MEETS, with P to be kept. Some slots are odd: their bays hold another disk than their last; the last disks make a shelf, as ever, with D under Q and under N. Some
+-- present disk has a label that is no older than Q (low). before: while Q and N stand on the last disks, P holds. later: when the new label is settled on the disks in the bays, P holds.
+pub record Met {X : Type 0} (z : Size) (W : Quorum (z .n)) (C : LabelCodec X (z .n)) (K : RecordCodec X) (absent : ℕ → Bool) (base : Label) (D : Belief → Image X → Type 0) (P : Image X → Type 0) (f0 : Image X) : Type 0 where
+  pub odd : ℕ → Bool
+  pub last : Image X
+  pub Q : Label
+  pub N : Label
+  pub top : ℕ
+  pub far : ℕ → Bool
+  pub since : base .generation ≤ Q .generation
+  pub bays : Bays z W C Q N top far odd last f0
+  pub under-Q : D (belief z Q) (front odd last f0)
+  pub under-N : D (belief z N) (front odd last f0)
+  pub low : Q .generation ≤ M z C absent f0
+  pub before : (t : ℕ) (fr : ℕ → Bool) (f : Image X) → top ≤ t → Bays z W C Q N t fr odd last f → Same f0 f → P f
+  pub later : Settles z odd Q N top (settled z C K absent f0) → (f : Image X) → Labels z W C (settled z C K absent f0) (settled z C K absent f0) (settled z C K absent f0 .generation) (settled z C K absent f0 .out) f → D (belief z (settled z C K absent f0)) f → P f
+
+pub base-below : {X : Type 0} (z : Size) (W : Quorum (z .n)) (C : LabelCodec X (z .n)) (base : Label) (D : Belief → Image X → Type 0) (f : Image X) → (h : Shelf z W C base D f) → base .generation ≤ h .Q .generation
+base-below z W C base D f h = ⊎-elim (λ q. omega (arith, ap (λ (l : Label). l .generation) q)) (λ i. omega arith) (h .since)
+
 module _ {X : Type 0} (z : Size) (W : Quorum (z .n)) (C : LabelCodec X (z .n)) (K : RecordCodec X) (history : ℕ → Write X) (absent : ℕ → Bool) (f0 : Image X) (yes-go : Accepted z W C absent f0) where
-  few-absent : W .few absent ≡ true
+  pub few-absent : W .few absent ≡ true
   few-absent = W .part absent (λ d. L z C absent f0 .out d || gone z C absent f0 d) (λ d i e. rw (absent-gone z W C absent f0 d i e, or-true)) (yes-go .enough)
 
-  module _ (e : ℕ) (D : Belief → Image X → Type 0) (fr : Framed D) (h : Shelf z W C e D f0) where
+  -- and some label is seen
+  pub some-seen : 0 < M z C absent f0
+  some-seen = M-positive z W C absent f0 (yes-go .labels-there) (W .part (gone z C absent f0) (λ d. L z C absent f0 .out d || gone z C absent f0 d) (λ d i e. rw (e, or-true)) (yes-go .enough))
+
+  module _ (base : Label) (D : Belief → Image X → Type 0) (fr : Framed D) (P : Image X → Type 0) (h : Met z W C K absent base D P f0) where
     abbrev w1 : World X
     w1 = run (after f0) (rounds z C absent f0)
 
     abbrev B1 : Belief
     B1 = belief z (settled z C K absent f0)
 
-    done-rounds : During (after f0) (rounds z C absent f0) (Shelf z W C e D) × Always w1 (λ f. Labels z W C (settled z C K absent f0) (settled z C K absent f0) (settled z C K absent f0 .generation) (settled z C K absent f0 .out) f × Same f0 f)
+    abbrev Settled : Image X → Type 0
+    Settled f = Labels z W C (settled z C K absent f0) (settled z C K absent f0) (settled z C K absent f0 .generation) (settled z C K absent f0 .out) f
+
+    settled-data : (f : Image X) → Same f0 f → D B1 f
+    settled-data =
+        settled-D z W C absent f0 (h .odd) (h .last) (h .Q) (h .N) (h .top) (h .far) (h .bays) (h .low) (yes-go .labels-there) (yes-go .enough) (yes-go .fits1) (yes-go .fits1') (yes-go .fits2) D fr (h .under-Q) (h .under-N)
+
+    pub done-settles : Settles z (h .odd) (h .Q) (h .N) (h .top) (settled z C K absent f0)
+    done-settles =
+        settles z W C absent f0 (h .odd) (h .last) (h .Q) (h .N) (h .top) (h .far) (h .bays) (h .low) (yes-go .labels-there) (yes-go .enough) (yes-go .fits1) (yes-go .fits1') (yes-go .fits2)
+
+    -- the settled label is newer than all before it
+    pub done-above : base .generation < settled z C K absent f0 .generation
+    done-above = omega (arith, h .since, done-settles .over-Q)
+
+    settled-kept : (f : Image X) → Settled f → D B1 f → P f
+    settled-kept = h .later done-settles
+
+    done-rounds : During (after f0) (rounds z C absent f0) P × Always w1 (λ f. Settled f × Same f0 f)
     done-rounds =
-        let a = W .meet absent (h .Q .out) few-absent (h .labels .few-Q) in
-        let b = W .meet absent (h .far) few-absent (h .labels .few-far) in
-        rounds-safe z W C absent f0 (h .Q) (h .N) (h .top) (h .far) (h .labels) (a .0) (a .1) (a .2) (a .3) (b .0) (b .1) (b .2) (b .3) (yes-go .labels-there) (yes-go .enough) (yes-go .fits1) (yes-go .fits1') (yes-go .fits2) e (h .since) D fr (h .under-Q) (h .under-N) (after f0) (sane-after f0)
-        (always-after (λ f. Labels z W C (h .Q) (h .N) (h .top) (h .far) f × Same f0 f) f0 (h .labels, same-self f0))
+        rounds-safe z W C absent f0 (h .odd) (h .last) (h .Q) (h .N) (h .top) (h .far) (h .bays) (h .low) (yes-go .labels-there) (yes-go .enough) (yes-go .fits1) (yes-go .fits1') (yes-go .fits2) P (h .before) (λ f l s. settled-kept f l (settled-data f s)) (after f0) (sane-after f0)
+        (always-after (λ f. Bays z W C (h .Q) (h .N) (h .top) (h .far) (h .odd) (h .last) f × Same f0 f) f0 (h .bays, same-self f0))
 
     done-D : D B1 f0
-    done-D =
-        let a = W .meet absent (h .Q .out) few-absent (h .labels .few-Q) in
-        let b = W .meet absent (h .far) few-absent (h .labels .few-far) in
-        settled-D z W C absent f0 (h .Q) (h .N) (h .top) (h .far) (h .labels) (a .0) (a .1) (a .2) (a .3) (b .0) (b .1) (b .2) (b .3) (yes-go .labels-there) (yes-go .enough) (yes-go .fits1) (yes-go .fits1') (yes-go .fits2) D fr (h .under-Q) (h .under-N) f0 (same-self f0)
-
-    done-above : e < settled z C K absent f0 .generation
-    done-above =
-        let a = W .meet absent (h .Q .out) few-absent (h .labels .few-Q) in
-        let b = W .meet absent (h .far) few-absent (h .labels .few-far) in
-        omega (arith, h .since, settled-above z W C absent f0 (h .Q) (h .N) (h .top) (h .far) (h .labels) (a .0) (a .1) (a .2) (a .3) (b .0) (b .1) (b .2) (b .3) (yes-go .labels-there) (yes-go .enough) (yes-go .fits1) (yes-go .fits1') (yes-go .fits2))
+    done-D = settled-data f0 (same-self f0)
 
     w1-sane : Sane w1
     w1-sane = sane-run (after f0) (rounds z C absent f0) (sane-after f0)
 
     w1-agrees : Always w1 (Agrees B1 f0)
-    w1-agrees = always-map (λ f. Labels z W C (settled z C K absent f0) (settled z C K absent f0) (settled z C K absent f0 .generation) (settled z C K absent f0 .out) f × Same f0 f) (Agrees B1 f0) w1 (λ f o. same-agrees B1 f0 f (o .1)) (done-rounds .1)
+    w1-agrees = always-map (λ f. Settled f × Same f0 f) (Agrees B1 f0) w1 (λ f o. same-agrees B1 f0 f (o .1)) (done-rounds .1)
 
-    whole-start : (u : ℕ) (s : Table X) → Redone K B1 history f0 w1 (D B1) (Quiet K B1 history u s) → During (after f0) (startup z C K absent f0) (Shelf z W C e D) × Always (run (after f0) (startup z C K absent f0)) (Rest z W C K history u (settled z C K absent f0) s)
+    whole-start : (u : ℕ) (s : Table X) → Redone K B1 history f0 w1 (D B1) (Quiet K B1 history u s) → During (after f0) (startup z C K absent f0) P × Always (run (after f0) (startup z C K absent f0)) (Rest z W C K history u (settled z C K absent f0) s)
     unfolding startup Redone Touch Always
     whole-start u s r =
         let S = settled z C K absent f0 in
-        let P : Image X → Type 0 = Labels z W C S S (S .generation) (S .out) in
         let acts = redo K B1 f0 in
-        let a : During w1 acts P = each-during (Touch B1) (Looked B1) P (λ f k v t o. labels-data z W C S S (S .generation) (S .out) f k v (t .0) o) w1 acts w1-sane (always-map (λ f. P f × Same f0 f) P w1 (λ f o. o .0) (done-rounds .1)) (redo-each K B1 f0) in
-        let b : During w1 acts (Shelf z W C e D) = during-map (λ f. P f × D B1 f) (Shelf z W C e D) w1 acts (λ f o. record { Q = S; since = omega (arith, done-above); N = S; top = S .generation; far = S .out; labels = o .0; under-Q = o .1; under-N = o .1 }) (during-both P (D B1) w1 acts a (r .0)) in (
-          turn-during (Shelf z W C e D) (after f0) (rounds z C absent f0) acts (done-rounds .0) b,
-          rw turn-run (λ f p. record { labels = during-end P w1 acts a f p; quiet = r .1 f p }),
+        let a : During w1 acts Settled = each-during (Touch B1) (Looked B1) Settled (λ f k v t o. labels-data z W C S S (S .generation) (S .out) f k v (t .0) o) w1 acts w1-sane (always-map (λ f. Settled f × Same f0 f) Settled w1 (λ f o. o .0) (done-rounds .1)) (redo-each K B1 f0) in
+        let b : During w1 acts P = during-map (λ f. Settled f × D B1 f) P w1 acts (λ f o. settled-kept f (o .0) (o .1)) (during-both Settled (D B1) w1 acts a (r .0)) in (
+          turn-during P (after f0) (rounds z C absent f0) acts (done-rounds .0) b,
+          rw turn-run (λ f p. record { labels = during-end Settled w1 acts a f p; quiet = r .1 f p }),
         )
 
-  -- ONCE: with nothing undecided, start-up, cut at any moment, leaves the table as it is; and so does every later one
-  pub start-quiet : (e u : ℕ) (s : Table X) → Shelf z W C e (λ B f. Quiet K B history u s f) f0 → During (after f0) (startup z C K absent f0) (Shelf z W C e (λ B f. Quiet K B history u s f)) × Always (run (after f0) (startup z C K absent f0)) (Rest z W C K history u (settled z C K absent f0) s)
-  start-quiet e u s h =
-      let D : Belief → Image X → Type 0 = λ B f. Quiet K B history u s f in
-      let fr = quiet-framed K history u s in
-      whole-start e D fr h u s (redo-quiet K (belief z (settled z C K absent f0)) history f0 u s (w1 e D fr h) (w1-sane e D fr h) (w1-agrees e D fr h) (done-D e D fr h))
+  module _ (base : Label) (u : ℕ) (P : Image X → Type 0) where
+    -- ONCE: with nothing undecided, start-up, cut at any moment, leaves the table as it is; and so does every later one
+    pub start-quiet : (s : Table X) → Met z W C K absent base (λ B f. Quiet K B history u s f) P f0 → During (after f0) (startup z C K absent f0) P × Always (run (after f0) (startup z C K absent f0)) (Rest z W C K history u (settled z C K absent f0) s)
+    start-quiet s h =
+        let D : Belief → Image X → Type 0 = λ B f. Quiet K B history u s f in
+        let fr = quiet-framed K history u s in
+        whole-start base D fr P h u s (redo-quiet K (belief z (settled z C K absent f0)) history f0 u s (w1 base D fr P h) (w1-sane base D fr P h) (w1-agrees base D fr P h) (done-D base D fr P h))
 
-  module _ (e u : ℕ) (pos : 0 < u) (inT : history u .stripe < z .T) (broad : (a : ℕ → Bool) → W .few a ≡ true → (d : ℕ) × (d < z .n) × (a d ≡ false) × (history u .changes d ≡ true)) where
-    -- a believed slot that the write changes
-    hit : (d : ℕ) × (believed z (settled z C K absent f0) d (history u .stripe) ≡ true) × (history u .changes d ≡ true)
-    hit = let y = broad (settled z C K absent f0 .out) (yes-go .enough) in (y .0, believe-is z (settled z C K absent f0) (y .0) (history u .stripe) (y .1) inT (inl (y .2)), y .3)
+    module _ (pos : 0 < u) (inT : history u .stripe < z .T) (broad : (a : ℕ → Bool) → W .few a ≡ true → (d : ℕ) × (d < z .n) × (a d ≡ false) × (history u .changes d ≡ true)) where
+      -- a believed slot that the write changes
+      hit : (d : ℕ) × (believed z (settled z C K absent f0) d (history u .stripe) ≡ true) × (history u .changes d ≡ true)
+      hit = let y = broad (settled z C K absent f0 .out) (yes-go .enough) in (y .0, believe-is z (settled z C K absent f0) (y .0) (history u .stripe) (y .1) inT (inl (y .2)), y .3)
 
-    -- THE DECISION: a write was under way. Cut at any moment of start-up: it is still open. When start-up answers: the old table or the new one, for good (by start-quiet)
-    pub start-mid : (s s' : Table X) → Wrote (z .n) (K .c) (history u) s s' → Shelf z W C e (λ B f. Mid K B history u s s' f) f0 → During (after f0) (startup z C K absent f0) (Shelf z W C e (λ B f. Mid K B history u s s' f)) × Always (run (after f0) (startup z C K absent f0)) (Rest z W C K history u (settled z C K absent f0) (cond (decision K (belief z (settled z C K absent f0)) f0 u) s' s))
-    unfolding belief
-    start-mid s s' wr h =
-        let D : Belief → Image X → Type 0 = λ B f. Mid K B history u s s' f in
-        let fr = mid-framed K history u s s' in
-        let B = belief z (settled z C K absent f0) in
-        whole-start e D fr h u (cond (decision K B f0 u) s' s) (redo-mid K B history f0 u s s' pos wr (hit .0) (hit .1) (hit .2) (w1 e D fr h) (w1-sane e D fr h) (w1-agrees e D fr h) (done-D e D fr h))
+      -- THE DECISION: a write was under way. Cut at any moment of start-up: it is still open. When start-up answers: the old table or the new one, for good (by start-quiet)
+      pub start-mid : (s s' : Table X) → Wrote (z .n) (K .c) (history u) s s' → Met z W C K absent base (λ B f. Mid K B history u s s' f) P f0 → During (after f0) (startup z C K absent f0) P × Always (run (after f0) (startup z C K absent f0)) (Rest z W C K history u (settled z C K absent f0) (cond (decision K (belief z (settled z C K absent f0)) f0 u) s' s))
+      unfolding belief
+      start-mid s s' wr h =
+          let D : Belief → Image X → Type 0 = λ B f. Mid K B history u s s' f in
+          let fr = mid-framed K history u s s' in
+          let B = belief z (settled z C K absent f0) in
+          whole-start base D fr P h u (cond (decision K B f0 u) s' s) (redo-mid K B history f0 u s s' pos wr (hit .0) (hit .1) (hit .2) (w1 base D fr P h) (w1-sane base D fr P h) (w1-agrees base D fr P h) (done-D base D fr P h))
 
-    -- the write was safe in the log: it will be there
-    pub start-new : (s' : Table X) → Shelf z W C e (λ B f. New K B history u s' f) f0 → During (after f0) (startup z C K absent f0) (Shelf z W C e (λ B f. New K B history u s' f)) × Always (run (after f0) (startup z C K absent f0)) (Rest z W C K history u (settled z C K absent f0) s')
-    unfolding belief
-    start-new s' h =
-        let D : Belief → Image X → Type 0 = λ B f. New K B history u s' f in
-        let fr = new-framed K history u s' in
-        whole-start e D fr h u s' (redo-new K (belief z (settled z C K absent f0)) history f0 u s' pos (hit .0) (hit .1) (hit .2) (w1 e D fr h) (w1-sane e D fr h) (w1-agrees e D fr h) (done-D e D fr h))
+      -- the write was safe in the log: it will be there
+      pub start-new : (s' : Table X) → Met z W C K absent base (λ B f. New K B history u s' f) P f0 → During (after f0) (startup z C K absent f0) P × Always (run (after f0) (startup z C K absent f0)) (Rest z W C K history u (settled z C K absent f0) s')
+      unfolding belief
+      start-new s' h =
+          let D : Belief → Image X → Type 0 = λ B f. New K B history u s' f in
+          let fr = new-framed K history u s' in
+          whole-start base D fr P h u s' (redo-new K (belief z (settled z C K absent f0)) history f0 u s' pos (hit .0) (hit .1) (hit .2) (w1 base D fr P h) (w1-sane base D fr P h) (w1-agrees base D fr P h) (done-D base D fr P h))
 
-  -- the settled label is newer than all before it
-  pub start-above : (e : ℕ) (D : Belief → Image X → Type 0) → Framed D → Shelf z W C e D f0 → e < settled z C K absent f0 .generation
-  start-above e D fr h = done-above e D fr h
+  -- EVERY SLOT HAS ITS LAST DISK: then start-up needs nothing more of the world; that it is not refused leaves a slot that is present and not out
+  pub meets-shelf : (base : Label) (D : Belief → Image X → Type 0) → Framed D → Shelf z W C base D f0 → Met z W C K absent base D (Shelf z W C base D) f0
+  unfolding front Framed
+  meets-shelf base D fr h =
+      let a = W .meet absent (h .Q .out) few-absent (h .labels .few-Q) in
+      let same : (B : Belief) → D B f0 → (f : Image X) → Same f0 f → D B f = λ B o f s. fr B B (within-self B) f0 f (same-agrees B f0 f s) o in
+      let below = base-below z W C base D f0 h in
+      record {
+        odd = λ d. false;
+        last = f0;
+        Q = h .Q;
+        N = h .N;
+        top = h .top;
+        far = h .far;
+        since = below;
+        bays = bays-all z W C (h .Q) (h .N) (h .top) (h .far) f0 f0 (h .labels);
+        under-Q = h .under-Q;
+        under-N = h .under-N;
+        low = seen-aged z W C absent f0 (a .0) (h .Q .generation) (a .1) (a .2) (h .labels .low (a .0) (a .1) (a .3));
+        before = λ t fr f i o s. record { Q = h .Q; since = h .since; N = h .N; top = t; far = fr; labels = o .lasts; under-Q = same (belief z (h .Q)) (h .under-Q) f s; under-N = same (belief z (h .N)) (h .under-N) f s };
+        later = λ a f l o. record { Q = settled z C K absent f0; since = inr (omega (arith, below, a .over-Q)); N = settled z C K absent f0; top = settled z C K absent f0 .generation; far = settled z C K absent f0 .out; labels = l; under-Q = o; under-N = o };
+      }

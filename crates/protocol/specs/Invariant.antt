@@ -14,9 +14,9 @@ use mathlib.Core.Bool.{Bool, true, false}
 use mathlib.Core.Logic.{_⊎_}
 use mathlib.Core.List.{List}
 use Rattle.protocol.specs.World.{Image, World, Action, run, Sane, Always, During}
-use Rattle.protocol.specs.Log.{Write, RecordCodec, Wrote, Old, New, Quiet}
+use Rattle.protocol.specs.Log.{Write, RecordCodec, Belief, Wrote, Old, New, Quiet}
 use Rattle.protocol.specs.Write.{store, Mid}
-use Rattle.protocol.specs.Label.{Size, looked, belief, Quorum, LabelCodec}
+use Rattle.protocol.specs.Label.{Label, Size, looked, belief, Quorum, LabelCodec}
 use Rattle.protocol.specs.Startup.{Shelf}
 use Rattle.protocol.specs.Decide.{Rest}
 use Rattle.protocol.specs.Spare.{Spares}
@@ -24,23 +24,27 @@ use Rattle.protocol.specs.Host.{Host, Code, table}
 use Rattle.protocol.specs.Program.{Stamps, Proper, Medium, Own, Kind, creating, starting, logging, storing, labelling, nothing, idle, doing}
 use Rattle.protocol.specs.Machine.{Machine, at, View, sure, open-write, kept-write}
 
--- Not in any disk: which write each stamp stands for, the greatest stamp used, and an epoch that no later write will use
+-- Not in any disk: which write each stamp stands for, the greatest stamp used, and the label that was settled when the program was last ready (no later write will use its epoch)
 pub record Ghost (X : Type 0) : Type 0 where
   pub history : ℕ → Write X
   pub u : ℕ
-  pub e : ℕ
+  pub base : Label
 
 module _ {X : Type 0} (z : Size) (W : Quorum (z .n)) (C : LabelCodec X (z .n)) (K : RecordCodec X) (E : Code X (z .n) (K .c) W) (S : Stamps) (R : Medium z W C K E S) where
+  -- what is known of the log and the strips under a label that may rule
+  abbrev pub Under : Ghost X → View X → Belief → Image X → Type 0
+  Under g (sure v) = λ B f. Quiet K B (g .history) (g .u) (table z W K E v) f
+  Under g (open-write v v') = λ B f. Mid K B (g .history) (g .u) (table z W K E v) (table z W K E v') f
+  Under g (kept-write v') = λ B f. New K B (g .history) (g .u) (table z W K E v') f
+
   -- of an image that a cut could leave
   abbrev pub Left : Ghost X → View X → Image X → Type 0
-  Left g (sure v) f = Shelf z W C (g .e) (λ B h. Quiet K B (g .history) (g .u) (table z W K E v) h) f
-  Left g (open-write v v') f = Shelf z W C (g .e) (λ B h. Mid K B (g .history) (g .u) (table z W K E v) (table z W K E v') h) f
-  Left g (kept-write v') f = Shelf z W C (g .e) (λ B h. New K B (g .history) (g .u) (table z W K E v') h) f
+  Left g p f = Shelf z W C (g .base) (Under g p) f
 
   -- the write under way has the greatest stamp, turns v into v', and changes a slot beside any few
   pub record Pending (g : Ghost X) (v v' : Host X) : Type 0 where
     pub pos : 0 < g .u
-    pub born : 0 < g .e
+    pub born : 0 < g .base .generation
     pub wrote : Wrote (z .n) (K .c) (g .history (g .u)) (table z W K E v) (table z W K E v')
     pub inside : g .history (g .u) .stripe < z .T
     pub broad : (a : ℕ → Bool) → W .few a ≡ true → (d : ℕ) × (d < z .n) × (a d ≡ false) × (g .history (g .u) .changes d ≡ true)
@@ -54,7 +58,7 @@ module _ {X : Type 0} (z : Size) (W : Quorum (z .n)) (C : LabelCodec X (z .n)) (
   pub record Off (p : View X) (w : World X) : Type 0 where
     pub sane : Sane w
     pub ghost : Ghost X
-    pub early : ghost .u < S .base (suc (ghost .e))
+    pub early : ghost .u < S .base (suc (ghost .base .generation))
     pub pends : Pends ghost p
     pub left : Always w (Left ghost p)
 
@@ -74,6 +78,14 @@ module _ {X : Type 0} (z : Size) (W : Quorum (z .n)) (C : LabelCodec X (z .n)) (
     pub most : o .now .generation ≤ R .greatest
     pub rest : Always w (Rest z W C K history u (o .now) (table z W K E v))
     pub dark : Dark o
+
+  -- a request begins at rest, under the label that the program knows; only create and start-up begin otherwise
+  abbrev pub Based : Ghost X → Kind X → Own → Type 0
+  Based g creating o = Unit {0}
+  Based g starting o = Unit {0}
+  Based g (logging wr) o = g .base ≡ o .now
+  Based g (storing wr) o = g .base ≡ o .now
+  Based g labelling o = g .base ≡ o .now
 
   -- what reads need while a request is under way
   pub record Readable (o : Own) : Type 0 where
@@ -122,7 +134,8 @@ module _ {X : Type 0} (z : Size) (W : Quorum (z .n)) (C : LabelCodec X (z .n)) (
   pub record Busy (k : Kind X) (p : View X) (w : World X) (l : List (Action X)) (o o' : Own) : Type 0 where
     pub sane : Sane w
     pub ghost : Ghost X
-    pub early : ghost .u < S .base (suc (ghost .e))
+    pub based : Based ghost k o
+    pub early : ghost .u < S .base (suc (ghost .base .generation))
     pub pends : Pends ghost p
     pub during : During w l (Left ghost p)
     pub ends : Ends ghost k p (run w l) o o'

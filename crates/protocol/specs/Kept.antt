@@ -1,8 +1,8 @@
 -- WHAT FOLLOWS from the promise: the whole history of a shelf from zeros on; what every sector holds; what labels may say; which slots are touched.
-use Prim.Native.Nat.{ℕ, suc, _+_, _≤_, _<_}
+use Prim.Native.Nat.{ℕ, suc, _≤_, _<_}
 use mathlib.Core.Path.{_≡_, refl, sym, ap, subst, _∙_}
 use mathlib.Core.Bool.{Bool, true, false, not, false≢true}
-use mathlib.Core.Logic.{_⊎_, ⊎-elim}
+use mathlib.Core.Logic.{⊎-elim}
 use mathlib.Core.List.{List, [], _∷_, _++_}
 use Rattle.protocol.specs.World.{Place, label, log, strip, slot, Image, World, Action, put, flush, Sane, Always, always-map}
 use Rattle.protocol.specs.Batch.{Each, each-append, each-batch}
@@ -12,10 +12,11 @@ use Rattle.protocol.specs.Redo.{redo}
 use Rattle.protocol.specs.Label.{Label, again, Size, believed, belief, Quorum, LabelCodec, copy, Aged, there, round, round-batch, prep, prepared, of-prep, prep-batch}
 use Rattle.protocol.specs.Startup.{L, M, late, level-to, again-to, last-to, rounds}
 use Rattle.protocol.specs.Decide.{in-turn, settled, startup, Rest}
+use Rattle.protocol.specs.Spare.{Spares}
 use Rattle.protocol.specs.Host.{Host, Code, table}
 use Rattle.protocol.specs.Program.{Stamps, Medium, Verdict, clear, because, Own, Kind, creating, starting, logging, storing, labelling, Memory, nothing, idle, doing, Input, create, start, read-block, write, take-out, begin, rebuild-on, scrub-stripe, step, Reply, accepted, refused, did, safe, done, block, found, scrubbed, beyond, mask, asked-start, may-start, may, may-create, answer, one-step, meanwhile, choose, program}
 use Rattle.protocol.specs.Machine.{Machine, at, Event, Runs, View, sure, Views}
-use Rattle.protocol.specs.Invariant.{Ghost, Left, Off, Busy, Invariant}
+use Rattle.protocol.specs.Invariant.{Ghost, Left, Off, Invariant}
 use Rattle.protocol.specs.Promise.{Zeros, zeros-off, promise}
 
 -- the slot that an action touches
@@ -61,7 +62,7 @@ module _ {X : Type 0} (z : Size) (W : Quorum (z .n)) (C : LabelCodec X (z .n)) (
         right = λ d b i p q e t j a c.
             let y = h .labels .fine d b i p q in
             let l = belief z (copy C f d b) .believe-look e t a in
-            ⊎-elim (λ n. h .under-Q .strips e t j (sym (n .believe-in e t l) ∙ a) c) (λ n. h .under-N .strips e t j (sym (n .believe-in e t l) ∙ a) c) (y .narrow);
+            ⊎-elim (λ n. h .under-Q .strips e t j (sym (n .believe-in e t l) ∙ a) c) (λ n. h .under-N .strips e t j (sym (n .1 .believe-in e t l) ∙ a) c) (y .narrow);
       }
 
   pub honest : (v : Host X) (w : World X) → Off z W C K E S R (sure v) w → Always w (Honest v)
@@ -112,14 +113,20 @@ module _ {X : Type 0} (z : Size) (W : Quorum (z .n)) (C : LabelCodec X (z .n)) (
   away (idle o) d = o .absent d
   away (doing k l o o') d = o' .absent d
 
-  touches : (k : Kind X) (p : View X) (w : World X) (l : List (Action X)) (o o' : Own) → Busy z W C K E S R k p w l o o' → (a : Action X) → one-step z W C K E S R k l o o' .1 ≡ did a → o' .absent (slot-of a) ≡ false
-  touches k p w (put x y ∷ l) o o' h a e = subst (λ (r : Reply X). o' .absent (did-slot r) ≡ false) e (h .spares .0)
-  touches k p w (flush d ∷ l) o o' h a e = subst (λ (r : Reply X). o' .absent (did-slot r) ≡ false) e (h .spares .0)
-  touches creating p w [] o o' h a e = absurd (false≢true (ap is-did e))
-  touches starting p w [] o o' h a e = absurd (false≢true (ap is-did e))
-  touches (logging x) p w [] o o' h a e = absurd (false≢true (ap is-did e))
-  touches (storing x) p w [] o o' h a e = absurd (false≢true (ap is-did e))
-  touches labelling p w [] o o' h a e = absurd (false≢true (ap is-did e))
+  -- the actions that are left spare them
+  abbrev pub Sparing : Memory X → Type 0
+  Sparing nothing = Unit {0}
+  Sparing (idle o) = Unit {0}
+  Sparing (doing k l o o') = Spares (o' .absent) l
+
+  touches : (k : Kind X) (l : List (Action X)) (o o' : Own) → Spares (o' .absent) l → (a : Action X) → one-step z W C K E S R k l o o' .1 ≡ did a → o' .absent (slot-of a) ≡ false
+  touches k (put x y ∷ l) o o' h a e = subst (λ (r : Reply X). o' .absent (did-slot r) ≡ false) e (h .0)
+  touches k (flush d ∷ l) o o' h a e = subst (λ (r : Reply X). o' .absent (did-slot r) ≡ false) e (h .0)
+  touches creating [] o o' h a e = absurd (false≢true (ap is-did e))
+  touches starting [] o o' h a e = absurd (false≢true (ap is-did e))
+  touches (logging x) [] o o' h a e = absurd (false≢true (ap is-did e))
+  touches (storing x) [] o o' h a e = absurd (false≢true (ap is-did e))
+  touches labelling [] o o' h a e = absurd (false≢true (ap is-did e))
 
   quiet-idle : (o : Own) (f : Image X) (i : Input X) → is-did (choose z W C K E S R (idle o) f i .1) ≡ false
   quiet-idle o f create = still (idle o) (may z W C K E S R false o create) (idle o) accepted refl
@@ -143,23 +150,31 @@ module _ {X : Type 0} (z : Size) (W : Quorum (z .n)) (C : LabelCodec X (z .n)) (
   quiet-nothing f (scrub-stripe t) = refl
   quiet-nothing f step = refl
 
-  quiet-doing : (k : Kind X) (l : List (Action X)) (o o' : Own) (f : Image X) (p : View X) (w : World X) → Busy z W C K E S R k p w l o o' → (i : Input X) (a : Action X) → choose z W C K E S R (doing k l o o') f i .1 ≡ did a → o' .absent (slot-of a) ≡ false
-  quiet-doing k l o o' f p w h create a e = absurd (false≢true (ap is-did e))
-  quiet-doing k l o o' f p w h (start A) a e = absurd (false≢true (ap is-did e))
-  quiet-doing k l o o' f p w h (read-block t i) a e = absurd (false≢true (sym (still-read k o f t i (may z W C K E S R true o (read-block t i))) ∙ ap is-did e))
-  quiet-doing k l o o' f p w h (write t ch) a e = absurd (false≢true (sym (still (doing k l o o') (may z W C K E S R true o (write t ch)) (doing k l o o') accepted refl) ∙ ap is-did e))
-  quiet-doing k l o o' f p w h (take-out d) a e = absurd (false≢true (sym (still (doing k l o o') (may z W C K E S R true o (take-out d)) (doing k l o o') accepted refl) ∙ ap is-did e))
-  quiet-doing k l o o' f p w h (begin d) a e = absurd (false≢true (sym (still (doing k l o o') (may z W C K E S R true o (begin d)) (doing k l o o') accepted refl) ∙ ap is-did e))
-  quiet-doing k l o o' f p w h (rebuild-on b) a e = absurd (false≢true (sym (still (doing k l o o') (may z W C K E S R true o (rebuild-on b)) (doing k l o o') accepted refl) ∙ ap is-did e))
-  quiet-doing k l o o' f p w h (scrub-stripe t) a e = absurd (false≢true (sym (still-scrub k o f t (may z W C K E S R true o (scrub-stripe t))) ∙ ap is-did e))
-  quiet-doing k l o o' f p w h step a e = touches k p w l o o' h a e
+  quiet-doing : (k : Kind X) (l : List (Action X)) (o o' : Own) (f : Image X) → Spares (o' .absent) l → (i : Input X) (a : Action X) → choose z W C K E S R (doing k l o o') f i .1 ≡ did a → o' .absent (slot-of a) ≡ false
+  quiet-doing k l o o' f h create a e = absurd (false≢true (ap is-did e))
+  quiet-doing k l o o' f h (start A) a e = absurd (false≢true (ap is-did e))
+  quiet-doing k l o o' f h (read-block t i) a e = absurd (false≢true (sym (still-read k o f t i (may z W C K E S R true o (read-block t i))) ∙ ap is-did e))
+  quiet-doing k l o o' f h (write t ch) a e = absurd (false≢true (sym (still (doing k l o o') (may z W C K E S R true o (write t ch)) (doing k l o o') accepted refl) ∙ ap is-did e))
+  quiet-doing k l o o' f h (take-out d) a e = absurd (false≢true (sym (still (doing k l o o') (may z W C K E S R true o (take-out d)) (doing k l o o') accepted refl) ∙ ap is-did e))
+  quiet-doing k l o o' f h (begin d) a e = absurd (false≢true (sym (still (doing k l o o') (may z W C K E S R true o (begin d)) (doing k l o o') accepted refl) ∙ ap is-did e))
+  quiet-doing k l o o' f h (rebuild-on b) a e = absurd (false≢true (sym (still (doing k l o o') (may z W C K E S R true o (rebuild-on b)) (doing k l o o') accepted refl) ∙ ap is-did e))
+  quiet-doing k l o o' f h (scrub-stripe t) a e = absurd (false≢true (sym (still-scrub k o f t (may z W C K E S R true o (scrub-stripe t))) ∙ ap is-did e))
+  quiet-doing k l o o' f h step a e = touches k l o o' h a e
+
+  pub spared-away : (m : Memory X) (f : Image X) (i : Input X) (a : Action X) → Sparing m → program z W C K E S R m f i .1 ≡ did a → away m (slot-of a) ≡ false
+  unfolding program
+  spared-away nothing f i a h e = absurd (false≢true (sym (quiet-nothing _ i) ∙ ap is-did e))
+  spared-away (idle o) f i a h e = absurd (false≢true (sym (quiet-idle o _ i) ∙ ap is-did e))
+  spared-away (doing k l o o') f i a h e = quiet-doing k l o o' _ h i a e
+
+  pub sparing : (w : World X) (m : Memory X) (p : View X) → Invariant z W C K E S R (at w m) p → Sparing m
+  sparing w nothing p h = tt
+  sparing w (idle o) p h = tt
+  sparing w (doing k l o o') p h = h .spares
 
   -- whatever is asked in whatever state: an action is on a slot that is not absent
   pub untouched : (w : World X) (m : Memory X) (p : View X) (i : Input X) (a : Action X) → Invariant z W C K E S R (at w m) p → program z W C K E S R m (w .cur) i .1 ≡ did a → away m (slot-of a) ≡ false
-  unfolding program
-  untouched w nothing p i a h e = absurd (false≢true (sym (quiet-nothing _ i) ∙ ap is-did e))
-  untouched w (idle o) p i a h e = absurd (false≢true (sym (quiet-idle o _ i) ∙ ap is-did e))
-  untouched w (doing k l o o') p i a h e = quiet-doing k l o o' _ p w h i a e
+  untouched w m p i a h e = spared-away m (w .cur) i a (sparing w m p h) e
 
   -- START-UP REFUSES EXACTLY when document 03's table says so of what is seen (`may-start`), and otherwise begins
   pub start-exact : (f : Image X) (A : ℕ → Bool) → program z W C K E S R nothing f (start A) ≡ answer z W C K E S R nothing (may-start z W C K E S R (beyond (z .n) A) (mask z W C K E S R (beyond (z .n) A) f)) (asked-start z W C K E S R (beyond (z .n) A) (mask z W C K E S R (beyond (z .n) A) f)) accepted

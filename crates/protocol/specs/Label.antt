@@ -187,11 +187,15 @@ module _ {X : Type 0} {n : ℕ} (C : LabelCodec X n) where
       go true = none (C .decode d (C .side g) (C .zeros)) (C .decode-zeros d (C .side g))
       go false = rw (C .decode-encode d (again l g) i fit) h
 
-  copy-put : (P : Label → Type 0) (l : Label) (d : ℕ) (f : Image X) → C .Fits l → (e : ℕ) (b : Bool) → e < n → P l → P (copy f e b) → P (copy (update f (label d (C .side (l .generation))) (C .encode d l)) e b)
+  -- a copy after slot d was told l: it is that slot's and says l, or it says what it said
+  pub copy-told : (P : Label → Type 0) (l : Label) (d : ℕ) (f : Image X) → C .Fits l → (e : ℕ) (b : Bool) → e < n → (e ≡ d → P l) → P (copy f e b) → P (copy (update f (label d (C .side (l .generation))) (C .encode d l)) e b)
   unfolding copy
-  copy-put P l d f fit e b i h g =
+  copy-told P l d f fit e b i h g =
       update-cases f (label d (C .side (l .generation))) (C .encode d l) (λ x. P (C .decode e b x)) (label e b)
-      (λ q. let x : e ≡ d = cc in let y : b ≡ C .side (l .generation) = cc in rw (x, y) (rw (C .decode-encode d l (omega arith) fit) h)) g
+      (λ q. let x : e ≡ d = cc in let y : b ≡ C .side (l .generation) = cc in rw (x, y) (rw (C .decode-encode d l (omega arith) fit) (h x))) g
+
+  copy-put : (P : Label → Type 0) (l : Label) (d : ℕ) (f : Image X) → C .Fits l → (e : ℕ) (b : Bool) → e < n → P l → P (copy f e b) → P (copy (update f (label d (C .side (l .generation))) (C .encode d l)) e b)
+  copy-put P l d f fit e b i h g = copy-told P l d f fit e b i (λ q. h) g
 
   aged-put : (g : ℕ) (l : Label) (d : ℕ) (f : Image X) → C .Fits l → (e : ℕ) → e < n → g ≤ l .generation → Aged f e g → Aged (update f (label d (C .side (l .generation))) (C .encode d l)) e g
   unfolding Aged
@@ -205,15 +209,25 @@ module _ {X : Type 0} {n : ℕ} (C : LabelCodec X n) where
   unfolding copy
   copy-same f g d b e = ap (C .decode d b) e
 
+  -- A ROUND: what each of its puts keeps holds all the while; then each of its slots has the label
+  pub round-keeps : (P : Image X → Type 0) (l : Label) (ds : List ℕ) (w : World X) → Sane w → C .Fits l → ((d : ℕ) → List·Memᴰ d ds → (f : Image X) → P f → P (update f (label d (C .side (l .generation))) (C .encode d l))) → Always w P → During w (round l ds) P × Always (run w (round l ds)) (λ f. P f × ((d g : ℕ) → List·Memᴰ d ds → d < n → g ≤ l .generation → Aged f d g))
+  unfolding round-batch Kept Covered Done
+  round-keeps P l ds w sane fit kept h =
+      stage P (λ f. P f × ((d g : ℕ) → List·Memᴰ d ds → d < n → g ≤ l .generation → Aged f d g)) w (round-batch l ds) sane h
+      (λ k m f o. let y = of-rows (there l) (0 ∷ []) ds k m in rw (y .4) (kept (y .0) (y .2) f o))
+      (rows-slots (there l) (0 ∷ []) ds (λ d j. refl))
+      (λ f o done. (o, λ d g m j i. aged-told l f d j fit (done (label d (C .side (l .generation))) (in-rows (there l) (0 ∷ []) ds d 0 m (List·Memᴰ·head refl))) g i))
+
   pub aged-less : (f : Image X) (d g h : ℕ) → g ≤ h → Aged f d h → Aged f d g
   unfolding Aged
   aged-less f d g h i a = (a .0, omega (arith, a .1))
 
 module _ {X : Type 0} (z : Size) (W : Quorum (z .n)) (C : LabelCodec X (z .n)) where
-  -- Q is settled; N is Q, or the label that a request was about to settle. A label that may come to rule: few slots are out in it, and it believes nothing that Q or N does not.
+  -- Q is settled; N is Q, or the label that a request was about to settle. A label that may come to rule: few slots are out in it, and it believes nothing that Q does not, or, if it
+  -- is newer than Q, nothing that N does not.
   pub record MayRule (Q N l : Label) : Type 0 where
     pub few-out : W .few (l .out) ≡ true
-    pub narrow : Within (belief z l) (belief z Q) ⊎ Within (belief z l) (belief z N)
+    pub narrow : Within (belief z l) (belief z Q) ⊎ ((Q .generation < l .generation) × Within (belief z l) (belief z N))
 
   -- THE INVARIANT OF THE LABELS, of whatever a cut leaves, on all disks, present or not. top: no generation above it is anywhere. Whoever is not in far is at most one behind it.
   -- low: whoever Q does not call out has its generation or a newer one. cap: nobody has more than top. near: whoever is not far has all but the last generation.
@@ -241,7 +255,7 @@ module _ {X : Type 0} (z : Size) (W : Quorum (z .n)) (C : LabelCodec X (z .n)) w
   unfoldable pub Only : ℕ → Label → Image X → Type 0
   Only g l f = (d : ℕ) (b : Bool) → d < z .n → g ≤ copy C f d b .generation → copy C f d b ≡ l
 
-  only-put : (g : ℕ) (l : Label) (d : ℕ) (f : Image X) → C .Fits l → Only g l f → Only g l (update f (label d (C .side (l .generation))) (C .encode d l))
+  pub only-put : (g : ℕ) (l : Label) (d : ℕ) (f : Image X) → C .Fits l → Only g l f → Only g l (update f (label d (C .side (l .generation))) (C .encode d l))
   unfolding Only
   only-put g l d f fit h e s i = copy-put C (λ x. g ≤ x .generation → x ≡ l) l d f fit e s i (λ q. refl) (h e s i)
 
@@ -250,27 +264,21 @@ module _ {X : Type 0} (z : Size) (W : Quorum (z .n)) (C : LabelCodec X (z .n)) w
   Bare E = (f : Image X) (d : ℕ) (b : Bool) (x : X) → E f → E (update f (label d b) x)
 
   -- a round of l, while Q and N stand
-  pub round-safe : (Q N : Label) (top : ℕ) (far : ℕ → Bool) (l : Label) (ds : List ℕ) (E : Image X → Type 0) → Bare E → (w : World X) → Sane w → C .Fits l → Q .generation ≤ l .generation → l .generation ≤ top → top ≤ suc (l .generation) → MayRule Q N l → Always w (λ f. Labels Q N top far f × E f) → During w (round C l ds) (λ f. Labels Q N top far f × E f) × Always (run w (round C l ds)) (λ f. Labels Q N top far f × E f × ((d g : ℕ) → List·Memᴰ d ds → d < z .n → g ≤ l .generation → Aged C f d g))
-  unfolding round-batch Kept Covered Done Bare
+  pub round-safe : (Q N : Label) (top : ℕ) (far : ℕ → Bool) (l : Label) (ds : List ℕ) (E : Image X → Type 0) → Bare E → (w : World X) → Sane w → C .Fits l → Q .generation ≤ l .generation → l .generation ≤ top → top ≤ suc (l .generation) → MayRule Q N l → Always w (λ f. Labels Q N top far f × E f) → During w (round C l ds) (λ f. Labels Q N top far f × E f) × Always (run w (round C l ds)) (λ f. (Labels Q N top far f × E f) × ((d g : ℕ) → List·Memᴰ d ds → d < z .n → g ≤ l .generation → Aged C f d g))
+  unfolding Bare
   round-safe Q N top far l ds E bare w sane fit a b c ok h =
-      stage (λ f. Labels Q N top far f × E f) (λ f. Labels Q N top far f × E f × ((d g : ℕ) → List·Memᴰ d ds → d < z .n → g ≤ l .generation → Aged C f d g)) w (round-batch C l ds) sane h
-      (λ k m f o. let y = of-rows (there C l) (0 ∷ []) ds k m in rw (y .4) (labels-put Q N top far f l (y .0) fit a b c ok (o .0), bare f (y .0) (C .side (l .generation)) (C .encode (y .0) l) (o .1)))
-      (rows-slots (there C l) (0 ∷ []) ds (λ d j. refl))
-      (λ f o done. (o .0, o .1, λ d g m j i. aged-told C l f d j fit (done (label d (C .side (l .generation))) (in-rows (there C l) (0 ∷ []) ds d 0 m (List·Memᴰ·head refl))) g i))
+      round-keeps C (λ f. Labels Q N top far f × E f) l ds w sane fit (λ d m f o. (labels-put Q N top far f l d fit a b c ok (o .0), bare f d (C .side (l .generation)) (C .encode d l) (o .1))) h
 
   -- the same, where nobody has l's generation yet but from this round
-  pub round-only : (Q N : Label) (top : ℕ) (far : ℕ → Bool) (l : Label) (ds : List ℕ) (E : Image X → Type 0) → Bare E → (w : World X) → Sane w → C .Fits l → Q .generation ≤ l .generation → l .generation ≤ top → top ≤ suc (l .generation) → MayRule Q N l → Always w (λ f. Labels Q N top far f × E f × Only (l .generation) l f) → During w (round C l ds) (λ f. Labels Q N top far f × E f × Only (l .generation) l f) × Always (run w (round C l ds)) (λ f. Labels Q N top far f × E f × Only (l .generation) l f × ((d g : ℕ) → List·Memᴰ d ds → d < z .n → g ≤ l .generation → Aged C f d g))
-  unfolding round-batch Kept Covered Done Bare
+  pub round-only : (Q N : Label) (top : ℕ) (far : ℕ → Bool) (l : Label) (ds : List ℕ) (E : Image X → Type 0) → Bare E → (w : World X) → Sane w → C .Fits l → Q .generation ≤ l .generation → l .generation ≤ top → top ≤ suc (l .generation) → MayRule Q N l → Always w (λ f. Labels Q N top far f × E f × Only (l .generation) l f) → During w (round C l ds) (λ f. Labels Q N top far f × E f × Only (l .generation) l f) × Always (run w (round C l ds)) (λ f. (Labels Q N top far f × E f × Only (l .generation) l f) × ((d g : ℕ) → List·Memᴰ d ds → d < z .n → g ≤ l .generation → Aged C f d g))
+  unfolding Bare
   round-only Q N top far l ds E bare w sane fit a b c ok h =
-      stage (λ f. Labels Q N top far f × E f × Only (l .generation) l f) (λ f. Labels Q N top far f × E f × Only (l .generation) l f × ((d g : ℕ) → List·Memᴰ d ds → d < z .n → g ≤ l .generation → Aged C f d g)) w (round-batch C l ds) sane h
-      (λ k m f o. let y = of-rows (there C l) (0 ∷ []) ds k m in rw (y .4) (labels-put Q N top far f l (y .0) fit a b c ok (o .0), bare f (y .0) (C .side (l .generation)) (C .encode (y .0) l) (o .1), only-put (l .generation) l (y .0) f fit (o .2)))
-      (rows-slots (there C l) (0 ∷ []) ds (λ d j. refl))
-      (λ f o done. (o .0, o .1, o .2, λ d g m j i. aged-told C l f d j fit (done (label d (C .side (l .generation))) (in-rows (there C l) (0 ∷ []) ds d 0 m (List·Memᴰ·head refl))) g i))
+      round-keeps C (λ f. Labels Q N top far f × E f × Only (l .generation) l f) l ds w sane fit (λ d m f o. (labels-put Q N top far f l d fit a b c ok (o .0), bare f d (C .side (l .generation)) (C .encode d l) (o .1), only-put (l .generation) l d f fit (o .2))) h
 
   -- nobody has g or more: whoever has it soon has it from us
-  pub only-start : (Q N : Label) (top : ℕ) (far : ℕ → Bool) (g : ℕ) (l : Label) (f : Image X) → top < g → Labels Q N top far f → Only g l f
+  pub only-start : (top g : ℕ) (l : Label) (f : Image X) → top < g → ((d : ℕ) (b : Bool) → d < z .n → copy C f d b .generation ≤ top) → Only g l f
   unfolding Only
-  only-start Q N top far g l f h o d b i j = absurd (omega (arith, o .cap d b i))
+  only-start top g l f h cap d b i j = absurd (omega (arith, cap d b i))
 
   -- the top may rise by a generation that nobody has yet, once all but few are at most one behind it
   pub labels-rise : (Q N : Label) (top top' : ℕ) (far far' : ℕ → Bool) (f : Image X) → top ≤ top' → W .few far' ≡ true → ((d g : ℕ) → d < z .n → far' d ≡ false → g < top' → Aged C f d g) → Labels Q N top far f → Labels Q N top' far' f
@@ -282,14 +290,14 @@ module _ {X : Type 0} (z : Size) (W : Quorum (z .n)) (C : LabelCodec X (z .n)) w
   rules-self Q h = record { few-out = h; narrow = inl (record { look-in = λ d e. e; believe-in = λ d t e. refl }) }
 
   -- a label is settled: whoever is not out has it, and nobody has another one of its generation or more
-  pub labels-settle : (Q N : Label) (top : ℕ) (far : ℕ → Bool) (l : Label) (f : Image X) → top ≤ l .generation → W .few (l .out) ≡ true → ((d g : ℕ) → d < z .n → l .out d ≡ false → g ≤ l .generation → Aged C f d g) → Only (l .generation) l f → Labels Q N top far f → Labels l l (l .generation) (l .out) f
+  pub labels-settle : (l : Label) (f : Image X) → W .few (l .out) ≡ true → ((d g : ℕ) → d < z .n → l .out d ≡ false → g ≤ l .generation → Aged C f d g) → Only (l .generation) l f → ((d : ℕ) (b : Bool) → d < z .n → copy C f d b .generation ≤ l .generation) → Labels l l (l .generation) (l .out) f
   unfolding Only
-  labels-settle Q N top far l f h few has only o =
+  labels-settle l f few has only cap =
       record {
         few-Q = few;
         few-far = few;
         low = λ d i e. has d (l .generation) i e (omega arith);
-        cap = λ d b i. omega (arith, o .cap d b i);
+        cap = cap;
         near = λ d g i e j. has d g i e (omega arith);
         fine = λ d b i p j. rw (only d b i j) (rules-self l few);
       }

@@ -5,6 +5,7 @@ pub mod Log
 pub mod Write
 pub mod Redo
 pub mod Label
+pub mod Bays
 pub mod Startup
 pub mod Decide
 pub mod Request
@@ -28,5 +29,11 @@ pub mod Shape
 pub mod Tidy
 pub mod Shaped
 pub mod Limits
+pub mod Exchange
+pub mod Apart
+pub mod Exchanged
+pub mod Noticed
+pub mod Back
+pub mod Everywhere
 pub mod Walk
 pub mod Phases

@@ -30,10 +30,10 @@ module _ {X : Type 0} (z : Size) (W : Quorum (z .n)) (C : LabelCodec X (z .n)) (
   unfolding table
   create-cached w sane h few room =
       let r = restart A (λ f. Unit {0}) (Rest z W C K none 0 one (table z W K E (λ t i j. K .zeros))) (flushed-first z W C K E S R A) (round C one everyone) (round-spares z W C K A one everyone (λ d m. beyond-none (z .n) d (omega (arith, of-from (z .n) 0 d m)))) (λ k a. in-flushed z W C K E S R A (slot k) (beyond-in (z .n) (λ d. false) (slot k) a) a) w sane (always-any w)
-      (λ f a u.
+      (λ f q a u.
       let zf = zeros-same z W C K E S R (w .cur) f (λ k i. a k (beyond-none (z .n) (slot k) i)) h in
-      let y = from-zeros z W C K E S R w h room f (λ t i j. K .zeros) none 0 0 refl few zf (λ t d j i e c. R .zeros-shard t d j i c) in
-      (during-map (Shelf z W C 0 (λ B g. Quiet K B none 0 (table z W K E (λ t i j. K .zeros)) g)) (λ g. Unit {0}) (after f) (round C one everyone) (λ g o. tt) (y .0), y .1)) in (
+      let y = from-zeros z W C K E S R w h room f (λ t i j. K .zeros) none 0 (new-label (z .n) 0) refl few few zf (λ t d j i e c. R .zeros-shard t d j i c) in
+      (during-map (Shelf z W C (new-label (z .n) 0) (λ B g. Quiet K B none 0 (table z W K E (λ t i j. K .zeros)) g)) (λ g. Unit {0}) (after f) (round C one everyone) (λ g o. tt) (y .0), y .1)) in (
         sane-run w (flushes (flushed-first z W C K E S R A) ++ round C one everyone) sane,
         record {
           history = none;

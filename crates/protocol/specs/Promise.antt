@@ -2,7 +2,7 @@
 use Prim.Native.Nat.{ℕ, suc, _+_, _-_, _≤_, _<_}
 use mathlib.Core.Path.{_≡_, refl, sym, ap, subst, _∙_}
 use mathlib.Core.Bool.{Bool, true, false, cond, not, _&&_, _||_, true≢false, false≢true, or-true}
-use mathlib.Core.Logic.{_⊎_, ⊎-elim, inl, inr, _≢_}
+use mathlib.Core.Logic.{_⊎_, ⊎-elim, inl, inr}
 use mathlib.Core.List.{List, [], _∷_, _++_, List·Memᴰ}
 use native.Mathlib.Omega.{arith}
 use lib.Dec.{eqb, ltb, leb}
@@ -14,8 +14,8 @@ use Rattle.protocol.specs.Log.{Write, RecordCodec, Belief, Table, Wrote,
 use Rattle.protocol.specs.Write.{both, log-write, store, Mid}
 use Rattle.protocol.specs.Redo.{decision}
 use Rattle.protocol.specs.Label.{Label, again, plainly-out, Size, looked, believed, belief, look-of, look-is, believe-of, believe-is, Quorum, LabelCodec, copy, Aged, round, Labels}
-use Rattle.protocol.specs.Startup.{without, without-narrow, without-gone, Shelf, labelled, gone, stale, gone-absent, L, M, M-positive, L-valid}
-use Rattle.protocol.specs.Decide.{settled, startup, Accepted, quiet-framed, mid-framed, new-framed, Rest, start-quiet, start-mid, start-new, start-above}
+use Rattle.protocol.specs.Startup.{Framed, without, without-narrow, without-gone, Shelf, labelled, gone, stale, gone-absent, L, M, M-positive, L-valid}
+use Rattle.protocol.specs.Decide.{settled, startup, Accepted, quiet-framed, mid-framed, new-framed, Rest, Met, meets-shelf, base-below, start-quiet, start-mid, start-new, done-above}
 use Rattle.protocol.specs.Request.{log-rest, store-rest, outed, relabel}
 use Rattle.protocol.specs.Request as Request
 use Rattle.protocol.specs.Rebuild.{begun, raised, healed, beginning, begin-safe, on-safe, Keeps}
@@ -27,7 +27,7 @@ use Rattle.protocol.specs.Host.{Host, all-sound, scrub-old, scrub-new, C
 use Rattle.protocol.specs.Program as Program
 use Rattle.protocol.specs.Program.{Stamps, Proper, Medium, NO_LABEL, TOO_FEW, BAD_BLOCK, BUSY, NOT_NOW, Verdict, clear, because, Test, first, Own, Kind, creating, starting, logging, storing, labelling, Memory, nothing, idle, doing, Input, create, start, read-block, write, take-out, begin, rebuild-on, scrub-stripe, step, Reply, accepted, block, found, scrubbed, new-label, beyond, mask, present, flushed-first, left-out, blank-slot, blank, created, asked-create, may-create, started, asked-start, may-start, asked-write, relabelled, told-to, asked-out, back-in, asked-begin, at-least-one, filling, asked-raise, asked-heal, last-batch, asked-on, generations-left, may, answer, from-nothing, from-idle, one-step, meanwhile, from-doing, unseen, program}
 use Rattle.protocol.specs.Machine.{Machine, at, effect, Event, swap, ask, Outside, power-cut, program-dies, disk-swapped, Happens, from-outside, from-host, Runs, stays, goes, View, sure, open-write, kept-write, Goes, Views, same, next}
-use Rattle.protocol.specs.Invariant.{Ghost, Left, Pending, Off, Dark, Ready, Readable, Reads, Busy, Invariant}
+use Rattle.protocol.specs.Invariant.{Ghost, Under, Left, Pending, Pends, Off, Dark, Ready, Readable, Reads, Ends, Busy, Invariant}
 
 -- small facts about tests
 is-clear : Verdict → Bool
@@ -133,10 +133,6 @@ module _ {X : Type 0} (z : Size) (W : Quorum (z .n)) (C : LabelCodec X (z .n)) (
   unfolding Quiet
   quiet-seen history u s Q A f dark q = old-frame K (belief z Q) (belief z Q) history (within-self (belief z Q)) f (mask z W C K E S R A f) (mask-agrees Q A f dark) u 0 s q
 
-  -- a settled epoch may be forgotten
-  shelf-less : (e e' : ℕ) (D : Belief → Image X → Type 0) (f : Image X) → e' ≤ e → Shelf z W C e D f → Shelf z W C e' D f
-  shelf-less e e' D f i h = record { Q = h .Q; since = omega (arith, h .since); N = h .N; top = h .top; far = h .far; labels = h .labels; under-Q = h .under-Q; under-N = h .under-N }
-
   -- EVENTS
   unfoldable pub Next : Machine X → Event X → View X → Type 0
   Next m e p = (p' : View X) × Goes (K .c) e p p' × Invariant z W C K E S R m p'
@@ -150,16 +146,23 @@ module _ {X : Type 0} (z : Size) (W : Quorum (z .n)) (C : LabelCodec X (z .n)) (
   verdict w m i p h clear m' r g = g refl
   verdict w m i p h (because why) m' r g = (p, refl, h)
 
+  -- the stamps of a label's generation lie above all that were used before it
+  epoch-grows : (o : Own) → o .epoch ≤ o .now .generation → (σ : ℕ) → σ < S .base (suc (o .epoch)) → σ < S .base (suc (o .now .generation))
+  epoch-grows o i σ j = omega (arith, S .grows (suc (o .epoch)) (suc (o .now .generation)) (omega arith))
+
+  pub ready-early : (v : Host X) (w : World X) (o : Own) → (h : Ready z W C K E S R v w o) → h .u < S .base (suc (o .now .generation))
+  ready-early v w o h = epoch-grows o (h .epoch-now) (h .u) (omega (arith, h .used, h .early))
+
   -- READY AS LEFT BY A CUT
   ready-off : (v : Host X) (w : World X) (o : Own) → Sane w → Ready z W C K E S R v w o → Off z W C K E S R (sure v) w
   ready-off v w o sane h =
       record {
         sane = sane;
-        ghost = record { history = h .history; u = h .u; e = o .epoch };
-        early = omega (arith, h .used, h .early);
+        ghost = record { history = h .history; u = h .u; base = o .now };
+        early = ready-early v w o h;
         pends = tt;
-        left = always-map (Rest z W C K (h .history) (h .u) (o .now) (tableOf v)) (Left z W C K E S R (record { history = h .history; u = h .u; e = o .epoch }) (sure v)) w
-            (λ f r. record { Q = o .now; since = h .epoch-now; N = o .now; top = o .now .generation; far = o .now .out; labels = r .labels; under-Q = r .quiet; under-N = r .quiet }) (h .rest);
+        left = always-map (Rest z W C K (h .history) (h .u) (o .now) (tableOf v)) (Left z W C K E S R (record { history = h .history; u = h .u; base = o .now }) (sure v)) w
+            (λ f r. record { Q = o .now; since = inl refl; N = o .now; top = o .now .generation; far = o .now .out; labels = r .labels; under-Q = r .quiet; under-N = r .quiet }) (h .rest);
       }
 
   busy-off : (k : Kind X) (p : View X) (w : World X) (l : List (Action X)) (o o' : Own) → Busy z W C K E S R k p w l o o' → Off z W C K E S R p w
@@ -188,6 +191,11 @@ module _ {X : Type 0} (z : Size) (W : Quorum (z .n)) (C : LabelCodec X (z .n)) (
   flushed-present : (A : ℕ → Bool) (d : ℕ) → List·Memᴰ d (flushed-first z W C K E S R A) → A d ≡ false
   unfolding flushed-first
   flushed-present A d m = present-in z W C K A d m
+
+  pub under-framed : (g : Ghost X) (p : View X) → Framed (Under z W C K E S R g p)
+  under-framed g (sure v) = quiet-framed K (g .history) (g .u) (tableOf v)
+  under-framed g (open-write v v') = mid-framed K (g .history) (g .u) (tableOf v) (tableOf v')
+  under-framed g (kept-write v') = new-framed K (g .history) (g .u) (tableOf v')
 
   -- START-UP
   module _ (A : ℕ → Bool) (seen : Image X) (ok : may-start z W C K E S R A seen ≡ clear) where
@@ -247,19 +255,19 @@ module _ {X : Type 0} (z : Size) (W : Quorum (z .n)) (C : LabelCodec X (z .n)) (
           let x = subst (λ (l : List (Action X)). During (after f) l P × Always (run (after f) l) (Rest z W C K history u (settled z C K A f) s)) alike y in
           (x .0, subst (λ (q : Label). Always (run (after f) (startup z C K A seen)) (Rest z W C K history u q s)) same-label (x .1))
 
-    spared : Spares A (flushes (flushed-first z W C K E S R A) ++ startup z C K A seen)
+    pub spared : Spares A (flushes (flushed-first z W C K E S R A) ++ startup z C K A seen)
     spared = each-append (λ k. A (slot k) ≡ false) (λ d. A d ≡ false) (flushes (flushed-first z W C K E S R A)) (startup z C K A seen) (flushes-spares z W C K A (flushed-first z W C K E S R A) (flushed-present A)) (startup-spares z W C K A seen)
 
     dark-start : Dark z W C K E S R (started z W C K E S R A seen)
     dark-start d a h = true≢false (sym a ∙ gone-absent z W C A seen d (look-of z (settled z C K A seen) d h .0) (without-gone z (L z C A seen) (gone z C A seen) (suc (suc (M z C A seen))) d h))
 
     -- ready, when the log is decided
-    start-ready : (g : Ghost X) → g .u < S .base (suc (g .e)) → g .e < settled z C K A seen .generation → (v : Host X) (w : World X) → Always w (Rest z W C K (g .history) (g .u) (settled z C K A seen) (tableOf v)) → Ready z W C K E S R v w (started z W C K E S R A seen)
+    start-ready : (g : Ghost X) → g .u < S .base (suc (g .base .generation)) → g .base .generation < settled z C K A seen .generation → (v : Host X) (w : World X) → Always w (Rest z W C K (g .history) (g .u) (settled z C K A seen) (tableOf v)) → Ready z W C K E S R v w (started z W C K E S R A seen)
     start-ready g early above v w r =
         record {
           history = g .history;
           u = g .u;
-          used = omega (arith, early, S .grows (suc (g .e)) (settled z C K A seen .generation) above);
+          used = omega (arith, early, S .grows (suc (g .base .generation)) (settled z C K A seen .generation) above);
           early = S .rises (settled z C K A seen .generation);
           born = omega arith;
           epoch-now = omega arith;
@@ -276,57 +284,52 @@ module _ {X : Type 0} (z : Size) (W : Quorum (z .n)) (C : LabelCodec X (z .n)) (
       to-f : (f : Image X) → ((k : Place) → A (slot k) ≡ false → f k ≡ w .cur k) → (k : Place) → A (slot k) ≡ false → seen k ≡ f k
       to-f f h k a = agree k a ∙ sym (h k a)
 
-      start-sure : (v : Host X) → Off z W C K E S R (sure v) w → Busy z W C K E S R starting (sure v) w (flushes (flushed-first z W C K E S R A) ++ startup z C K A seen) (started z W C K E S R A seen) (started z W C K E S R A seen)
-      start-sure v h =
-          let g = h .ghost in
-          let D : Belief → Image X → Type 0 = λ B f. Quiet K B (g .history) (g .u) (tableOf v) f in
-          let P = Left z W C K E S R g (sure v) in
-          let Z = Rest z W C K (g .history) (g .u) (settled z C K A seen) (tableOf v) in
-          let r = restart A P Z (flushed-first z W C K E S R A) (startup z C K A seen) (startup-spares z W C K A seen) all-present w (h .sane) (h .left)
-          (λ f a x. moved f (to-f f a) P (g .history) (g .u) (tableOf v) (start-quiet z W C K (g .history) A f (accept-f f (to-f f a)) (g .e) (g .u) (tableOf v) x)) in
-          let x = always-cur P w (h .sane) (h .left) in
-          let above = subst (λ (q : Label). g .e < q .generation) (same-label (w .cur) agree) (start-above z W C K (g .history) A (w .cur) (accept-f (w .cur) agree) (g .e) D (quiet-framed K (g .history) (g .u) (tableOf v)) x) in
-          record { sane = h .sane; ghost = g; early = h .early; pends = tt; during = r .0; ends = start-ready g (h .early) above v (run w (flushes (flushed-first z W C K E S R A) ++ startup z C K A seen)) (r .1); spares = spared; reads = tt }
+      abbrev pub start-list : List (Action X)
+      start-list = flushes (flushed-first z W C K E S R A) ++ startup z C K A seen
 
-      start-kept : (v' : Host X) → Off z W C K E S R (kept-write v') w → Busy z W C K E S R starting (kept-write v') w (flushes (flushed-first z W C K E S R A) ++ startup z C K A seen) (started z W C K E S R A seen) (started z W C K E S R A seen)
-      start-kept v' h =
-          let g = h .ghost in
-          let D : Belief → Image X → Type 0 = λ B f. New K B (g .history) (g .u) (tableOf v') f in
-          let P = Left z W C K E S R g (kept-write v') in
-          let Z = Rest z W C K (g .history) (g .u) (settled z C K A seen) (tableOf v') in
-          let b = h .pends .1 in
-          let r = restart A P Z (flushed-first z W C K E S R A) (startup z C K A seen) (startup-spares z W C K A seen) all-present w (h .sane) (h .left)
-          (λ f a x. moved f (to-f f a) P (g .history) (g .u) (tableOf v') (start-new z W C K (g .history) A f (accept-f f (to-f f a)) (g .e) (g .u) (b .pos) (b .inside) (b .broad) (tableOf v') x)) in
-          let x = always-cur P w (h .sane) (h .left) in
-          let above = subst (λ (q : Label). g .e < q .generation) (same-label (w .cur) agree) (start-above z W C K (g .history) A (w .cur) (accept-f (w .cur) agree) (g .e) D (new-framed K (g .history) (g .u) (tableOf v')) x) in
-          record { sane = h .sane; ghost = g; early = h .early; pends = h .pends; during = r .0; ends = start-ready g (h .early) above v' (run w (flushes (flushed-first z W C K E S R A) ++ startup z C K A seen)) (r .1); spares = spared; reads = tt }
+      -- START-UP ON WHAT IT MEETS. P: what is known of whatever a cut leaves; from it follows what start-up has to meet (`Met`), and then P holds all the while
+      module _ (g : Ghost X) (P : Image X → Type 0) (sane : Sane w) (early : g .u < S .base (suc (g .base .generation))) (left : Always w P) where
+        abbrev pub Meets : (Belief → Image X → Type 0) → Type 0
+        Meets D = (f : Image X) → Possible w f → ((k : Place) → A (slot k) ≡ false → f k ≡ w .cur k) → Accepted z W C A f → P f → Met z W C K A (g .base) D P f
 
-      -- the decision, from what is seen
-      start-open : (v v' : Host X) → Off z W C K E S R (open-write v v') w → Busy z W C K E S R starting (open-write v v') w (flushes (flushed-first z W C K E S R A) ++ startup z C K A seen) (started z W C K E S R A seen) (started z W C K E S R A seen)
-      start-open v v' h =
-          let g = h .ghost in
-          let D : Belief → Image X → Type 0 = λ B f. Mid K B (g .history) (g .u) (tableOf v) (tableOf v') f in
-          let P = Left z W C K E S R g (open-write v v') in
-          let yes = decision K (belief z (settled z C K A seen)) seen (g .u) in
-          let s = cond yes (tableOf v') (tableOf v) in
-          let Z = Rest z W C K (g .history) (g .u) (settled z C K A seen) s in
-          let b = h .pends in
-          let r = restart A P Z (flushed-first z W C K E S R A) (startup z C K A seen) (startup-spares z W C K A seen) all-present w (h .sane) (h .left)
-          (λ f a x. moved f (to-f f a) P (g .history) (g .u) s
-          (subst (λ (y : Bool). During (after f) (startup z C K A f) P × Always (run (after f) (startup z C K A f)) (Rest z W C K (g .history) (g .u) (settled z C K A f) (cond y (tableOf v') (tableOf v)))) (sym (start-decision-same z W C K A seen f (to-f f a) some (g .u) (b .pos)))
-          (start-mid z W C K (g .history) A f (accept-f f (to-f f a)) (g .e) (g .u) (b .pos) (b .inside) (b .broad) (tableOf v) (tableOf v') (b .wrote) x))) in
-          let x = always-cur P w (h .sane) (h .left) in
-          let above = subst (λ (q : Label). g .e < q .generation) (same-label (w .cur) agree) (start-above z W C K (g .history) A (w .cur) (accept-f (w .cur) agree) (g .e) D (mid-framed K (g .history) (g .u) (tableOf v) (tableOf v')) x) in
-          record { sane = h .sane; ghost = g; early = h .early; pends = h .pends; during = r .0; ends = decided g (h .early) above v v' yes (r .1); spares = spared; reads = tt }
-        where
-          decided : (g : Ghost X) → g .u < S .base (suc (g .e)) → g .e < settled z C K A seen .generation → (v v' : Host X) (y : Bool) → Always (run w (flushes (flushed-first z W C K E S R A) ++ startup z C K A seen)) (Rest z W C K (g .history) (g .u) (settled z C K A seen) (cond y (tableOf v') (tableOf v))) → Ready z W C K E S R v (run w (flushes (flushed-first z W C K E S R A) ++ startup z C K A seen)) (started z W C K E S R A seen) ⊎ Ready z W C K E S R v' (run w (flushes (flushed-first z W C K E S R A) ++ startup z C K A seen)) (started z W C K E S R A seen)
-          decided g early above v v' true r = inr (start-ready g early above v' (run w (flushes (flushed-first z W C K E S R A) ++ startup z C K A seen)) r)
-          decided g early above v v' false r = inl (start-ready g early above v (run w (flushes (flushed-first z W C K E S R A) ++ startup z C K A seen)) r)
+        above : (D : Belief → Image X → Type 0) → Framed D → Meets D → g .base .generation < settled z C K A seen .generation
+        unfolding Sane
+        above D fr m =
+            let ok = accept-f (w .cur) agree in
+            subst (λ (q : Label). g .base .generation < q .generation) (same-label (w .cur) agree) (done-above z W C K (g .history) A (w .cur) ok (g .base) D fr P (m (w .cur) sane (λ k a. refl) ok (always-cur P w sane left)))
 
-      start-any : (p : View X) → Off z W C K E S R p w → Busy z W C K E S R starting p w (flushes (flushed-first z W C K E S R A) ++ startup z C K A seen) (started z W C K E S R A seen) (started z W C K E S R A seen)
-      start-any (sure v) h = start-sure v h
-      start-any (open-write v v') h = start-open v v' h
-      start-any (kept-write v') h = start-kept v' h
+        -- from any such f to the world with its caches
+        from-here : (s : Table X) → ((f : Image X) → Possible w f → ((k : Place) → A (slot k) ≡ false → f k ≡ w .cur k) → P f → During (after f) (startup z C K A f) P × Always (run (after f) (startup z C K A f)) (Rest z W C K (g .history) (g .u) (settled z C K A f) s)) → During w start-list P × Always (run w start-list) (Rest z W C K (g .history) (g .u) (settled z C K A seen) s)
+        from-here s h =
+            restart A P (Rest z W C K (g .history) (g .u) (settled z C K A seen) s) (flushed-first z W C K E S R A) (startup z C K A seen) (startup-spares z W C K A seen) all-present w sane left
+            (λ f q a x. moved f (to-f f a) P (g .history) (g .u) s (h f q a x))
+
+        -- the write that was under way is decided from what is seen
+        decided : (v v' : Host X) → g .base .generation < settled z C K A seen .generation → (y : Bool) → Always (run w start-list) (Rest z W C K (g .history) (g .u) (settled z C K A seen) (cond y (tableOf v') (tableOf v))) → Ready z W C K E S R v (run w start-list) (started z W C K E S R A seen) ⊎ Ready z W C K E S R v' (run w start-list) (started z W C K E S R A seen)
+        decided v v' up true r = inr (start-ready g early up v' (run w start-list) r)
+        decided v v' up false r = inl (start-ready g early up v (run w start-list) r)
+
+        pub start-safe : (p : View X) → Pends z W C K E S R g p → Meets (Under z W C K E S R g p) → During w start-list P × Ends z W C K E S R g starting p (run w start-list) (started z W C K E S R A seen) (started z W C K E S R A seen)
+        start-safe (sure v) b m =
+            let r = from-here (tableOf v) (λ f q a x. let ok = accept-f f (to-f f a) in start-quiet z W C K (g .history) A f ok (g .base) (g .u) P (tableOf v) (m f q a ok x)) in
+            (r .0, start-ready g early (above (Under z W C K E S R g (sure v)) (quiet-framed K (g .history) (g .u) (tableOf v)) m) v (run w start-list) (r .1))
+        start-safe (open-write v v') b m =
+            let yes = decision K (belief z (settled z C K A seen)) seen (g .u) in
+            let r = from-here (cond yes (tableOf v') (tableOf v)) (λ f q a x.
+            let ok = accept-f f (to-f f a) in
+            subst (λ (y : Bool). During (after f) (startup z C K A f) P × Always (run (after f) (startup z C K A f)) (Rest z W C K (g .history) (g .u) (settled z C K A f) (cond y (tableOf v') (tableOf v)))) (sym (start-decision-same z W C K A seen f (to-f f a) some (g .u) (b .pos)))
+            (start-mid z W C K (g .history) A f ok (g .base) (g .u) P (b .pos) (b .inside) (b .broad) (tableOf v) (tableOf v') (b .wrote) (m f q a ok x))) in
+            (r .0, decided v v' (above (Under z W C K E S R g (open-write v v')) (mid-framed K (g .history) (g .u) (tableOf v) (tableOf v')) m) yes (r .1))
+        start-safe (kept-write v') b m =
+            let r = from-here (tableOf v') (λ f q a x. let ok = accept-f f (to-f f a) in start-new z W C K (g .history) A f ok (g .base) (g .u) P (b .1 .pos) (b .1 .inside) (b .1 .broad) (tableOf v') (m f q a ok x)) in
+            (r .0, start-ready g early (above (Under z W C K E S R g (kept-write v')) (new-framed K (g .history) (g .u) (tableOf v')) m) v' (run w start-list) (r .1))
+
+      start-any : (p : View X) → Off z W C K E S R p w → Busy z W C K E S R starting p w start-list (started z W C K E S R A seen) (started z W C K E S R A seen)
+      start-any p h =
+          let g = h .ghost in
+          let D = Under z W C K E S R g p in
+          let r = start-safe g (Left z W C K E S R g p) (h .sane) (h .early) (h .left) p (h .pends) (λ f q a ok x. meets-shelf z W C K (g .history) A f ok (g .base) D (under-framed g p) x) in
+          record { sane = h .sane; ghost = g; based = tt; early = h .early; pends = h .pends; during = r .0; ends = r .1; spares = spared; reads = tt }
 
   -- CREATE
   -- an image of zeros, as far as the shelf goes
@@ -370,15 +373,16 @@ module _ {X : Type 0} (z : Size) (W : Quorum (z .n)) (C : LabelCodec X (z .n)) (
   copy-zeros f h d b i = ap (λ (x : X). C .decode d b x .generation) (h .labels d b i) ∙ R .zeros-label d b
 
   -- nothing was ever settled there
-  zeros-unborn : (f : Image X) (e : ℕ) (D : Belief → Image X → Type 0) → Zeros f → Shelf z W C e D f → (e ≡ 0) × (h : W .few (λ d. false) ≡ true) × (0 < z .n)
+  zeros-unborn : (f : Image X) (base : Label) (D : Belief → Image X → Type 0) → Zeros f → Shelf z W C base D f → (base .generation ≡ 0) × (W .few (base .out) ≡ true)
   unfolding Aged
-  zeros-unborn f e D h s =
+  zeros-unborn f base D h s =
       let y = W .meet (s .Q .out) (s .Q .out) (s .labels .few-Q) (s .labels .few-Q) in
       let a = s .labels .low (y .0) (y .1) (y .2) in
-      (omega (arith, s .since, a .1, copy-zeros f h (y .0) (a .0) (y .1)), W .part (λ d. false) (s .Q .out) (λ d i q. absurd (false≢true q)) (s .labels .few-Q), omega (arith, y .1))
+      let none : s .Q .generation ≡ 0 = omega (arith, a .1, copy-zeros f h (y .0) (a .0) (y .1)) in
+      (omega (arith, base-below z W C base D f s), ⊎-elim (λ q. subst (λ (l : Label). W .few (l .out) ≡ true) q (s .labels .few-Q)) (λ i. absurd (omega arith)) (s .since))
 
   -- and the list is zeros
-  zeros-table : (f : Image X) (history : ℕ → Write X) (u e : ℕ) (v : Host X) → Zeros f → Shelf z W C e (λ B g. Quiet K B history u (tableOf v) g) f → (t d j : ℕ) → d < z .n → t < z .T → j < K .c → tableOf v t d j ≡ K .zeros
+  zeros-table : (f : Image X) (history : ℕ → Write X) (u : ℕ) (e : Label) (v : Host X) → Zeros f → Shelf z W C e (λ B g. Quiet K B history u (tableOf v) g) f → (t d j : ℕ) → d < z .n → t < z .T → j < K .c → tableOf v t d j ≡ K .zeros
   unfolding table read
   zeros-table f history u e v h s t d j i a c =
       E .shard-same t (v t) (λ x y. K .zeros) (λ x y p q. sym (read-right z W K E history u Q v f few (s .under-Q) t x y a p q) ∙ E .back t (missing z W K E Q t) (λ x y. K .zeros) (λ d l. f (strip d t l)) (few-missing z W K E Q t a few) (λ d l n m g. h .strips d t l n a g ∙ sym (R .zeros-shard t d l n g)) x y p q) d j i c
@@ -409,9 +413,9 @@ module _ {X : Type 0} (z : Size) (W : Quorum (z .n)) (C : LabelCodec X (z .n)) (
       stampless : (d j : ℕ) → d < z .n → j ≤ K .c → K .stamp (f (log d j)) ≡ 0
       stampless d j i b = ap (K .stamp) (h .logs d j i b) ∙ K .stamp-zeros
 
-  zeros-labels : (f : Image X) → Zeros f → W .few (λ d. false) ≡ true → Labels z W C (new-label (z .n) 0) (new-label (z .n) 0) 0 (λ d. false) f
+  zeros-labels : (f : Image X) (Q : Label) → Zeros f → Q .generation ≡ 0 → W .few (Q .out) ≡ true → Labels z W C Q Q (Q .generation) (Q .out) f
   unfolding Aged
-  zeros-labels f h few =
+  zeros-labels f Q h none few =
       record {
         few-Q = few;
         few-far = few;
@@ -427,11 +431,11 @@ module _ {X : Type 0} (z : Size) (W : Quorum (z .n)) (C : LabelCodec X (z .n)) (
   zeros-off w sane few h =
       record {
         sane = sane;
-        ghost = record { history = none; u = 0; e = 0 };
+        ghost = record { history = none; u = 0; base = new-label (z .n) 0 };
         early = omega (arith, S .rises 0);
         pends = tt;
-        left = always-map Zeros (Left z W C K E S R (record { history = none; u = 0; e = 0 }) (sure (λ t i j. K .zeros))) w
-            (λ f o. let q = zeros-quiet f none 0 (tableOf (λ t i j. K .zeros)) (new-label (z .n) 0) o (λ t d j i a c. R .zeros-shard t d j i c) in record { Q = new-label (z .n) 0; since = omega arith; N = new-label (z .n) 0; top = 0; far = λ d. false; labels = zeros-labels f o few; under-Q = q; under-N = q }) h;
+        left = always-map Zeros (Left z W C K E S R (record { history = none; u = 0; base = new-label (z .n) 0 }) (sure (λ t i j. K .zeros))) w
+            (λ f o. let q = zeros-quiet f none 0 (tableOf (λ t i j. K .zeros)) (new-label (z .n) 0) o (λ t d j i a c. R .zeros-shard t d j i c) in record { Q = new-label (z .n) 0; since = inl refl; N = new-label (z .n) 0; top = 0; far = λ d. false; labels = zeros-labels f (new-label (z .n) 0) o refl few; under-Q = q; under-N = q }) h;
       }
     where
       none : ℕ → Write X
@@ -448,13 +452,12 @@ module _ {X : Type 0} (z : Size) (W : Quorum (z .n)) (C : LabelCodec X (z .n)) (
     create-list = flushes (flushed-first z W C K E S R (beyond (z .n) (λ d. false))) ++ round C first-label everyone
 
     -- the first round, on zeros
-    pub from-zeros : (f : Image X) (v : Host X) (history : ℕ → Write X) (u e : ℕ) → e ≡ 0 → W .few (λ d. false) ≡ true → Zeros f → ((t d j : ℕ) → d < z .n → t < z .T → j < K .c → tableOf v t d j ≡ K .zeros) → During (after f) (round C first-label everyone) (Shelf z W C e (λ B g. Quiet K B history u (tableOf v) g)) × Always (run (after f) (round C first-label everyone)) (Rest z W C K history u first-label (tableOf v))
-    from-zeros f v history u e none few zf zt =
+    pub from-zeros : (f : Image X) (v : Host X) (history : ℕ → Write X) (u : ℕ) (Q0 : Label) → Q0 .generation ≡ 0 → W .few (Q0 .out) ≡ true → W .few (λ d. false) ≡ true → Zeros f → ((t d j : ℕ) → d < z .n → t < z .T → j < K .c → tableOf v t d j ≡ K .zeros) → During (after f) (round C first-label everyone) (Shelf z W C Q0 (λ B g. Quiet K B history u (tableOf v) g)) × Always (run (after f) (round C first-label everyone)) (Rest z W C K history u first-label (tableOf v))
+    from-zeros f v history u Q0 none few0 few zf zt =
         let D : Belief → Image X → Type 0 = λ B g. Quiet K B history u (tableOf v) g in
-        let Q0 = new-label (z .n) 0 in
-        let y = relabel z W C K history u (tableOf v) Q0 first-label everyone refl few (R .fits first-label (proper-new z 1) (omega arith) room) (λ d i o. in-from (z .n) 0 d (omega arith) (omega arith)) (after f) (sane-after f)
-        (always-after (λ g. Rest z W C K history u Q0 (tableOf v) g × D (belief z first-label) g) f (record { labels = zeros-labels f zf few; quiet = zeros-quiet f history u (tableOf v) Q0 zf zt }, zeros-quiet f history u (tableOf v) first-label zf zt)) in
-        (during-map (λ g. Shelf z W C 0 D g × D (belief z Q0) g) (Shelf z W C e D) (after f) (round C first-label everyone) (λ g o. shelf-less 0 e D g (omega arith) (o .0)) (y .0), y .1)
+        let y = relabel z W C K history u (tableOf v) Q0 first-label everyone (omega (arith, none)) few (R .fits first-label (proper-new z 1) (omega arith) room) (λ d i o. in-from (z .n) 0 d (omega arith) (omega arith)) (after f) (sane-after f)
+        (always-after (λ g. Rest z W C K history u Q0 (tableOf v) g × D (belief z first-label) g) f (record { labels = zeros-labels f Q0 zf none few0; quiet = zeros-quiet f history u (tableOf v) Q0 zf zt }, zeros-quiet f history u (tableOf v) first-label zf zt)) in
+        (during-map (λ g. Shelf z W C Q0 D g × D (belief z Q0) g) (Shelf z W C Q0 D) (after f) (round C first-label everyone) (λ g o. o .0) (y .0), y .1)
 
     create-sure : (v : Host X) → Off z W C K E S R (sure v) w → Busy z W C K E S R creating (sure v) w create-list (created z W C K E S R) (created z W C K E S R)
     create-sure v h =
@@ -463,20 +466,22 @@ module _ {X : Type 0} (z : Size) (W : Quorum (z .n)) (C : LabelCodec X (z .n)) (
         let P = Left z W C K E S R g (sure v) in
         let Z = Rest z W C K (g .history) (g .u) first-label (tableOf v) in
         let x = always-cur P w (h .sane) (h .left) in
-        let born = zeros-unborn (w .cur) (g .e) (λ B f. Quiet K B (g .history) (g .u) (tableOf v) f) h0 x in
-        let zt = zeros-table (w .cur) (g .history) (g .u) (g .e) v h0 x in
+        let born = zeros-unborn (w .cur) (g .base) (λ B f. Quiet K B (g .history) (g .u) (tableOf v) f) h0 x in
+        let few : W .few (λ d. false) ≡ true = W .part (λ d. false) (g .base .out) (λ d i q. absurd (false≢true q)) (born .1) in
+        let zt = zeros-table (w .cur) (g .history) (g .u) (g .base) v h0 x in
         let r = restart A P Z (flushed-first z W C K E S R A) (round C first-label everyone) (round-spares z W C K A first-label everyone (λ d m. beyond-none (z .n) d (omega (arith, of-from (z .n) 0 d m)))) (λ k a. in-flushed A (slot k) (beyond-in (z .n) (λ d. false) (slot k) a) a) w (h .sane) (h .left)
-        (λ f a y. let zf = zeros-same (w .cur) f (λ k i. a k (beyond-none (z .n) (slot k) i)) h0 in from-zeros f v (g .history) (g .u) (g .e) (born .0) (born .1) zf zt) in
+        (λ f q a y. let zf = zeros-same (w .cur) f (λ k i. a k (beyond-none (z .n) (slot k) i)) h0 in from-zeros f v (g .history) (g .u) (g .base) (born .0) (born .1) few zf zt) in
         record {
           sane = h .sane;
           ghost = g;
+          based = tt;
           early = h .early;
           pends = tt;
           during = r .0;
           ends = record {
             history = g .history;
             u = g .u;
-            used = omega (arith, h .early, S .grows (suc (g .e)) 1 (omega (arith, born .0)));
+            used = omega (arith, h .early, S .grows (suc (g .base .generation)) 1 (omega (arith, born .0)));
             early = S .rises 1;
             born = omega arith;
             epoch-now = omega arith;
@@ -491,8 +496,8 @@ module _ {X : Type 0} (z : Size) (W : Quorum (z .n)) (C : LabelCodec X (z .n)) (
 
     pub create-any : (p : View X) → Off z W C K E S R p w → Busy z W C K E S R creating p w create-list (created z W C K E S R) (created z W C K E S R)
     create-any (sure v) h = create-sure v h
-    create-any (open-write v v') h = absurd (omega (arith, h .pends .born, zeros-unborn (w .cur) (h .ghost .e) (λ B f. Mid K B (h .ghost .history) (h .ghost .u) (tableOf v) (tableOf v') f) h0 (always-cur (Left z W C K E S R (h .ghost) (open-write v v')) w (h .sane) (h .left)) .0))
-    create-any (kept-write v') h = absurd (omega (arith, h .pends .1 .born, zeros-unborn (w .cur) (h .ghost .e) (λ B f. New K B (h .ghost .history) (h .ghost .u) (tableOf v') f) h0 (always-cur (Left z W C K E S R (h .ghost) (kept-write v')) w (h .sane) (h .left)) .0))
+    create-any (open-write v v') h = absurd (omega (arith, h .pends .born, zeros-unborn (w .cur) (h .ghost .base) (λ B f. Mid K B (h .ghost .history) (h .ghost .u) (tableOf v) (tableOf v') f) h0 (always-cur (Left z W C K E S R (h .ghost) (open-write v v')) w (h .sane) (h .left)) .0))
+    create-any (kept-write v') h = absurd (omega (arith, h .pends .1 .born, zeros-unborn (w .cur) (h .ghost .base) (λ B f. New K B (h .ghost .history) (h .ghost .u) (tableOf v') f) h0 (always-cur (Left z W C K E S R (h .ghost) (kept-write v')) w (h .sane) (h .left)) .0))
 
   -- WRITE
   module _ (v : Host X) (w : World X) (o : Own) (sane : Sane w) (h : Ready z W C K E S R v w o) where
@@ -540,7 +545,7 @@ module _ {X : Type 0} (z : Size) (W : Quorum (z .n)) (C : LabelCodec X (z .n)) (
       below τ q = rw (ne-eqb τ (suc (o .count)) (λ e. omega (arith, h .used)))
 
       g : Ghost X
-      g = record { history = history'; u = σ; e = o .epoch }
+      g = record { history = history'; u = σ; base = o .now }
 
       wrote : Wrote (z .n) (K .c) wr (tableOf v) (tableOf v')
       wrote = write-right z W K E (h .history) (h .u) (o .now) v seen-w few-now (seen-quiet (o .absent) (h .dark)) t ch inT
@@ -551,7 +556,7 @@ module _ {X : Type 0} (z : Size) (W : Quorum (z .n)) (C : LabelCodec X (z .n)) (
 
       pending : Pending z W C K E S R g v v'
       unfolding writeOf g
-      pending = record { pos = omega arith; born = h .born; wrote = rw at-σ wrote; inside = rw at-σ inT; broad = rw at-σ (reached-broad z W K E t ch fine) }
+      pending = record { pos = omega arith; born = omega (arith, h .born, h .epoch-now); wrote = rw at-σ wrote; inside = rw at-σ inT; broad = rw at-σ (reached-broad z W K E t ch fine) }
 
       P : Image X → Type 0
       P f = Labels z W C (o .now) (o .now) (o .now .generation) (o .now .out) f
@@ -580,11 +585,12 @@ module _ {X : Type 0} (z : Size) (W : Quorum (z .n)) (C : LabelCodec X (z .n)) (
           record {
             sane = sane;
             ghost = g;
-            early = room;
+            based = refl;
+            early = epoch-grows o (h .epoch-now) σ room;
             pends = pending;
-            during = during-map (λ f. P f × Old K B history' σ σ (tableOf v) f) (Left z W C K E S R g (open-write v v')) w (log-write K B σ wr) (λ f y. record { Q = o .now; since = h .epoch-now; N = o .now; top = o .now .generation; far = o .now .out; labels = y .0; under-Q = inl (y .1); under-N = inl (y .1) }) (logged .0);
+            during = during-map (λ f. P f × Old K B history' σ σ (tableOf v) f) (Left z W C K E S R g (open-write v v')) w (log-write K B σ wr) (λ f y. record { Q = o .now; since = inl refl; N = o .now; top = o .now .generation; far = o .now .out; labels = y .0; under-Q = inl (y .1); under-N = inl (y .1) }) (logged .0);
             ends = record {
-              during = during-map (λ f. P f × New K B history' σ (tableOf v') f) (Left z W C K E S R g (kept-write v')) w1 (store K B (wr .stripe) (wr .changes) (wr .new)) (λ f y. record { Q = o .now; since = h .epoch-now; N = o .now; top = o .now .generation; far = o .now .out; labels = y .0; under-Q = y .1; under-N = y .1 }) (stored .0);
+              during = during-map (λ f. P f × New K B history' σ (tableOf v') f) (Left z W C K E S R g (kept-write v')) w1 (store K B (wr .stripe) (wr .changes) (wr .new)) (λ f y. record { Q = o .now; since = inl refl; N = o .now; top = o .now .generation; far = o .now .out; labels = y .0; under-Q = y .1; under-N = y .1 }) (stored .0);
               ends = record { history = history'; u = σ; used = omega arith; early = room; born = h .born; epoch-now = h .epoch-now; sound = h .sound; most = h .most; rest = stored .1; dark = h .dark };
               spares = store-spares z W C K (o .absent) (o .now) (h .dark) (wr .stripe) (wr .changes) (wr .new);
               reads = (readable, at-σ, during-map (λ f. P f × New K B history' σ (tableOf v') f) (New K B history' σ (tableOf v')) w1 (store K B (wr .stripe) (wr .changes) (wr .new)) (λ f y. y .1) (stored .0));
@@ -599,10 +605,11 @@ module _ {X : Type 0} (z : Size) (W : Quorum (z .n)) (C : LabelCodec X (z .n)) (
         let D : Belief → Image X → Type 0 = λ B f. Quiet K B (h .history) (h .u) (tableOf v) f in
         record {
           sane = sane;
-          ghost = record { history = h .history; u = h .u; e = o .epoch };
-          early = omega (arith, h .used, h .early);
+          ghost = record { history = h .history; u = h .u; base = o .now };
+          based = refl;
+          early = ready-early v w o h;
           pends = tt;
-          during = during-map (Keeps z W C K (h .history) (h .u) (tableOf v) (o .now)) (Shelf z W C (o .epoch) D) w l (λ f y. shelf-less (o .now .generation) (o .epoch) D f (h .epoch-now) (y .0)) (r .0);
+          during = during-map (Keeps z W C K (h .history) (h .u) (tableOf v) (o .now)) (Shelf z W C (o .now) D) w l (λ f y. y .0) (r .0);
           ends = record { history = h .history; u = h .u; used = omega (arith, h .used, c); early = subst (λ (x : ℕ). o' .count < S .base (suc x)) (sym e) (omega (arith, h .early, c)); born = omega (arith, h .born, e); epoch-now = omega (arith, h .epoch-now, e, g); sound = sound; most = most; rest = r .1; dark = dark };
           spares = spares;
           reads = (readable, during-map (Keeps z W C K (h .history) (h .u) (tableOf v) (o .now)) (D (belief z (o .now))) w l (λ f y. y .1) (r .0));
@@ -852,6 +859,7 @@ module _ {X : Type 0} (z : Size) (W : Quorum (z .n)) (C : LabelCodec X (z .n)) (
       record {
         sane = sane-act w a (h .sane);
         ghost = h .ghost;
+        based = h .based;
         early = h .early;
         pends = h .pends;
         during = h .during .1;
@@ -875,7 +883,7 @@ module _ {X : Type 0} (z : Size) (W : Quorum (z .n)) (C : LabelCodec X (z .n)) (
   sim-step starting [] (kept-write v') w o o' h = (sure v', refl, (h .sane, h .ends))
   sim-step (logging wr) [] (sure v) w o o' h = absurd (h .ends)
   sim-step (logging wr) [] (open-write v v') w o o' h =
-      (kept-write v', refl, record { sane = h .sane; ghost = h .ghost; early = h .early; pends = (v, h .pends); during = h .ends .during; ends = h .ends .ends; spares = h .ends .spares; reads = h .ends .reads })
+      (kept-write v', refl, record { sane = h .sane; ghost = h .ghost; based = h .based; early = h .early; pends = (v, h .pends); during = h .ends .during; ends = h .ends .ends; spares = h .ends .spares; reads = h .ends .reads })
   sim-step (logging wr) [] (kept-write v') w o o' h = absurd (h .ends)
   sim-step (storing wr) [] (sure v) w o o' h = absurd (h .ends)
   sim-step (storing wr) [] (open-write v v') w o o' h = absurd (h .ends)

@@ -2,7 +2,7 @@
 use Prim.Native.Nat.{ℕ, suc, _+_, _≤_, _<_}
 use mathlib.Core.Path.{_≡_, refl, sym, ap, _∙_}
 use mathlib.Core.Bool.{Bool, true, false, not, _&&_, true≢false}
-use mathlib.Core.Logic.{_⊎_, ⊎-elim, inl, inr, _≢_}
+use mathlib.Core.Logic.{_⊎_, ⊎-elim, inl, inr}
 use mathlib.Core.List.{List, [], _∷_, _++_, List·Memᴰ, List·Memᴰ·head, List·Memᴰ·eq-of-singleton}
 use native.Mathlib.Omega.{arith}
 use lib.Dec.{eqb}
@@ -94,10 +94,10 @@ module _ {X : Type 0} (z : Size) (W : Quorum (z .n)) (C : LabelCodec X (z .n)) (
 
   -- what holds all the while: the invariant with nothing undecided, and what reads need
   abbrev pub Keeps : Label → Image X → Type 0
-  Keeps Q f = Shelf z W C (Q .generation) QuietB f × QuietB (belief z Q) f
+  Keeps Q f = Shelf z W C Q QuietB f × QuietB (belief z Q) f
 
   rest-keeps : (Q : Label) (f : Image X) → Rest z W C K history u Q s f → Keeps Q f
-  rest-keeps Q f p = (record { Q = Q; since = omega arith; N = Q; top = Q .generation; far = Q .out; labels = p .labels; under-Q = p .quiet; under-N = p .quiet }, p .quiet)
+  rest-keeps Q f p = (record { Q = Q; since = inl refl; N = Q; top = Q .generation; far = Q .out; labels = p .labels; under-Q = p .quiet; under-N = p .quiet }, p .quiet)
 
   rest-wiped : (Q : Label) (d j : ℕ) (f : Image X) → j ≤ K .c → Rest z W C K history u Q s f → Rest z W C K history u Q s (update f (log d j) (K .zeros))
   unfolding Quiet Fit

@@ -3,7 +3,7 @@
 use Prim.Native.Nat.{ℕ, suc, _≤_, _<_}
 use mathlib.Core.Path.{_≡_, refl}
 use mathlib.Core.Bool.{true, false}
-use mathlib.Core.Logic.{_⊎_, ⊎-elim, inl, inr}
+use mathlib.Core.Logic.{⊎-elim, inl, inr}
 use mathlib.Core.List.{List, List·Memᴰ}
 use native.Mathlib.Omega.{arith}
 use lib.Dec.{eqb}
@@ -56,13 +56,13 @@ module _ {X : Type 0} (z : Size) (W : Quorum (z .n)) (C : LabelCodec X (z .n)) (
     QuietB B f = Quiet K B history u s f
 
     -- A LABEL CHANGE: one round of the next generation, over slots that are all that the new label does not call out; strips and records are right under the new label already
-    pub relabel : (Q N : Label) (ds : List ℕ) → N .generation ≡ suc (Q .generation) → W .few (N .out) ≡ true → C .Fits N → ((d : ℕ) → d < z .n → N .out d ≡ false → List·Memᴰ d ds) → (w : World X) → Sane w → Always w (λ f. Rest z W C K history u Q s f × Quiet K (belief z N) history u s f) → During w (round C N ds) (λ f. Shelf z W C (Q .generation) QuietB f × QuietB (belief z Q) f) × Always (run w (round C N ds)) (Rest z W C K history u N s)
+    pub relabel : (Q N : Label) (ds : List ℕ) → N .generation ≡ suc (Q .generation) → W .few (N .out) ≡ true → C .Fits N → ((d : ℕ) → d < z .n → N .out d ≡ false → List·Memᴰ d ds) → (w : World X) → Sane w → Always w (λ f. Rest z W C K history u Q s f × Quiet K (belief z N) history u s f) → During w (round C N ds) (λ f. Shelf z W C Q QuietB f × QuietB (belief z Q) f) × Always (run w (round C N ds)) (Rest z W C K history u N s)
     unfolding Bare
     relabel Q N ds g few fit all w sane h =
         let fr = quiet-framed K history u s in
         let E : Image X → Type 0 = λ f. QuietB (belief z Q) f × QuietB (belief z N) f in
         let bare : Bare z W C E = λ f d b x o. (framed-bare QuietB fr (belief z Q) f d b x (o .0), framed-bare QuietB fr (belief z N) f d b x (o .1)) in
-        let okN : MayRule z W C Q N N = record { few-out = few; narrow = inr (within-self (belief z N)) } in
+        let okN : MayRule z W C Q N N = record { few-out = few; narrow = inr (omega arith, within-self (belief z N)) } in
         let start : Always w (λ f. Labels z W C Q N (N .generation) (Q .out) f × E f × Only z W C (N .generation) N f) =
         always-map (λ f. Rest z W C K history u Q s f × Quiet K (belief z N) history u s f) (λ f. Labels z W C Q N (N .generation) (Q .out) f × E f × Only z W C (N .generation) N f) w
         (λ f o. (
@@ -72,19 +72,19 @@ module _ {X : Type 0} (z : Size) (W : Quorum (z .n)) (C : LabelCodec X (z .n)) (
             low = o .0 .labels .low;
             cap = λ d b i. omega (arith, o .0 .labels .cap d b i);
             near = λ d x i e j. aged-less C f d x (Q .generation) (omega arith) (o .0 .labels .low d i e);
-            fine = λ d b i p j. let y = o .0 .labels .fine d b i p j in record { few-out = y .few-out; narrow = inl (⊎-elim (λ x. x) (λ x. x) (y .narrow)) };
+            fine = λ d b i p j. let y = o .0 .labels .fine d b i p j in record { few-out = y .few-out; narrow = inl (⊎-elim (λ x. x) (λ x. x .1) (y .narrow)) };
           },
           (o .0 .quiet, o .1),
-          only-start z W C Q Q (Q .generation) (Q .out) (N .generation) N f (omega arith) (o .0 .labels),
+          only-start z W C (Q .generation) (N .generation) N f (omega arith) (o .0 .labels .cap),
         )) h in
         let r = round-only z W C Q N (N .generation) (Q .out) N ds E bare w sane fit (omega arith) (omega arith) (omega arith) okN start in (
-          during-map (λ f. Labels z W C Q N (N .generation) (Q .out) f × E f × Only z W C (N .generation) N f) (λ f. Shelf z W C (Q .generation) QuietB f × QuietB (belief z Q) f) w (round C N ds) (λ f o. (record { Q = Q; since = omega arith; N = N; top = N .generation; far = Q .out; labels = o .0; under-Q = o .1 .0; under-N = o .1 .1 }, o .1 .0)) (r .0),
-          always-map (λ f. Labels z W C Q N (N .generation) (Q .out) f × E f × Only z W C (N .generation) N f × ((d x : ℕ) → List·Memᴰ d ds → d < z .n → x ≤ N .generation → Aged C f d x)) (Rest z W C K history u N s) (run w (round C N ds))
-              (λ f o. record { labels = labels-settle z W C Q N (N .generation) (Q .out) N f (omega arith) few (λ d x i e j. o .3 d x (all d i e) i j) (o .2) (o .0); quiet = o .1 .1 }) (r .1),
+          during-map (λ f. Labels z W C Q N (N .generation) (Q .out) f × E f × Only z W C (N .generation) N f) (λ f. Shelf z W C Q QuietB f × QuietB (belief z Q) f) w (round C N ds) (λ f o. (record { Q = Q; since = inl refl; N = N; top = N .generation; far = Q .out; labels = o .0; under-Q = o .1 .0; under-N = o .1 .1 }, o .1 .0)) (r .0),
+          always-map (λ f. (Labels z W C Q N (N .generation) (Q .out) f × E f × Only z W C (N .generation) N f) × ((d x : ℕ) → List·Memᴰ d ds → d < z .n → x ≤ N .generation → Aged C f d x)) (Rest z W C K history u N s) (run w (round C N ds))
+              (λ f o. record { labels = labels-settle z W C N f few (λ d x i e j. o .1 d x (all d i e) i j) (o .0 .2) (o .0 .0 .cap); quiet = o .0 .1 .1 }) (r .1),
         )
 
     -- TAKE SLOT d OUT
-    pub take-out : (Q : Label) (d : ℕ) (ds : List ℕ) → W .few (outed (z .n) Q d .out) ≡ true → C .Fits (outed (z .n) Q d) → ((e : ℕ) → e < z .n → outed (z .n) Q d .out e ≡ false → List·Memᴰ e ds) → (w : World X) → Sane w → Always w (Rest z W C K history u Q s) → During w (round C (outed (z .n) Q d) ds) (λ f. Shelf z W C (Q .generation) QuietB f × QuietB (belief z Q) f) × Always (run w (round C (outed (z .n) Q d) ds)) (Rest z W C K history u (outed (z .n) Q d) s)
+    pub take-out : (Q : Label) (d : ℕ) (ds : List ℕ) → W .few (outed (z .n) Q d .out) ≡ true → C .Fits (outed (z .n) Q d) → ((e : ℕ) → e < z .n → outed (z .n) Q d .out e ≡ false → List·Memᴰ e ds) → (w : World X) → Sane w → Always w (Rest z W C K history u Q s) → During w (round C (outed (z .n) Q d) ds) (λ f. Shelf z W C Q QuietB f × QuietB (belief z Q) f) × Always (run w (round C (outed (z .n) Q d) ds)) (Rest z W C K history u (outed (z .n) Q d) s)
     unfolding Framed
     take-out Q d ds few fit all w sane h =
         relabel Q (outed (z .n) Q d) ds refl few fit all w sane

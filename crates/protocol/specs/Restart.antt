@@ -104,14 +104,15 @@ module _ {X : Type 0} (absent : ℕ → Bool) where
       ⊎-elim (λ e. flushes-may (act w (flush d)) ds k x m .1 e) r (List·Memᴰ·cases-cons i)
 
   -- start-up on a world with caches: flushes of all present slots, and then l
-  pub restart : (P Z : Image X → Type 0) (ds : List ℕ) (l : List (Action X)) → Spares absent l → ((k : Place) → absent (slot k) ≡ false → List·Memᴰ (slot k) ds) → (w : World X) → Sane w → Always w P → ((f : Image X) → ((k : Place) → absent (slot k) ≡ false → f k ≡ w .cur k) → P f → During (after f) l P × Always (run (after f) l) Z) → During w (flushes ds ++ l) P × Always (run w (flushes ds ++ l)) Z
+  pub restart : (P Z : Image X → Type 0) (ds : List ℕ) (l : List (Action X)) → Spares absent l → ((k : Place) → absent (slot k) ≡ false → List·Memᴰ (slot k) ds) → (w : World X) → Sane w → Always w P → ((f : Image X) → Possible w f → ((k : Place) → absent (slot k) ≡ false → f k ≡ w .cur k) → P f → During (after f) l P × Always (run (after f) l) Z) → During w (flushes ds ++ l) P × Always (run w (flushes ds ++ l)) Z
   unfolding Always Possible after
   restart P Z ds l s all w sane h start =
       let w1 = run w (flushes ds) in
       let r = under P Z l s w1 (sane-run w (flushes ds) sane)
       (λ f p.
       let g = mix w f in
-      let y = start g (mix-present w f) (h g (mix-possible w f sane (λ k a. flushes-may w ds k (f k) (p k)))) in (
+      let q = mix-possible w f sane (λ k a. flushes-may w ds k (f k) (p k)) in
+      let y = start g q (mix-present w f) (h g q) in (
         after g,
         record {
           reads = λ k a. flushes-cur w ds k ∙ sym (mix-present w f k a);

@@ -35,7 +35,7 @@ shown (done k) = blank
 shown (block b) = b 0
 shown (found x) = blank
 
-abbrev ask-block : Machine Sector → ℕ → Sector
+abbrev pub ask-block : Machine Sector → ℕ → Sector
 ask-block (at w m) i = shown (program size quorum labels records code stamps medium m (w .cur) (read-block 0 i) .1)
 
 -- power is lost, and each sector holds what was written last

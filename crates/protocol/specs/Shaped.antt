@@ -132,7 +132,7 @@ module _ {X : Type 0} (z : Size) (W : Quorum (z .n)) (C : LabelCodec X (z .n)) (
   Shaped (at w (idle o)) = Always w (Current o)
   Shaped (at w (doing k l o o')) = During w l (Shapes C) × Always (run w l) (Current o')
 
-  shaped-off : (w : World X) (m : Memory X) → Shaped (at w m) → Always w (Shapes C)
+  pub shaped-off : (w : World X) (m : Memory X) → Shaped (at w m) → Always w (Shapes C)
   shaped-off w nothing h = h
   shaped-off w (idle o) h = always-map (Current o) (Shapes C) w (λ f c. c .0) h
   shaped-off w (doing k l o o') h = during-start (Shapes C) w l (h .0)
@@ -155,7 +155,7 @@ module _ {X : Type 0} (z : Size) (W : Quorum (z .n)) (C : LabelCodec X (z .n)) (
   shaped-start : (w : World X) (A : ℕ → Bool) → Sane w → Always w (Shapes C) → may-start z W C K E S R (beyond (z .n) A) (mask z W C K E S R (beyond (z .n) A) (w .cur)) ≡ clear → Shaped (at w (asked-start z W C K E S R (beyond (z .n) A) (mask z W C K E S R (beyond (z .n) A) (w .cur))))
   shaped-start w A0 sane h e =
       restart A (Shapes C) (Current (started z W C K E S R A sn)) (flushed-first z W C K E S R A) (startup z C K A sn) (startup-spares z W C K A sn) (λ k a. Promise.in-flushed z W C K E S R A (slot k) (beyond-in (z .n) A0 (slot k) a) a) w sane h
-      (λ f a s.
+      (λ f q a s.
       let g : (k : Place) → A (slot k) ≡ false → sn k ≡ f k = λ k x. Promise.mask-present z W C K E S R A (w .cur) k x ∙ sym (a k x) in
       let ok = Promise.accept-f z W C K E S R A sn e f g in
       let r = start-shape z W C K A f ok s in
@@ -174,7 +174,7 @@ module _ {X : Type 0} (z : Size) (W : Quorum (z .n)) (C : LabelCodec X (z .n)) (
       let t = create-tests z W C K E S R (mask z W C K E S R A (w .cur)) e in
       let zw : Zeros z W C K E S R (w .cur) = zeros-same z W C K E S R (mask z W C K E S R A (w .cur)) (w .cur) (λ k i. sym (Promise.mask-present z W C K E S R A (w .cur) k (beyond-none (z .n) (slot k) i))) (t .0) in
       restart A (Shapes C) (Current (created z W C K E S R)) (flushed-first z W C K E S R A) (round C l everyone) (round-spares z W C K A l everyone (λ d m. beyond-none (z .n) d (omega (arith, of-from (z .n) 0 d m)))) (λ k a. Promise.in-flushed z W C K E S R A (slot k) (beyond-in (z .n) (λ d. false) (slot k) a) a) w sane h
-      (λ f a s.
+      (λ f q a s.
       let zf : Zeros z W C K E S R f = zeros-same z W C K E S R (w .cur) f (λ k i. a k (beyond-none (z .n) (slot k) i)) zw in
       let r = round-shape C l 0 everyone (λ y. Unit {0}) (λ y d b x m u. tt) refl (R .fits l (proper-new z 1) (omega arith) (t .1)) (λ d m. omega (arith, of-from (z .n) 0 d m)) (after f) (sane-after f)
       (always-after (λ y. Shapes C y × ((d : ℕ) → List·Memᴰ d everyone → Low C y d 0) × Unit {0}) f (s, (λ d m. inl (zf .labels d (C .side 0) (omega (arith, of-from (z .n) 0 d m)) ∙ sym (R .same-zeros))), tt)) in (
@@ -298,13 +298,24 @@ module _ {X : Type 0} (z : Size) (W : Quorum (z .n)) (C : LabelCodec X (z .n)) (
   shaped-doing k l o o' w f (scrub-stripe t) s h = scrub-kept k l o o' w f t (may z W C K E S R true o (scrub-stripe t)) h
   shaped-doing k l o o' w f step s h = shaped-step k l o o' w s h
 
-  shaped-host : (w : World X) (m : Memory X) (i : Input X) (p : View X) → Invariant z W C K E S R (at w m) p → Shaped (at w m) → After w (program z W C K E S R m (w .cur) i)
+  -- what the shape needs of the machine's state: what is read is possible, and if the program is ready it is so with some list
+  abbrev pub Standing : World X → Memory X → Type 0
+  Standing w nothing = Sane w
+  Standing w (idle o) = Sane w × ((v : Host X) × Ready z W C K E S R v w o)
+  Standing w (doing k l o o') = Sane w
+
+  pub standing : (w : World X) (m : Memory X) (p : View X) → Invariant z W C K E S R (at w m) p → Standing w m
+  standing w nothing p h = h .sane
+  standing w (idle o) (sure v) h = (h .0, (v, h .1))
+  standing w (idle o) (open-write v v') h = absurd h
+  standing w (idle o) (kept-write v') h = absurd h
+  standing w (doing k l o o') p h = h .sane
+
+  pub shaped-host : (w : World X) (m : Memory X) (i : Input X) → Standing w m → Shaped (at w m) → Shaped (at (effect w (program z W C K E S R m (w .cur) i .1)) (program z W C K E S R m (w .cur) i .0))
   unfolding program
-  shaped-host w nothing i p inv h = shaped-nothing w i (inv .sane) h
-  shaped-host w (idle o) i (sure v) inv h = shaped-idle w o i v (inv .0) (inv .1) h
-  shaped-host w (idle o) i (open-write v v') inv h = absurd inv
-  shaped-host w (idle o) i (kept-write v') inv h = absurd inv
-  shaped-host w (doing k l o o') i p inv h = shaped-doing k l o o' w (mask z W C K E S R (o .absent) (w .cur)) i (inv .sane) h
+  shaped-host w nothing i s h = shaped-nothing w i s h
+  shaped-host w (idle o) i s h = shaped-idle w o i (s .1 .0) (s .0) (s .1 .1) h
+  shaped-host w (doing k l o o') i s h = shaped-doing k l o o' w (mask z W C K E S R (o .absent) (w .cur)) i s h
 
   -- a disk that is put in has the shape, and its slot is absent until its rebuild begins
   abbrev pub NewShaped : {m m' : Machine X} {e : Event X} → Outside z W C K E S R m e m' → Type 0
@@ -352,7 +363,7 @@ module _ {X : Type 0} (z : Size) (W : Quorum (z .n)) (C : LabelCodec X (z .n)) (
   -- EACH EVENT keeps the shape of every disk
   pub shaped : {m m' : Machine X} {e : Event X} (x : Happens z W C K E S R m e m') → AllShaped x → (p : View X) → Invariant z W C K E S R m p → Shaped m → Shaped m'
   shaped (from-outside x) u p inv h = shaped-outside x u p inv h
-  shaped (from-host {w = w} {m = m} i) u p inv h = shaped-host w m i p inv h
+  shaped (from-host {w = w} {m = m} i) u p inv h = shaped-host w m i (standing w m p inv) h
 
   abbrev pub Tidily : {m m' : Machine X} {l : List (Event X)} → Runs z W C K E S R m l m' → Type 0
   Tidily stays = Unit {0}

@@ -21,7 +21,9 @@ abbrev μ-loop : tie.MeasureT-loop
 
 solve-requires : tie.Need-solve-requires Inv-loop μ-loop
 solve-requires c κs = let s = c .before .before .before .before .before in
-    (s .pre .0 .range, subst (Lost (s .args .k) (s .args .m)) (sym (s .pre .2)) (padded-lost (s .args .k) (s .args .m) (s .args .lost .now) (s .pre .1)), s .pre .3)
+    let known : Lost (s .args .k) (s .args .m) (s .args .all .now) =
+    subst (Lost (s .args .k) (s .args .m)) (sym (s .pre .2)) (padded-lost (s .args .k) (s .args .m) (s .args .lost .now) (s .pre .1)) in
+    (s .pre .0 .range, search needs, s .pre .3)
 
 -- the table that was made, and what it is solved for
 abbrev made : tie.After-solve Inv-loop μ-loop → List ℕ

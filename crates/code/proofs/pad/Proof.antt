@@ -33,10 +33,10 @@ more d =
     padding-more (s .args .k) (s .args .m) (s .args .lost .now) (s .pre .1) (l .c) (l .i) (l .all) (l .inv) (search needs)
 
 sub-a : tie.Need-sub-a Inv-loop μ-loop
-sub-a c = more c
+sub-a c = omega (arith, more c)
 
 cast-a : tie.Need-cast-a Inv-loop μ-loop
-cast-a c = let g = c .before .before .before .before .before .before .before .before .pre .0 in omega (arith, g .k-most, g .m-most)
+cast-a c = let g = c .before .before .before .before .before .before .before .before .pre .0 in omega (arith, more c, g .k-most, g .m-most)
 
 named-requires : tie.Need-named-requires Inv-loop μ-loop
 named-requires c κs = search needs

@@ -4,7 +4,7 @@ use native.Mathlib.Omega.{arith}
 use borrow.Author.Needs.{needs}
 use lib.ListN.{getD}
 use lib.Bits.{bitXor}
-use Rattle.code.specs.SolveTurns.{Adding, adding-first, adding-turn, adding-done}
+use Rattle.code.specs.SolveTurns.{Adding, adding-none, adding-first, adding-turn, adding-done}
 use Rattle.code.proofs.solve.add_row.Statement.{statement}
 use Rattle.code.proofs.solve.add_row.Tie as tie
 
@@ -13,6 +13,9 @@ Inv-loop e₀ n dst src c to from i₀ e i = Adding n dst src c i e₀ e
 
 abbrev μ-loop : tie.MeasureT-loop
 μ-loop e₀ n dst src c to from i₀ e i = n - i
+
+returns : tie.Need-returns Inv-loop μ-loop
+returns c = adding-none _ _ _ _ _ (c .if1 .taken)
 
 mul-to : tie.Need-mul-to Inv-loop μ-loop
 mul-to c = search needs
@@ -52,16 +55,17 @@ loop-less c = search needs
 
 loop-again : tie.Need-loop-again Inv-loop μ-loop
 loop-again c = let l = c .before .before .before .before .loop in
-    let a = c .before .before .before .before .before .before .args in
+    let s = c .before .before .before .before .before .before .before in
+    let a = s .args in
     adding-turn (a .n) (a .dst) (a .src) (a .c) _ (l .i) _ (l .e) (l .inv)
-    (c .before .before .before .loop-test .taken) (c .before .before .before .before .before .before .pre .0)
+    (c .before .before .before .loop-test .taken) (s .pre .0)
     (ap (bitXor (getD (l .e) (a .dst * a .n + l .i) 0)) (c .mul .ensures))
 
 same-length : tie.Need-same-length Inv-loop μ-loop
 same-length c = c .before .loop .inv .same
 
-returns : tie.Need-returns Inv-loop μ-loop
-returns c = let l = c .before .loop in let a = c .before .before .before .args in
+returns-2 : tie.Need-returns-2 Inv-loop μ-loop
+returns-2 c = let l = c .before .loop in let a = c .before .before .before .before .args in
     adding-done (a .n) (a .dst) (a .src) (a .c) _ (l .i) (l .e) (l .inv) (c .loop-test .left)
 
 pub add-row-spec : {M : Type 1} → statement M
@@ -70,6 +74,7 @@ add-row-spec =
     (tie.spec
     Inv-loop
     μ-loop
+    returns
     mul-to
     mul-from
     loop-holds
@@ -84,4 +89,4 @@ add-row-spec =
     loop-less
     loop-again
     same-length
-    returns)
+    returns-2)

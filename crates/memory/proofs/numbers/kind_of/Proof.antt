@@ -1,0 +1,31 @@
+-- Each arm is a case of `kindOf`.
+use borrow.Author.Tests.{ne-eqb}
+use mathlib.Core.Path.{sym, ap}
+use Rattle.memory.specs.Numbers.{kindOf}
+use Rattle.memory.proofs.numbers.kind_of.Statement.{statement}
+use Rattle.memory.proofs.numbers.kind_of.Tie as tie
+
+returns : tie.Need-returns
+unfolding kindOf
+returns c = sym (ap kindOf (c .match .keys1))
+
+returns-2 : tie.Need-returns-2
+unfolding kindOf
+returns-2 c = sym (ap kindOf (c .match .keys2))
+
+returns-3 : tie.Need-returns-3
+unfolding kindOf
+returns-3 c = sym (ap kindOf (c .match .keys3))
+
+returns-4 : tie.Need-returns-4
+unfolding kindOf
+returns-4 c = sym (ap kindOf (c .match .keys4))
+
+returns-5 : tie.Need-returns-5
+unfolding kindOf
+returns-5 c =
+    let n = c .match .rest in
+    rw (ne-eqb _ _ (n .0 .0 .0 .1), ne-eqb _ _ (n .0 .0 .1), ne-eqb _ _ (n .0 .1), ne-eqb _ _ (n .1))
+
+pub kind-of-spec : {M : Type 1} → statement M
+kind-of-spec = tie.close (tie.spec returns returns-2 returns-3 returns-4 returns-5)

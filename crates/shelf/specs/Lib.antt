@@ -1,0 +1,8 @@
+pub mod Limits
+pub mod State
+pub mod Stage
+pub mod Act
+pub mod Step
+pub mod Says
+pub mod Laws
+pub mod Bound

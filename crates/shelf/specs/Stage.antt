@@ -1,0 +1,72 @@
+-- The stages of each request. Assumes nothing.
+use mathlib.Core.Bool.{cond}
+use Prim.Native.Nat.{ℕ, _+_, _-_}
+use lib.Dec.{eqb, leb}
+use Rattle.label.specs.declared.fields.Label.{Label}
+use Rattle.shelf.specs.declared.state.State.{State}
+use Rattle.shelf.specs.declared.state.Kind.{Kind}
+use Rattle.shelf.specs.declared.state.Kind.the-variants.{Nothing, Idle, Creating, Starting, Labelling}
+use Rattle.shelf.specs.declared.stage.Stage.{Stage}
+use Rattle.shelf.specs.declared.stage.Stage.the-variants.{Flush, Give, Wipe, Restore, End}
+
+-- the label with another generation
+abbrev pub again : Label → ℕ → Label
+again l g =
+    record {
+      k = l .k;
+      m = l .m;
+      slot = l .slot;
+      c = l .c;
+      sectors = l .sectors;
+      shelf = l .shelf;
+      generation = g;
+      out = l .out;
+      rebuilding = l .rebuilding;
+      mark = l .mark;
+    }
+
+-- the slots that a stage goes over
+abbrev pub slotsOf : Stage → ℕ
+slotsOf (Flush slots) = slots
+slotsOf (Give slots zeroed l) = slots
+slotsOf (Wipe slots) = slots
+slotsOf (Restore slots stripe) = slots
+slotsOf End = 0
+
+-- a round: the label to each slot, then a flush of each
+unfoldable pub roundStage : ℕ → ℕ → Label → Stage
+roundStage i slots l = cond (eqb i 0) (Give slots 0 l) (cond (eqb i 1) (Flush slots) End)
+
+-- start-up from its rounds on: the stale slots are prepared and adopt the settled label; then the log
+unfoldable pub lateStage : State → ℕ → Stage
+lateStage s i =
+    cond (eqb i 0) (Give (s .marks .prep) (s .marks .zeroed) (again (s .next) (s .now .generation + 1)))
+    (cond (eqb i 1) (Flush (s .marks .prep))
+    (cond (leb i 3) (roundStage (i - 2) (s .marks .late) (s .next))
+    (cond (eqb i 4) (cond (s .marks .forward) (Restore (s .marks .redo) (s .marks .stripe)) (Wipe (s .marks .redo)))
+    (cond (eqb i 5) (Flush (s .marks .redo)) End))))
+
+-- start-up: a flush of all, then three rounds: the label as it stands, once more with the next generation, and the one
+-- that it settles
+unfoldable pub startStage : State → ℕ → Stage
+startStage s i =
+    cond (eqb i 0) (Flush (s .marks .present))
+    (cond (leb i 2) (roundStage (i - 1) (s .marks .parts) (s .now))
+    (cond (leb i 4) (roundStage (i - 3) (s .marks .parts) (again (s .now) (s .now .generation + 1)))
+    (cond (leb i 6) (roundStage (i - 5) (s .marks .parts) (s .next)) (lateStage s (i - 7)))))
+
+-- create: a flush of all, then the first label to all
+unfoldable pub createStage : State → ℕ → Stage
+createStage s i = cond (eqb i 0) (Flush (s .marks .present)) (roundStage (i - 1) (s .marks .present) (s .next))
+
+-- stage i of a request
+abbrev pub stageAt : Kind → State → ℕ → Stage
+stageAt Nothing s i = End
+stageAt Idle s i = End
+stageAt Creating s i = createStage s i
+stageAt Starting s i = startStage s i
+stageAt Labelling s i = roundStage i (s .marks .present) (s .next)
+
+-- the stage at which the request is
+abbrev pub stageOf : State → Stage
+stageOf s = stageAt (s .kind) s (s .cursor .stage)

@@ -1,0 +1,189 @@
+// One action of a stage, on one slot: at most one sector of the image changes, wholly, and only of a present slot.
+use crate::stage::Stage;
+use crate::state::Answer;
+use crate::state::State;
+use crate::state::Stepped;
+use crate::state::at;
+use disk::geometry::Found;
+use disk::geometry::Geometry;
+use disk::geometry::strip;
+use disk::limits::FIRST_LOG;
+use disk::limits::SECTOR;
+use disk::mask::has;
+use disk::refusal::Outcome;
+use disk::refusal::Refusal;
+use disk::sector::put;
+use label::codec::encode;
+use label::fields::Label;
+use record::log::area;
+use record::log::restore;
+ghost use mathlib.Core.Path.{_≡_};
+ghost use Prim.Native.Nat.{_≤_, _<_, _%_};
+ghost use Rattle.disk.specs.Limits.{mostN, mostC};
+ghost use Rattle.disk.specs.Mask.{inMask};
+ghost use Rattle.shelf.specs.Act.{onward, refusal, putMove, flushMove, named, giveMove, wipeMove, restoreMove, actMove};
+
+// The state after sector `sector` of `count` was put on slot d.
+fn onward_from(s: State, d: usize, count: usize) -> State
+    requires { ⌜ (d < mostN) × (s .cursor .sector < mostC) ⌝ }
+    ensures { λ r. ⌜ r ≡ onward s d count ⌝ }
+{
+    let cursor = s.cursor;
+    if cursor.sector + 1 < count {
+        return at(s, cursor.stage, d, cursor.sector + 1);
+    }
+    at(s, cursor.stage, d + 1, 0)
+}
+
+// A refusal leaves the state as it was.
+pub(crate) fn refuse(s: State, why: Refusal) -> Stepped
+    ensures { λ r. ⌜ r ≡ refusal s why ⌝ }
+{
+    Stepped {
+        state: s,
+        answer: Answer::Refused(why),
+    }
+}
+
+// Whether slot d is absent.
+fn is_absent(s: State, d: usize) -> bool
+    ensures { λ r. ⌜ r ≡ inMask (s .absent) d ⌝ }
+{
+    has(s.absent, d)
+}
+
+// Puts these bytes at sector `to` of slot d, one of `count`.
+fn put_bytes(
+    s: State,
+    g: Geometry,
+    d: usize,
+    to: usize,
+    count: usize,
+    bytes: &[u8],
+    image: &mut [u8],
+) -> Stepped
+    requires { ⌜ (d < mostN) × (s .cursor .sector < mostC) ⌝ }
+    ensures { λ r. ⌜ (r ≡ putMove s g d to count (now (bytes .entry)) (now (image .entry)) .stepped) × (now (image .exit) ≡ putMove s g d to count (now (bytes .entry)) (now (image .entry)) .image) ⌝ }
+{
+    if is_absent(s, d) {
+        return refuse(s, Refusal::NotNow);
+    }
+    let outcome = put(image, g, d, to, bytes);
+    match outcome {
+        Outcome::Done => {
+            let on = onward_from(s, d, count);
+            Stepped {
+                state: on,
+                answer: Answer::Put {
+                    slot: d,
+                    sector: to,
+                },
+            }
+        }
+        Outcome::Refused(why) => refuse(s, why),
+    }
+}
+
+// Says that slot d is to be flushed.
+fn flush(s: State, d: usize) -> Stepped
+    requires { ⌜ (d < mostN) × (s .cursor .sector < mostC) ⌝ }
+    ensures { λ r. ⌜ r ≡ flushMove s d ⌝ }
+{
+    if is_absent(s, d) {
+        return refuse(s, Refusal::NotNow);
+    }
+    let on = onward_from(s, d, 1);
+    Stepped {
+        state: on,
+        answer: Answer::Flush { slot: d },
+    }
+}
+
+// The label for slot d.
+fn name(l: Label, d: usize) -> Label
+    ensures { λ r. ⌜ r ≡ named l d ⌝ }
+{
+    Label {
+        k: l.k,
+        m: l.m,
+        slot: d,
+        c: l.c,
+        sectors: l.sectors,
+        shelf: l.shelf,
+        generation: l.generation,
+        out: l.out,
+        rebuilding: l.rebuilding,
+        mark: l.mark,
+    }
+}
+
+// The sector of the label: 1 for an odd generation, 0 for an even one.
+fn side(l: Label) -> usize
+    ensures { λ r. ⌜ r ≡ l .generation % 2 ⌝ }
+{
+    (l.generation % 2) as usize
+}
+
+// Gives slot d the label, or zeros over the sector that is the label's.
+fn give(s: State, g: Geometry, d: usize, zeroed: u64, l: Label, image: &mut [u8]) -> Stepped
+    requires { ⌜ (d < mostN) × (s .cursor .sector < mostC) ⌝ }
+    ensures { λ r. ⌜ (r ≡ giveMove s g d zeroed l (now (image .entry)) .stepped) × (now (image .exit) ≡ giveMove s g d zeroed l (now (image .entry)) .image) ⌝ }
+{
+    let to = side(l);
+    let mut b = [0u8; SECTOR];
+    if has(zeroed, d) {
+        return put_bytes(s, g, d, to, 1, &b, image);
+    }
+    let outcome = encode(name(l, d), &mut b);
+    match outcome {
+        Outcome::Done => put_bytes(s, g, d, to, 1, &b, image),
+        Outcome::Refused(_) => refuse(s, Refusal::NotNow),
+    }
+}
+
+// Zeros over the tail of slot d's record.
+fn wipe(s: State, g: Geometry, d: usize, image: &mut [u8]) -> Stepped
+    requires { ⌜ (d < mostN) × (s .cursor .sector < mostC) × (g .c ≤ mostC) ⌝ }
+    ensures { λ r. ⌜ (r ≡ wipeMove s g d (now (image .entry)) .stepped) × (now (image .exit) ≡ wipeMove s g d (now (image .entry)) .image) ⌝ }
+{
+    let b = [0u8; SECTOR];
+    put_bytes(s, g, d, FIRST_LOG + g.c, 1, &b, image)
+}
+
+// Gives slot d the next sector of its strip of that stripe from its record.
+fn redo(s: State, g: Geometry, d: usize, stripe: usize, image: &mut [u8]) -> Stepped
+    requires { ⌜ (d < mostN) × (s .cursor .sector < mostC) ⌝ }
+    ensures { λ r. ⌜ (r ≡ restoreMove s g d stripe (now (image .entry)) .stepped) × (now (image .exit) ≡ restoreMove s g d stripe (now (image .entry)) .image) ⌝ }
+{
+    let cursor = s.cursor;
+    let mut b = [0u8; SECTOR];
+    let outcome = restore(area(image, g, d), g.c, cursor.sector, &mut b);
+    match outcome {
+        Outcome::Refused(_) => refuse(s, Refusal::NotNow),
+        Outcome::Done => {
+            let first = strip(g, stripe);
+            match first {
+                Found::Refused(_) => refuse(s, Refusal::NotNow),
+                Found::At(p) => put_bytes(s, g, d, p + cursor.sector, g.c, &b, image),
+            }
+        }
+    }
+}
+
+// The next action of the stage, on slot d.
+pub(crate) fn act(s: State, g: Geometry, stage: Stage, d: usize, image: &mut [u8]) -> Stepped
+    requires { ⌜ (d < mostN) × (s .cursor .sector < mostC) × (g .c ≤ mostC) ⌝ }
+    ensures { λ r. ⌜ (r ≡ actMove s g stage d (now (image .entry)) .stepped) × (now (image .exit) ≡ actMove s g stage d (now (image .entry)) .image) ⌝ }
+{
+    match stage {
+        Stage::Flush { slots: _ } => flush(s, d),
+        Stage::Give {
+            slots: _,
+            zeroed,
+            label,
+        } => give(s, g, d, zeroed, label, image),
+        Stage::Wipe { slots: _ } => wipe(s, g, d, image),
+        Stage::Restore { slots: _, stripe } => redo(s, g, d, stripe, image),
+        Stage::End => refuse(s, Refusal::NotNow),
+    }
+}
