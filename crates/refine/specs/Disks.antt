@@ -15,7 +15,7 @@ use Rattle.disk.specs.Limits.{sectorBytes}
 use Rattle.disk.specs.Tests.{both}
 use Rattle.disk.specs.Geometry.{inRange, imageBytes}
 use Rattle.disk.specs.Image.{place, sector, putSector, Shape, fitsImage, onShelf, readOf, length-sector, shape-put, sector-put, sector-put-other}
-use Rattle.protocol.specs.World.{Place, slot, Image, update, update-here, update-other, same-or-not}
+use Rattle.protocol.specs.World.{Place, slot, same, same-true, Image, update, update-here, update-other, same-or-not}
 use Rattle.protocol.specs.Program.{mask}
 use Rattle.codecs.specs.Sector.{Sector, Bytes, zeros, sector-path, bytes-append, bytes-take, bytes-drop}
 use Rattle.codecs.specs.Shelf.{Shelf, slots, geometry, size, in-limits}
@@ -137,6 +137,17 @@ module _ (z : Shelf) where
     pub seen-absent : (img : List ℕ) (k : Place) → A (slot k) ≡ true → seenOf z A img k ≡ zeros
     unfolding seenOf
     seen-absent img k e = rw e
+
+    -- a put of a present slot's sector is the protocol's put, as far as it is seen
+    pub seen-put : (img : List ℕ) → Disks z img → (k : Place) (v : Sector) → inside z k ≡ true → A (slot k) ≡ false
+        → seenOf z A (putSector (z .sectors) img (slot k) (sectorOf z k) (v .bytes)) ≡ update (seenOf z A img) k v
+    unfolding seenOf update
+    seen-put img disks k v i e =
+        ap {B = Image Sector} (λ (f : Image Sector) (l : Place). cond (A (slot l)) zeros (f l)) (cur-put img disks k v i) ∙ fun-ext (λ l. go l (same l k) refl)
+      where
+        go : (l : Place) (b : Bool) → same l k ≡ b → cond (A (slot l)) zeros (cond b v (curOf z img l)) ≡ cond b v (cond (A (slot l)) zeros (curOf z img l))
+        go l true q = ap (λ (x : Bool). cond x zeros v) (ap (λ (p : Place). A (slot p)) (same-true l k q) ∙ e)
+        go l false q = refl
 
     -- two images that agree on the sectors of the present slots are seen alike
     pub seen-same : (a b : List ℕ) → Disks z a → Disks z b → ((d s : ℕ) → A d ≡ false → d < slots z → s < z .sectors → sector (z .sectors) a d s ≡ sector (z .sectors) b d s)

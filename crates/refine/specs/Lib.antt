@@ -1,5 +1,11 @@
 pub mod Places
 pub mod Disks
+pub mod Labels
+pub mod Told
+pub mod Rounds
+pub mod Redo
+pub mod Refusals
+pub mod Start
 pub mod Given
 pub mod ToDo
 pub mod Restored

@@ -3,13 +3,14 @@
 use mathlib.Core.Path.{_≡_, refl, sym, ap, ap₂, _∙_, fun-ext}
 use mathlib.Core.Bool.{Bool, true, false, cond, not}
 use mathlib.Core.List.{List, [], _∷_, _++_}
-use Prim.Native.Nat.{ℕ, zero, suc, _+_, _-_, _≤_, _<_}
+use Prim.Native.Nat.{ℕ, _+_, _-_, _<_}
 use native.Mathlib.Omega.{arith}
 use borrow.Author.Tests.{lt-ltb}
 use Rattle.disk.specs.Mask.{inMask, in-past}
 use Rattle.label.specs.declared.fields.Label as bytes
 use Rattle.protocol.specs.World.{slot, Image, Action}
 use Rattle.protocol.specs.Batch.{puts, flushes, actions}
+use Rattle.protocol.specs.Slots as Slots
 use Rattle.protocol.specs.Slots.{from, keep, rows}
 use Rattle.protocol.specs.Label.{Label, there, told, round}
 use Rattle.protocol.specs.Program.{new-label, beyond, flushed-first, told-to}
@@ -33,6 +34,7 @@ use Rattle.shelf.specs.declared.state.Kind.the-variants.{Creating, Labelling}
 use Rattle.shelf.specs.declared.stage.Stage.{Stage}
 use Rattle.shelf.specs.declared.stage.Stage.the-variants.{Flush, Give}
 use Rattle.refine.specs.Disks.{curOf}
+use Rattle.refine.specs.Start.{slots-same}
 use Rattle.refine.specs.ToDo.{slotsFrom, given, actsOf, leftOf, toDo, stage-same, left-ended, left-at}
 
 -- ---- a mask that says what a test says
@@ -40,14 +42,11 @@ use Rattle.refine.specs.ToDo.{slotsFrom, given, actsOf, leftOf, toDo, st
 abbrev pub Says : Shelf → ℕ → (ℕ → Bool) → Type 0
 Says z mask p = (d : ℕ) → d < slots z → inMask mask d ≡ p d
 
-keep-same : (p q : ℕ → Bool) (a n : ℕ) → ((d : ℕ) → a ≤ d → d < a + n → p d ≡ q d) → keep p (from a n) ≡ keep q (from a n)
-keep-same p q a zero h = refl
-keep-same p q a (suc n) h = ap₂ (λ (b : Bool) (l : List ℕ). cond b (a ∷ l) l) (h a (omega arith) (omega arith)) (keep-same p q (suc a) n (λ d x y. h d (omega arith) (omega arith)))
-
 pub slots-are : (z : Shelf) (mask : ℕ) (p : ℕ → Bool) → Says z mask p → slotsFrom (slots z) mask 0 ≡ keep p (from 0 (slots z))
+unfolding Slots.slots
 slots-are z mask p h =
     let q : slots z - 0 ≡ slots z = omega arith in
-    ap (λ (n : ℕ). keep (inMask mask) (from 0 n)) q ∙ keep-same (inMask mask) p 0 (slots z) (λ d a l. h d (omega arith))
+    ap (λ (n : ℕ). keep (inMask mask) (from 0 n)) q ∙ slots-same (slots z) (inMask mask) p h
 
 -- ---- stage by stage
 

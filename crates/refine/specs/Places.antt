@@ -8,16 +8,19 @@ use native.Mathlib.Omega.{arith}
 use lib.Arith.{digits-div, digits-mod}
 use lib.Dec.{ltb, leb}
 use borrow.Author.Tests.{ltb-true, lt-ltb, leb-true, le-leb}
-use Rattle.disk.specs.Limits.{firstLog, firstStrip}
+use Rattle.disk.specs.Limits.{firstLog}
 use Rattle.disk.specs.Tests.{and-left, and-right, both}
-use Rattle.disk.specs.Geometry.{stripesOf, stripOf, InRange, strip-inside}
+use Rattle.disk.specs.Geometry.{stripesOf, stripOf, strip-inside}
 use Rattle.protocol.specs.World.{Place, label, log, strip, slot}
 use Rattle.codecs.specs.Shelf.{Shelf, slots, geometry, limits}
-use Rattle.codecs.specs.Labels as Labels
+
+-- the sector of a copy of the label
+unfoldable pub copySector : Bool → ℕ
+copySector b = cond b 1 0
 
 -- the sector of a place
 unfoldable pub sectorOf : Shelf → Place → ℕ
-sectorOf z (label d b) = Labels.sectorOf b
+sectorOf z (label d b) = copySector b
 sectorOf z (log d j) = firstLog + j
 sectorOf z (strip d t j) = stripOf (geometry z) t + j
 
@@ -61,7 +64,8 @@ module _ (z : Shelf) where
   slot-below (log d j) e = ltb-true d (slots z) (and-left (ltb d (slots z)) (leb j (z .c)) e)
   slot-below (strip d t j) e = ltb-true d (slots z) (and-left (ltb d (slots z)) (ltb t (stripesOf (geometry z)) && ltb j (z .c)) e)
 
-  copy-below : (b : Bool) → Labels.sectorOf b < firstLog
+  copy-below : (b : Bool) → copySector b < firstLog
+  unfolding copySector
   copy-below true = omega arith
   copy-below false = omega arith
 
@@ -73,7 +77,8 @@ module _ (z : Shelf) where
 
   -- ---- and apart
 
-  copy-one : (b u : Bool) → Labels.sectorOf b ≡ Labels.sectorOf u → b ≡ u
+  copy-one : (b u : Bool) → copySector b ≡ copySector u → b ≡ u
+  unfolding copySector
   copy-one true true e = refl
   copy-one true false e = absurd (omega arith)
   copy-one false true e = absurd (omega arith)

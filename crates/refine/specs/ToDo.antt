@@ -18,7 +18,7 @@ use Rattle.protocol.specs.Slots.{from, keep, row, rows}
 use Rattle.protocol.specs.Write.{stored}
 use Rattle.codecs.specs.Sector.{Sector, zeros}
 use Rattle.codecs.specs.Shelf.{Shelf, slots}
-use Rattle.codecs.specs.Labels.{sideOf, labelOf, encodeLabel}
+use Rattle.codecs.specs.Labels.{sideOf, sector-side, labelOf, encodeLabel}
 use Rattle.codecs.specs.Records.{pieceOf, records}
 use Rattle.shelf.specs.Limits.{mostStages}
 use Rattle.shelf.specs.State.{moved}
@@ -29,9 +29,8 @@ use Rattle.shelf.specs.declared.state.Kind.{Kind}
 use Rattle.shelf.specs.declared.state.Kind.the-variants.{Nothing, Idle, Creating, Starting, Labelling}
 use Rattle.shelf.specs.declared.stage.Stage.{Stage}
 use Rattle.shelf.specs.declared.stage.Stage.the-variants.{Flush, Give, Wipe, Restore, End}
-use Rattle.refine.specs.Places.{sectorOf}
+use Rattle.refine.specs.Places.{copySector, sectorOf}
 use Rattle.refine.specs.Disks.{curOf}
-use Rattle.refine.specs.Given.{side-sector}
 
 -- ---- definitions
 
@@ -81,8 +80,8 @@ toDo z s img = leftOf z (curOf z img) mostStages s
 
 module _ (z : Shelf) where
   pub told-sector : (l : bytes.Label) (d i : ℕ) → sectorOf z (toldAt l d i) ≡ l .generation % 2
-  unfolding sectorOf
-  told-sector l d i = side-sector (l .generation)
+  unfolding sectorOf copySector
+  told-sector l d i = sector-side (l .generation)
 
   pub tail-sector : (d i : ℕ) → sectorOf z (tailAt z d i) ≡ firstLog + z .c
   unfolding sectorOf
