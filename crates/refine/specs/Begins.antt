@@ -64,17 +64,17 @@ module _ (z : Shelf) (l : bytes.Label) (same : ours z l ≡ true) (fit : fitsOf 
 
 -- ---- requests
 
-module _ (z : Shelf) (s : State) (img : List ℕ) (in-range : sound s ≡ true) (ours-now : ours z (s .now) ≡ true) (disks : Disks z img) (ours-next : ours z (s .next) ≡ true) (fit-next : fitsOf (s .next) ≡ true) where
+module _ (z : Shelf) (s : State) (img : List ℕ) (in-range : sound s ≡ true) (ours-now : ours z (s .now) ≡ true) (disks : Disks z img) where
   fair-by : (k : Kind) → s .kind ≡ k → ((i : ℕ) → Can z (s .absent) (stageAt k s i)) → Fair z s img
   fair-by k e h = record { in-range = in-range; ours-now = ours-now; disks = disks; stages = λ i. subst (λ (x : Kind). Can z (s .absent) (stageAt x s i)) (sym e) (h i) }
 
   -- CREATE
-  pub create-fair : s .kind ≡ Creating → Present z (s .absent) (s .marks .present) → Fair z s img
-  create-fair e p = fair-by Creating e (create-each (Can z (s .absent)) tt s p (p, tells z (s .next) ours-next fit-next))
+  pub create-fair : s .kind ≡ Creating → Present z (s .absent) (s .marks .present) → Tells z (s .next) → Fair z s img
+  create-fair e p t = fair-by Creating e (create-each (Can z (s .absent)) tt s p (p, t))
 
   -- A LABEL CHANGE
-  pub change-fair : s .kind ≡ Labelling → Present z (s .absent) (s .marks .present) → Fair z s img
-  change-fair e p = fair-by Labelling e (round-each (Can z (s .absent)) tt (s .marks .present) (s .next) (p, tells z (s .next) ours-next fit-next) p)
+  pub change-fair : s .kind ≡ Labelling → Present z (s .absent) (s .marks .present) → Tells z (s .next) → Fair z s img
+  change-fair e p t = fair-by Labelling e (round-each (Can z (s .absent)) tt (s .marks .present) (s .next) (p, t) p)
 
   -- START-UP
   module _ (A : ℕ → Bool) (h : Starts z A img s) (absent : Says z (s .absent) A) where
@@ -124,9 +124,9 @@ module _ (z : Shelf) (s : State) (img : List ℕ) (in-range : sound s ≡ true) 
             let w = h .kill p q in
             (present-by (s .marks .redo) (wipes z A img) (w .1) wipes-there, λ f d i e. absurd (false≢true (sym (w .0) ∙ f)))
 
-    pub start-fair : s .now .generation + 1 ≤ mostGeneration → Fair z s img
+    pub start-fair : ours z (s .next) ≡ true → fitsOf (s .next) ≡ true → s .now .generation + 1 ≤ mostGeneration → Fair z s img
     unfolding sound
-    start-fair high =
+    start-fair ours-next fit-next high =
         let fit-now : fitsOf (s .now) ≡ true = and-left (fitsOf (s .now)) _ in-range in
         let present = present-by (s .marks .present) (λ d. not (A d)) (h .present) (λ d i e. not-true (A d) e) in
         let parts = present-by (s .marks .parts) (λ d. not (gone (size z) (labels z) A (sight z A img) d)) (h .parts) parts-there in

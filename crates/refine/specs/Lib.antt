@@ -15,3 +15,4 @@ pub mod StartList
 pub mod Begins
 pub mod Tied
 pub mod Asked
+pub mod Requests
