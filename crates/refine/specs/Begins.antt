@@ -1,11 +1,12 @@
 -- The states with which requests begin are in order: their masks name present slots, and their labels can be told to each slot.
 -- Assumes nothing.
 use mathlib.Core.Path.{_≡_, refl, sym, ap, subst, _∙_}
+use mathlib.Core.Logic.{inl, inr}
 use mathlib.Core.Bool.{Bool, true, false, not, false≢true}
 use mathlib.Core.List.{List}
 use Prim.Native.Nat.{ℕ, _+_, _≤_, _<_}
 use native.Mathlib.Omega.{arith}
-use lib.Dec.{eqb, ltb, leb}
+use lib.Dec.{ltb, leb}
 use borrow.Author.Tests.{lt-ltb, le-leb, not-true}
 use Rattle.disk.specs.Limits.{mostK, mostM}
 use Rattle.disk.specs.Tests.{and-left, and-right, both}
@@ -15,7 +16,6 @@ use Rattle.label.specs.Fields.{mostGeneration, geometryOf, rebuildFits, fitsOf}
 use Rattle.label.specs.Newest.{sameShelf}
 use Rattle.label.specs.declared.fields.Label as bytes
 use Rattle.label.proofs.Fits.{fits-says}
-use Rattle.protocol.specs.Redo.{whole}
 use Rattle.protocol.specs.Label.{belief, believe-of}
 use Rattle.protocol.specs.Startup.{gone, stale}
 use Rattle.codecs.specs.Shelf.{Shelf, slots, geometry, size}
@@ -32,7 +32,7 @@ use Rattle.refine.specs.ToDo.{round-each, create-each, start-each}
 use Rattle.refine.specs.Steps.{Present, Tells, Can, Fair}
 use Rattle.refine.specs.Lists.{Says}
 use Rattle.refine.specs.Given.{shelf-geometry}
-use Rattle.refine.specs.StartList.{sight, settles, B, stamp, last, adopts, readies, forwards, wipes, Starts, gone-there, seen-there}
+use Rattle.refine.specs.StartList.{LogPart, sight, settles, B, last, adopts, readies, forwards, wipes, Starts, gone-there, seen-there}
 
 -- ---- labels
 
@@ -112,17 +112,12 @@ module _ (z : Shelf) (s : State) (img : List ℕ) (in-range : sound s ≡ true) 
 
     -- the slots of the log part are present, and a strip that is restored is one of the shelf
     redo-there : Present z (s .absent) (s .marks .redo) × (s .marks .forward ≡ true → (d : ℕ) → d < slots z → inMask (s .marks .redo) d ≡ true → s .marks .stripe < stripesOf (geometry z))
-    redo-there = by (eqb (stamp z A img) 0) refl (whole (records z) (B z A img) (sight z A img)) refl
+    redo-there = by (h .log-part)
       where
-        by : (a : Bool) → eqb (stamp z A img) 0 ≡ a → (b : Bool) → whole (records z) (B z A img) (sight z A img) ≡ b
-            → Present z (s .absent) (s .marks .redo) × (s .marks .forward ≡ true → (d : ℕ) → d < slots z → inMask (s .marks .redo) d ≡ true → s .marks .stripe < stripesOf (geometry z))
-        by true p b q = (λ d i e. absurd (false≢true (sym (h .none p d i) ∙ e)), λ f d i e. absurd (false≢true (sym (h .none p d i) ∙ e)))
-        by false p true q =
-            let w = h .forward p q in
-            (present-by (s .marks .redo) (forwards z A img) (w .2) forwards-there, λ f d i e. omega (arith, w .1, forwards-in d (sym (w .2 d i) ∙ e)))
-        by false p false q =
-            let w = h .kill p q in
-            (present-by (s .marks .redo) (wipes z A img) (w .1) wipes-there, λ f d i e. absurd (false≢true (sym (w .0) ∙ f)))
+        by : LogPart z A img s → Present z (s .absent) (s .marks .redo) × (s .marks .forward ≡ true → (d : ℕ) → d < slots z → inMask (s .marks .redo) d ≡ true → s .marks .stripe < stripesOf (geometry z))
+        by (inl p) = (λ d i e. absurd (false≢true (sym (p .1 d i) ∙ e)), λ f d i e. absurd (false≢true (sym (p .1 d i) ∙ e)))
+        by (inr (inl p)) = (present-by (s .marks .redo) (forwards z A img) (p .3) forwards-there, λ f d i e. omega (arith, p .2, forwards-in d (sym (p .3 d i) ∙ e)))
+        by (inr (inr p)) = (present-by (s .marks .redo) (wipes z A img) (p .2) wipes-there, λ f d i e. absurd (false≢true (sym (p .1) ∙ f)))
 
     pub start-fair : ours z (s .next) ≡ true → fitsOf (s .next) ≡ true → s .now .generation + 1 ≤ mostGeneration → Fair z s img
     unfolding sound

@@ -16,3 +16,4 @@ pub mod Begins
 pub mod Tied
 pub mod Asked
 pub mod Requests
+pub mod StartBegins

@@ -47,7 +47,7 @@ goes Done s t e = (refl, refl)
 goes (Refused why) s t e = absurd (let z : _≡_ {A = ℕ} 0 1 = cc in omega arith)
 
 -- the slots that are not absent
-slots-say : (z : Shelf) (absent : ℕ) → Says z (slotsBut absent (slots z)) (λ d. not (inMask absent d))
+pub slots-say : (z : Shelf) (absent : ℕ) → Says z (slotsBut absent (slots z)) (λ d. not (inMask absent d))
 slots-say z absent d l = Slots.slots-are absent (slots z) d ∙ ap (λ (b : Bool). b && not (inMask absent d)) (lt-ltb d (slots z) l)
 
 module _ (z : Shelf) (more : z .m < z .k) (img : List ℕ) (disks : Disks z img) where

@@ -1,8 +1,9 @@
 -- START-UP'S LIST IS THE PROTOCOL'S: with masks that say what the protocol's tests say of what is seen, and the labels that it
 -- reads and settles, what is left to do at the beginning of start-up is the protocol's list. Assumes nothing.
 use mathlib.Core.Path.{_≡_, refl, sym, ap, ap₂, _∙_}
+use mathlib.Core.Logic.{_⊎_, inl, inr}
 use mathlib.Core.Bool.{Bool, true, false, cond, not, _&&_, _||_}
-use mathlib.Core.List.{List, [], _∷_, _++_, List·Memᴰ, List·Memᴰ·head, List·Memᴰ·tail}
+use mathlib.Core.List.{List, [], _∷_, _++_, append-nil, List·Memᴰ, List·Memᴰ·head, List·Memᴰ·tail}
 use Prim.Native.Nat.{ℕ, zero, suc, _+_, _<_}
 use native.Mathlib.Omega.{arith}
 use lib.Dec.{eqb, ltb}
@@ -12,16 +13,17 @@ use Rattle.disk.specs.Tests.{and-left}
 use Rattle.label.specs.declared.fields.Label as bytes
 use Rattle.protocol.specs.World.{Place, label, log, strip, slot, Image, Action, put}
 use Rattle.protocol.specs.Batch.{puts, flushes, actions}
+use Rattle.protocol.specs.Slots as Slots
 use Rattle.protocol.specs.Slots.{from, of-from, keep, of-keep, rows, of-rows}
 use Rattle.protocol.specs.Log.{Belief}
-use Rattle.protocol.specs.Write.{stored}
-use Rattle.protocol.specs.Redo.{key, lead, tail, whole, redone}
+use Rattle.protocol.specs.Write.{stored, store-batch, stored-sectors, involved}
+use Rattle.protocol.specs.Redo.{key, lead, tail, redone, forward, marked, kill-batch, kill, redo}
 use Rattle.protocol.specs.Label.{Label, again, looked, look-of, belief, copy, prepared, prep-value}
 use Rattle.protocol.specs.Startup.{L, M, gone, stale, without-gone}
 use Rattle.protocol.specs.Decide.{settled, startup}
 use Rattle.protocol.specs.Program.{flushed-first}
 use Rattle.protocol.specs.Walk.{append-assoc, batch-of}
-use Rattle.protocol.specs.Phases.{all-of, label-phase, prep-phase, store-phase, kill-phase, redo-phases, start-phases}
+use Rattle.protocol.specs.Phases.{all-of, label-phase, prep-phase, redo-phases, redo-is, start-phases}
 use Rattle.codecs.specs.Sector.{Sector, zeros}
 use Rattle.codecs.specs.Shelf.{Shelf, slots, size}
 use Rattle.codecs.specs.Labels.{sideOf, labelOf, encodeLabel, labels}
@@ -80,6 +82,13 @@ module _ (z : Shelf) (A : ℕ → Bool) (img : List ℕ) where
   abbrev pub wipes : ℕ → Bool
   wipes d = B .look d && eqb (records z .stamp (sight (log d (z .c)))) stamp
 
+  -- what is done about the log: nothing, forward, or kill
+  abbrev pub LogPart : State → Type 0
+  LogPart s =
+      ((redo (records z) B sight ≡ []) × Says z (s .marks .redo) (λ d. false))
+      ⊎ (((redo (records z) B sight ≡ forward (records z) B sight) × (s .marks .forward ≡ true) × (s .marks .stripe ≡ records z .stripeOf last) × Says z (s .marks .redo) forwards)
+      ⊎ ((redo (records z) B sight ≡ kill (records z) B sight) × (s .marks .forward ≡ false) × Says z (s .marks .redo) wipes))
+
   -- the state at the beginning of start-up says what the protocol's tests say
   pub record Starts (s : State) : Type 0 where
     pub kind : s .kind ≡ Starting
@@ -92,9 +101,7 @@ module _ (z : Shelf) (A : ℕ → Bool) (img : List ℕ) where
     pub late : Says z (s .marks .late) adopts
     pub prep : Says z (s .marks .prep) readies
     pub zeroed : (d : ℕ) → d < slots z → readies d ≡ true → inMask (s .marks .zeroed) d ≡ blanked d
-    pub none : eqb stamp 0 ≡ true → Says z (s .marks .redo) (λ d. false)
-    pub forward : eqb stamp 0 ≡ false → whole (records z) B sight ≡ true → (s .marks .forward ≡ true) × (s .marks .stripe ≡ records z .stripeOf last) × Says z (s .marks .redo) forwards
-    pub kill : eqb stamp 0 ≡ false → whole (records z) B sight ≡ false → (s .marks .forward ≡ false) × Says z (s .marks .redo) wipes
+    pub log-part : LogPart s
 
 -- ---- two values that agree where they are put
 
@@ -166,12 +173,12 @@ module _ (z : Shelf) (A : ℕ → Bool) (img : List ℕ) (s : State) (h : Starts
       ap₂ (λ (x y : Sector). pieceOf z x y j) (sym (seen-present z A img (log d (z .c)) a)) (sym (seen-present z A img (log d j) a))
 
   -- stages 11 and 12
-  log-stages : (x : Stage) → startStage s 11 ≡ x → isEnd x ≡ false → from-stage z s img 11 ≡ actsOf z F x 0 0 ++ (flushes (slotsFrom (slots z) (s .marks .redo) 0) ++ [])
+  log-stages : (x : Stage) → startStage s 11 ≡ x → isEnd x ≡ false → from-stage z s img 11 ≡ actsOf z F x 0 0 ++ flushes (slotsFrom (slots z) (s .marks .redo) 0)
   unfolding startStage lateStage
   log-stages x e o =
       staged z s img 11 x (at 11 ∙ e) o
       ∙ ap (λ (l : List (Action Sector)). actsOf z F x 0 0 ++ l)
-      (staged z s img 12 (Flush (s .marks .redo)) (at 12) refl ∙ ap (λ (l : List (Action Sector)). flushes (slotsFrom (slots z) (s .marks .redo) 0) ++ l) (over z s img 13 (stage-over (s .kind) s 13 (omega arith))))
+      (staged z s img 12 (Flush (s .marks .redo)) (at 12) refl ∙ ap (λ (l : List (Action Sector)). flushes (slotsFrom (slots z) (s .marks .redo) 0) ++ l) (over z s img 13 (stage-over (s .kind) s 13 (omega arith))) ∙ append-nil (flushes (slotsFrom (slots z) (s .marks .redo) 0)))
 
   redo-stage : (b : Bool) → s .marks .forward ≡ b → startStage s 11 ≡ cond b (Restore (s .marks .redo) (s .marks .stripe)) (Wipe (s .marks .redo))
   unfolding startStage lateStage
@@ -190,46 +197,41 @@ module _ (z : Shelf) (A : ℕ → Bool) (img : List ℕ) (s : State) (h : Starts
       by : (b : Bool) → s .marks .forward ≡ b → from-stage z s img 11 ≡ []
       by true e =
           log-stages (Restore (s .marks .redo) (s .marks .stripe)) (redo-stage true e) refl
-          ∙ (λ i. puts (restored z F) (rowsFrom (λ d j. strip d (s .marks .stripe) j) (z .c) 0 (q i)) ++ (flushes (q i) ++ []))
-      by false e = log-stages (Wipe (s .marks .redo)) (redo-stage false e) refl ∙ (λ i. puts (λ k. zeros) (rows (tailAt z) (0 ∷ []) (q i)) ++ (flushes (q i) ++ []))
+          ∙ (λ i. puts (restored z F) (rowsFrom (λ d j. strip d (s .marks .stripe) j) (z .c) 0 (q i)) ++ flushes (q i))
+      by false e = log-stages (Wipe (s .marks .redo)) (redo-stage false e) refl ∙ (λ i. puts (λ k. zeros) (rows (tailAt z) (0 ∷ []) (q i)) ++ flushes (q i))
 
   -- FORWARD: the strips from the records
   log-forward : s .marks .forward ≡ true → s .marks .stripe ≡ records z .stripeOf (last z A img) → Says z (s .marks .redo) (forwards z A img)
-      → from-stage z s img 11 ≡ all-of (store-phase (labels z) (records z) (B z A img) (records z .stripeOf (last z A img)) (records z .changesOf (last z A img)) (redone (records z) (B z A img) f) ∷ [])
-  unfolding belief
+      → from-stage z s img 11 ≡ forward (records z) (B z A img) f
+  unfolding forward store-batch stored-sectors involved Slots.slots belief
   log-forward e u says =
       let t = records z .stripeOf (last z A img) in
       let ds = keep (forwards z A img) (from 0 (slots z)) in
       let q = slots-are z (s .marks .redo) (forwards z A img) says in
       log-stages (Restore (s .marks .redo) (s .marks .stripe)) (redo-stage true e) refl
-      ∙ (λ i. puts (restored z F) (rowsFrom (λ d j. strip d (u i) j) (z .c) 0 (q i)) ++ (flushes (q i) ++ []))
-      ∙ ap (λ (ks : List Place). puts (restored z F) ks ++ (flushes ds ++ [])) (rows-fresh (λ d j. strip d t j) (z .c) ds)
-      ∙ ap (λ (a : List (Action Sector)). a ++ (flushes ds ++ []))
+      ∙ (λ i. puts (restored z F) (rowsFrom (λ d j. strip d (u i) j) (z .c) 0 (q i)) ++ flushes (q i))
+      ∙ ap (λ (ks : List Place). puts (restored z F) ks ++ flushes ds) (rows-fresh (λ d j. strip d t j) (z .c) ds)
+      ∙ ap (λ (a : List (Action Sector)). a ++ flushes ds)
       (puts-same (restored z F) (stored (records z) (redone (records z) (B z A img) f)) (rows (λ d j. strip d t j) (from 0 (z .c)) ds)
       (λ k m.
       let y = of-rows (λ d j. strip d t j) (from 0 (z .c)) ds k m in
       let o = of-keep (forwards z A img) (from 0 (slots z)) (y .0) (y .2) in
       rw (y .4) (piece-same t (y .0) (y .1) (and-left (B z A img .believe (y .0) t) (records z .changesOf (last z A img) (y .0)) (o .1)))))
-      ∙ sym (append-assoc (puts (stored (records z) (redone (records z) (B z A img) f)) (rows (λ d j. strip d t j) (from 0 (z .c)) ds)) (flushes ds) [])
 
   -- KILL: zeros over the tails
-  log-kill : s .marks .forward ≡ false → Says z (s .marks .redo) (wipes z A img) → from-stage z s img 11 ≡ all-of (kill-phase (labels z) (records z) (B z A img) f ∷ [])
-  unfolding belief
+  log-kill : s .marks .forward ≡ false → Says z (s .marks .redo) (wipes z A img) → from-stage z s img 11 ≡ kill (records z) (B z A img) f
+  unfolding kill-batch marked Slots.slots belief
   log-kill e says =
-      let ds = keep (wipes z A img) (from 0 (slots z)) in
       let q = slots-are z (s .marks .redo) (wipes z A img) says in
-      log-stages (Wipe (s .marks .redo)) (redo-stage false e) refl
-      ∙ (λ i. puts (λ k. zeros) (rows (tailAt z) (0 ∷ []) (q i)) ++ (flushes (q i) ++ []))
-      ∙ sym (append-assoc (puts (λ k. zeros) (rows (tailAt z) (0 ∷ []) ds)) (flushes ds) [])
+      log-stages (Wipe (s .marks .redo)) (redo-stage false e) refl ∙ (λ i. puts (λ k. zeros) (rows (tailAt z) (0 ∷ []) (q i)) ++ flushes (q i))
 
-  redo-is : from-stage z s img 11 ≡ all-of (redo-phases (labels z) (records z) (B z A img) f)
-  redo-is = by (eqb (stamp z A img) 0) refl (whole (records z) (B z A img) f) refl
+  log-is : from-stage z s img 11 ≡ all-of (redo-phases (labels z) (records z) (B z A img) f)
+  log-is = by (h .log-part) ∙ redo-is (labels z) (records z) (B z A img) f
     where
-      by : (a : Bool) → eqb (stamp z A img) 0 ≡ a → (b : Bool) → whole (records z) (B z A img) f ≡ b
-          → from-stage z s img 11 ≡ all-of (cond a [] (cond b (store-phase (labels z) (records z) (B z A img) (records z .stripeOf (last z A img)) (records z .changesOf (last z A img)) (redone (records z) (B z A img) f) ∷ []) (kill-phase (labels z) (records z) (B z A img) f ∷ [])))
-      by true p b q = log-none (h .none p)
-      by false p true q = let w = h .forward p q in log-forward (w .0) (w .1) (w .2)
-      by false p false q = let w = h .kill p q in log-kill (w .0) (w .1)
+      by : LogPart z A img s → from-stage z s img 11 ≡ redo (records z) (B z A img) f
+      by (inl p) = log-none (p .1) ∙ sym (p .0)
+      by (inr (inl p)) = log-forward (p .1) (p .2) (p .3) ∙ sym (p .0)
+      by (inr (inr p)) = log-kill (p .1) (p .2) ∙ sym (p .0)
 
   -- ---- the whole list
 
@@ -268,5 +270,5 @@ module _ (z : Shelf) (A : ℕ → Bool) (img : List ℕ) (s : State) (h : Starts
       (prep-stages
       ∙ ap (λ (l : List (Action Sector)). preps ++ l)
       (round-staged z s img (m .late) (adopts z A img) (h .late) 9 (s .next) N (h .next) (at 9) (at 10)
-      ∙ ap (λ (l : List (Action Sector)). rounds-of N (adopts z A img) ++ l) redo-is)))))
+      ∙ ap (λ (l : List (Action Sector)). rounds-of N (adopts z A img) ++ l) log-is)))))
       ∙ sym (start-phases (size z) (quorum z more) (labels z) (records z) (code z more) stamps (sectors z more) A f)
