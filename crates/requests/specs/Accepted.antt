@@ -52,7 +52,7 @@ out-refused s d img room why = refusal-leaves (takeAnswer (s .now) (s .kind) (s 
 
 -- ---- what the tests of an accepted request say
 
-passed : (b : Bool) (x : Outcome) (why : Refusal) → cond {A = Outcome} b x (Refused why) ≡ Done → (b ≡ true) × (x ≡ Done)
+pub passed : (b : Bool) (x : Outcome) (why : Refusal) → cond {A = Outcome} b x (Refused why) ≡ Done → (b ≡ true) × (x ≡ Done)
 passed true x why e = (refl, e)
 passed false x why e = absurd (never why e)
 

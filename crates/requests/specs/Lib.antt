@@ -4,5 +4,7 @@ pub mod Ready
 pub mod Create
 pub mod TakeOut
 pub mod Start
+pub mod Step
 pub mod Status
 pub mod Accepted
+pub mod Known

@@ -6,4 +6,5 @@ mod of_label;
 mod ready;
 pub mod start;
 pub mod status;
+pub mod step;
 pub mod take_out;

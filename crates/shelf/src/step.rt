@@ -141,7 +141,7 @@ fn geometry(l: Label) -> Geometry
 }
 
 // Whether the fields of a state are in range.
-fn in_range(s: State) -> bool
+pub fn in_range(s: State) -> bool
     ensures { λ r. ⌜ r ≡ sound s ⌝ }
 {
     let now = s.now;
