@@ -142,13 +142,20 @@ module _ (z : Shelf) (img : List ℕ) (absent : ℕ) (A : ℕ → Bool) (l : byt
 
   -- ---- whether few enough are out
 
-  pub few-is : (more : z .m < z .k) → fewOf z (left-out (size z) (quorum z more) (labels z) (records z) (code z more) stamps (sectors z more) A f0) ≡ leb (ones (slotsThat (geometry z) img absent Out l)) (l .m)
-  unfolding left-out slotsThat
-  few-is more =
-      let p = L-is z img absent A l led in
-      ap (fewOf z) (fun-ext (λ d. ap (λ (x : Label). x .out d || goneOf d) p ∙ out-is d))
-      ∙ few-mask z (slotsThat (geometry z) img absent Out l) (mask-lt (goesOut (geometry z) img absent l) (slots z))
-      ∙ ap (leb (ones (slotsThat (geometry z) img absent Out l))) (same .same-m)
+  module _ (more : z .m < z .k) where
+    abbrev leftOut : ℕ → Bool
+    leftOut = left-out (size z) (quorum z more) (labels z) (records z) (code z more) stamps (sectors z more) A f0
+
+    pub left-out-is : (d : ℕ) → leftOut d ≡ inMask (slotsThat (geometry z) img absent Out l) d
+    unfolding left-out
+    left-out-is d = ap (λ (x : Label). x .out d || goneOf d) (L-is z img absent A l led) ∙ out-is d
+
+    pub few-is : fewOf z leftOut ≡ leb (ones (slotsThat (geometry z) img absent Out l)) (l .m)
+    unfolding slotsThat
+    few-is =
+        ap (fewOf z) (fun-ext left-out-is)
+        ∙ few-mask z (slotsThat (geometry z) img absent Out l) (mask-lt (goesOut (geometry z) img absent l) (slots z))
+        ∙ ap (leb (ones (slotsThat (geometry z) img absent Out l))) (same .same-m)
 
   -- ---- who takes part, and who adopts
 

@@ -56,16 +56,11 @@ puts-same v w (k ∷ l) h = ap₂ (λ x (y : List (Action _)). put k x ∷ y) (h
 -- ---- the stages of start-up
 
 module _ (z : Shelf) where
-  -- a label to each slot of a mask, zeros to those of another; then a flush of each
+  -- a label to each slot of a mask, zeros to those of another; then a flush of each. (A round gives zeros to none.)
   abbrev pub giving : (slotsIn zeroed : ℕ → Bool) → Label → List (Action Sector)
   giving slotsIn zeroed l =
       puts (λ k. cond (zeroed (slot k)) zeros (encodeLabel z (slot k) l)) (rows (λ d j. label d (sideOf (l .generation))) (0 ∷ []) (slots (Shelf.slots z) slotsIn))
       ++ flushes (slots (Shelf.slots z) slotsIn)
-
-  -- a round gives zeros to none
-  round-giving : (l : Label) (p : ℕ → Bool) → round (labels z) l (slots (Shelf.slots z) p) ≡ giving p (λ d. false) l
-  unfolding round-batch
-  round-giving l p = refl
 
 module _ (z : Shelf) (img : List ℕ) (absent : ℕ) (A : ℕ → Bool) (l : bytes.Label) (led : Led z img absent A l) where
   abbrev f0 : Image Sector
