@@ -6,3 +6,14 @@ pub mod Rounds
 pub mod Redo
 pub mod Refusals
 pub mod Start
+pub mod Given
+pub mod ToDo
+pub mod Restored
+pub mod Steps
+pub mod Lists
+pub mod StartList
+pub mod Begins
+pub mod Tied
+pub mod Asked
+pub mod Requests
+pub mod StartBegins
