@@ -1,19 +1,21 @@
 -- THE REQUESTS OF THE CODE begin with states in order, beside which the protocol's program remembers that same request: create and
--- taking a slot out. Assumes nothing.
-use mathlib.Core.Path.{_≡_, refl, sym, ap, subst, _∙_, fun-ext}
+-- taking a slot out; and a step of theirs is the program's. Assumes nothing.
+use mathlib.Core.Path.{_≡_, refl, sym, ap, ap₂, subst, _∙_, fun-ext}
 use mathlib.Core.Bool.{Bool, true, false, cond, not, _&&_, _||_}
 use mathlib.Core.List.{List}
 use Prim.Native.Nat.{ℕ, suc, _+_, _<_}
 use native.Mathlib.Numerals.{add-one}
 use native.Mathlib.Omega.{arith}
 use lib.Dec.{eqb}
+use lib.ListN.{length}
 use borrow.Author.Tests.{eq-eqb, ne-eqb, eqb-true, lt-ltb, not-true}
 use Rattle.disk.specs.Tests.{both}
+use Rattle.disk.specs.Image.{fitsImage}
 use Rattle.disk.specs.Mask.{inMask, withSlot, in-with, in-past}
 use Rattle.disk.specs.declared.geometry.Geometry.{Geometry}
 use Rattle.disk.specs.declared.refusal.Outcome.{Outcome}
 use Rattle.disk.specs.declared.refusal.Outcome.the-variants.{Done, Refused}
-use Rattle.label.specs.Fields.{noSlot}
+use Rattle.label.specs.Fields.{noSlot, geometryOf}
 use Rattle.label.specs.Newest.{sameShelf}
 use Rattle.label.specs.declared.fields.Label as bytes
 use Rattle.protocol.specs.Label.{Label}
@@ -27,18 +29,19 @@ use Rattle.shards.specs.Quorum.{quorum}
 use Rattle.shards.specs.Code.{code}
 use Rattle.shards.specs.Promise.{sectors}
 use Rattle.shelf.specs.declared.state.State.{State}
-use Rattle.requests.specs.Begun.{begun, slotsBut}
+use Rattle.requests.specs.Begun.{workBytes, begun, slotsBut}
+use Rattle.requests.specs.Step.{otherWork, stepWith, step-goes}
 use Rattle.requests.specs.Slots as Slots
 use Rattle.requests.specs.Create.{createAnswer, created, createOf}
 use Rattle.requests.specs.TakeOut.{nextLabel, outed, takeAnswer, tookOut, takeOutOf}
 use Rattle.requests.specs.Accepted.{Steps, create-steps, out-steps, take-done}
-use Rattle.refine.specs.Disks.{Disks}
+use Rattle.refine.specs.Disks.{Disks, image-fits}
 use Rattle.refine.specs.Rounds.{beyond-below}
 use Rattle.refine.specs.Given.{shelf-geometry}
 use Rattle.refine.specs.Steps.{Fair}
 use Rattle.refine.specs.Lists.{Says}
 use Rattle.refine.specs.Begins.{create-fair, change-fair}
-use Rattle.refine.specs.Tied.{ownOf, memoryOf}
+use Rattle.refine.specs.Tied.{ownOf, memoryOf, Tied, step-tied}
 use Rattle.refine.specs.Asked.{create-asked, out-asked}
 
 -- an accepted request begins with its first state
@@ -147,3 +150,13 @@ module _ (z : Shelf) (more : z .m < z .k) (img : List ℕ) (disks : Disks z img)
           change-fair z (tookOut s d) img (h .taken) own disks refl (λ x i q. not-true (inMask (s .absent) x) (sym (rest-say x i) ∙ q)) (record { same = out-ours; fit = λ x i. h .next-fits x (omega (arith, n-is)) }),
           out-asked z more (tookOut s d) img refl d refl (λ x i. rest-say x i ∙ sym (ap not (beyond-below (slots z) (s .absent) x i))) (out-label there),
         )
+
+-- ---- A STEP, with a work area of the right size, is the program's
+
+pub step-with : (z : Shelf) (more : z .m < z .k) (s : State) (img : List ℕ) (room : ℕ) → Fair z s img → room ≡ workBytes (slots z) (z .c) → Tied z more s img (stepWith s img room)
+unfolding otherWork
+step-with z more s img room fair e =
+    let g = shelf-geometry z (s .now) (fair .ours-now) in
+    let w : eqb room (workBytes (s .now .k + s .now .m) (s .now .c)) ≡ true = eq-eqb room (workBytes (s .now .k + s .now .m) (s .now .c)) (e ∙ sym (ap (λ (x : Geometry). workBytes (x .n) (x .c)) g)) in
+    let f : fitsImage (geometryOf (s .now)) (length img) ≡ true = ap (λ (x : Geometry). fitsImage x (length img)) g ∙ image-fits z img (fair .disks) in
+    subst (Tied z more s img) (sym (step-goes s img room (fair .in-range) (ap₂ (λ (a b : Bool). a && not b) f w))) (step-tied z more s img fair)
