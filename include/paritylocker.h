@@ -70,6 +70,49 @@ uint32_t pl_label_encode(uint8_t k, uint8_t m, uint8_t slot, uint8_t c, uint32_t
  * label there. Where it isn't 0 nothing changes. */
 uint32_t pl_label_decode(uint8_t slot, uint8_t place, const uint8_t *sector, size_t sector_len, uint64_t *fields, size_t count);
 
+/* ---- the shelf: create, start up, take a slot out
+ *
+ * The image is n * S * 512 bytes: sector s of slot d at (d * S + s) * 512. The state is pl_state_bytes() bytes and the work area
+ * pl_work_bytes(n, c), both the caller's; any content of them is taken. A request that answers 0 is under way; pl_step then does
+ * its actions one by one, until it says that the request is done. A refusal changes nothing: image, state, work area. */
+
+#define PL_TOO_FEW 12u    /* more than m slots absent, out or stale */
+#define PL_BAD_BLOCK 13u  /* no such slot */
+#define PL_BUSY 14u       /* another request is under way */
+#define PL_NOT_NOW 15u    /* makes no sense in this state */
+#define PL_BAD_BUFFER 16u /* a state or a work area of another size */
+
+/* The bytes of a state. */
+size_t pl_state_bytes(void);
+
+/* The bytes of the work area of a shelf of n slots and strips of c sectors; 0 where n or c is out of range. */
+size_t pl_work_bytes(uint8_t n, uint8_t c);
+
+/* Begins to create a shelf on an image of zeros, whatever the state holds. 0; PL_BAD_IMAGE where a number is out of range or the
+ * image's length isn't right; PL_NOT_NOW where the image isn't zeros throughout; PL_BAD_BUFFER. */
+uint32_t pl_create(uint8_t k, uint8_t m, uint8_t c, uint32_t sectors, uint64_t shelf, uint8_t *image, size_t image_len, uint8_t *state,
+                   size_t state_len, uint8_t *work, size_t work_len);
+
+/* Begins to start up, whatever the state holds; bit d of absent is set where slot d is absent. 0; PL_BAD_IMAGE; PL_NO_LABEL where a
+ * present disk has no valid label or they don't agree with each other and with n, c and S; PL_TOO_FEW; PL_BAD_BLOCK where a bit of
+ * absent is set at n or above; PL_NOT_NOW where no generation is left; PL_BAD_BUFFER. */
+uint32_t pl_start(uint8_t n, uint8_t c, uint32_t sectors, uint64_t absent, uint8_t *image, size_t image_len, uint8_t *state,
+                  size_t state_len, uint8_t *work, size_t work_len);
+
+/* Begins to take a slot out. 0; PL_NOT_NOW where no shelf is started; PL_BAD_IMAGE; PL_NO_LABEL where a present disk's label isn't
+ * the state's; PL_TOO_FEW where more than m would be out; PL_BAD_BLOCK; PL_BUSY; PL_NOT_NOW where it is out already or no generation
+ * is left; PL_BAD_BUFFER. */
+uint32_t pl_take_out(uint32_t slot, uint8_t *image, size_t image_len, uint8_t *state, size_t state_len, uint8_t *work, size_t work_len);
+
+/* Does the next action of the request under way and answers kind + 256 * slot + 65536 * sector. Kind 1: that sector was put, write it
+ * to its disk; 2: flush that slot's disk now, before the next step; 3: the request is done; 0: refused, with the code in slot's
+ * place (PL_NOT_NOW with nothing under way, PL_BAD_IMAGE, PL_BAD_BUFFER). At most one sector changes, of a slot that isn't absent. */
+uint64_t pl_step(uint8_t *image, size_t image_len, uint8_t *state, size_t state_len, uint8_t *work, size_t work_len);
+
+/* 0, with ready (1 when create or start-up has answered, else 0), k, m, c, S, shelf, generation, out, absent, slot being rebuilt or
+ * 255, mark in fields[0 .. 11); PL_NOT_NOW with no shelf; PL_BAD_BUFFER where a size is wrong. */
+uint32_t pl_status(const uint8_t *state, size_t state_len, uint64_t *fields, size_t count);
+
 #ifdef __cplusplus
 }
 #endif

@@ -112,7 +112,7 @@ side-next g = by (sideOf g) refl
     by true e = ne-eqb (suc g % 2) 1 (λ q. omega (arith, eqb-true (g % 2) 1 e))
     by false e = eq-eqb (suc g % 2) 1 (let n : g % 2 ≡ 1 → ⊥ = eqb-false (g % 2) 1 e in omega arith)
 
-sector-side : (g : ℕ) → sectorOf (sideOf g) ≡ g % 2
+pub sector-side : (g : ℕ) → sectorOf (sideOf g) ≡ g % 2
 sector-side g = by (sideOf g) refl
   where
     by : (b : Bool) → eqb (g % 2) 1 ≡ b → sectorOf b ≡ g % 2

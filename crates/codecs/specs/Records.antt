@@ -215,7 +215,7 @@ module _ (z : Shelf) where
         shardss = lt-of-lt-of-le (mask-lt (changesShard w) (slots z)) (pow-mono {j = 64} (omega (arith, few-slots z)));
       }
 
-  end-back : (σ : ℕ) (w : Write Sector) (d : ℕ) → Fitting σ w → tailAt (recordSector σ w d (z .c) .bytes) ≡ tailOf σ w
+  pub end-back : (σ : ℕ) (w : Write Sector) (d : ℕ) → Fitting σ w → tailAt (recordSector σ w d (z .c) .bytes) ≡ tailOf σ w
   unfolding endOf tailSector
   end-back σ w d f =
       ap (λ (x : Sector). tailAt (x .bytes)) (end-at σ w d (z .c) (omega arith))

@@ -32,7 +32,7 @@ size z = record { n = slots z; T = stripesOf (geometry z) }
 
 -- what the limits say
 module _ (z : Shelf) where
-  limits : InRange (geometry z) × Splits (slots z) (z .k)
+  pub limits : InRange (geometry z) × Splits (slots z) (z .k)
   limits = in-range-with (geometry z) (z .k) (z .range)
 
   pub few-data : z .k ≤ mostK
@@ -57,7 +57,7 @@ module _ (z : Shelf) where
   pub stripes-few : stripesOf (geometry z) < 2 ^ 64
   stripes-few = omega (arith, limits .0 .most, stripes-le (geometry z))
 
-  in-limits : inRange (geometry z) ≡ true
+  pub in-limits : inRange (geometry z) ≡ true
   unfolding inRangeWith
   in-limits = and-left (inRange (geometry z)) (splits (slots z) (z .k)) (z .range)
 

@@ -1,3 +1,4 @@
 -- What the functions of the C interface answer.
 pub mod Answers
 pub mod Labels
+pub mod Shelf

@@ -1,5 +1,6 @@
 // The C interface: numbers and byte slices. Each function takes any argument; include/paritylocker.h says what each answers.
 mod labels;
+mod shelves;
 
 use code::Verdict;
 use field::Answer;

@@ -98,7 +98,7 @@ module _ {X : Type 0} {n : ℕ} (C : LabelCodec X n) (K : RecordCodec X) where
   abbrev pub redo-phases : Belief → Image X → List (Walk X)
   redo-phases B f = cond (eqb (key K B f (lead K B f)) 0) [] (cond (whole K B f) (store-phase B (K .stripeOf (tail K B f)) (K .changesOf (tail K B f)) (redone K B f) ∷ []) (kill-phase B f ∷ []))
 
-  redo-is : (B : Belief) (f : Image X) → redo K B f ≡ all-of (redo-phases B f)
+  pub redo-is : (B : Belief) (f : Image X) → redo K B f ≡ all-of (redo-phases B f)
   unfolding redo forward
   redo-is B f = go (eqb (key K B f (lead K B f)) 0) (whole K B f)
     where

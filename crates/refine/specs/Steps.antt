@@ -1,0 +1,398 @@
+-- A STEP IS THE NEXT ACTION. What the shelf's step does to a state in order is the first of what is left to do, as the
+-- protocol counts it, and the others are left; where nothing is left, the request is done. Assumes nothing.
+use mathlib.Core.Path.{_≡_, refl, sym, ap, ap₂, subst, _∙_}
+use mathlib.Core.Logic.{⊎-elim}
+use mathlib.Core.Bool.{Bool, true, false, cond, false≢true}
+use mathlib.Core.List.{List, [], _∷_, _++_}
+use Prim.Native.Nat.{ℕ, zero, suc, _+_, _-_, _≤_, _<_, _%_}
+use native.Mathlib.Omega.{arith}
+use lib.Dec.{ltb, leb}
+use lib.ListN.{length, replicate}
+use borrow.Author.Tests.{lt-ltb, le-ltb, ltb-true, ltb-false, eq-eqb, leb-true, le-leb}
+use Rattle.disk.specs.Limits.{sectorBytes}
+use Rattle.disk.specs.Tests.{and-left, and-right, both}
+use Rattle.disk.specs.Geometry.{inRange, stripesOf, stripOf, found}
+use Rattle.disk.specs.Image.{putSector, putAnswer, onShelf, lt-or-ge}
+use Rattle.disk.specs.Mask.{inMask}
+use Rattle.disk.specs.declared.geometry.Geometry.{Geometry}
+use Rattle.disk.specs.declared.geometry.Found.{Found}
+use Rattle.disk.specs.declared.geometry.Found.the-variants as spot
+use Rattle.disk.specs.declared.refusal.Refusal.the-variants.{NotNow}
+use Rattle.disk.specs.declared.refusal.Outcome.{Outcome}
+use Rattle.disk.specs.declared.refusal.Outcome.the-variants as outcome
+use Rattle.label.specs.Fields.{fitsOf}
+use Rattle.label.specs.Bytes.{sealed}
+use Rattle.label.specs.declared.fields.Label as bytes
+use Rattle.protocol.specs.World.{Place, log, strip, slot, Image, update, update-other, Action, put, flush}
+use Rattle.protocol.specs.Batch.{puts, flushes}
+use Rattle.protocol.specs.Slots.{rows}
+use Rattle.codecs.specs.Sector.{Sector, zeros}
+use Rattle.codecs.specs.Shelf.{Shelf, slots, geometry, some-sectors, in-limits}
+use Rattle.codecs.specs.Labels.{sideOf, ours}
+use Rattle.shelf.specs.Limits.{mostStages}
+use Rattle.shelf.specs.State.{moved}
+use Rattle.shelf.specs.Stage.{slotsOf, stageAt, stageOf}
+use Rattle.shelf.specs.Act.{Move, onward, refuses, named, byOutcome, putMove, flushMove, giveMove, wipeMove, byStrip, byRestored, restoreMove, actMove}
+use Rattle.shelf.specs.Step.{seek, isEnd, finished, onStage, nextSlot, walk, keeps, underWay, sound, stepMove}
+use Rattle.shelf.specs.Says.{when, unless, step-goes}
+use Rattle.shelf.specs.declared.state.State.{State}
+use Rattle.shelf.specs.declared.state.Stepped.{Stepped}
+use Rattle.shelf.specs.declared.state.Answer.the-variants as answer
+use Rattle.shelf.specs.declared.stage.Stage.{Stage}
+use Rattle.shelf.specs.declared.stage.Stage.the-variants.{Flush, Give, Wipe, Restore, End}
+use Rattle.refine.specs.Places.{sectorOf, inside, slot-below, sector-below, label-inside, log-inside, strip-is-inside}
+use Rattle.refine.specs.Disks.{Disks, curOf, image-fits, disks-put, cur-put}
+use Rattle.refine.specs.Restored.{restores, piece-is}
+use Rattle.refine.specs.Given.{sealed-is, shelf-geometry}
+use Rattle.refine.specs.ToDo.{slotsFrom, toldAt, tailAt, told-sector, tail-sector, given-zeros, given-label, rowsFrom, given, restored, actsOf, leftOf, toDo, Next, next-slot, slots-here, rows-fresh, rows-next, rows-last, stage-same, stage-over, Redoes, redoes, Alike, left-same, left-at}
+
+-- ---- a state in order
+
+-- the slots of the mask are present
+abbrev pub Present : Shelf → ℕ → ℕ → Type 0
+Present z absent mask = (d : ℕ) → d < slots z → inMask mask d ≡ true → inMask absent d ≡ false
+
+-- a label of this shelf that can be told to each slot
+pub record Tells (z : Shelf) (l : bytes.Label) : Type 0 where
+  pub same : ours z l ≡ true
+  pub fit : (d : ℕ) → d < slots z → fitsOf (named l d) ≡ true
+
+-- what a stage asks of its slots, its label, its stripe
+abbrev pub Can : Shelf → ℕ → Stage → Type 0
+Can z absent (Flush mask) = Present z absent mask
+Can z absent (Give mask zeroed l) = Present z absent mask × Tells z l
+Can z absent (Wipe mask) = Present z absent mask
+Can z absent (Restore mask t) = Present z absent mask × ((d : ℕ) → d < slots z → inMask mask d ≡ true → t < stripesOf (geometry z))
+Can z absent End = Unit {0}
+
+-- a request is under way on an image of this shelf, and every stage of it can be carried out
+pub record Fair (z : Shelf) (s : State) (img : List ℕ) : Type 0 where
+  pub in-range : sound s ≡ true
+  pub ours-now : ours z (s .now) ≡ true
+  pub disks : Disks z img
+  pub stages : (i : ℕ) → Can z (s .absent) (stageAt (s .kind) s i)
+
+-- ---- what a step is to be, for a list of what is left
+
+-- the cursor alone has moved
+abbrev pub Moved : State → State → Type 0
+Moved s t = t ≡ moved s (t .cursor .stage) (t .cursor .slot) (t .cursor .sector)
+
+module _ (z : Shelf) (img : List ℕ) where
+  -- a put of v in place k, with l left
+  pub record Puts (s : State) (m : Move) (k : Place) (v : Sector) (l : List (Action Sector)) : Type 0 where
+    pub state : State
+    pub kept : Moved s state
+    pub here : inside z k ≡ true
+    pub is : m ≡ record { stepped = record { state = state; answer = answer.Put (slot k) (sectorOf z k) }; image = putSector (z .sectors) img (slot k) (sectorOf z k) (v .bytes) }
+    pub becomes : curOf z (putSector (z .sectors) img (slot k) (sectorOf z k) (v .bytes)) ≡ update (curOf z img) k v
+    pub rest : toDo z state (putSector (z .sectors) img (slot k) (sectorOf z k) (v .bytes)) ≡ l
+    pub fair : Fair z state (putSector (z .sectors) img (slot k) (sectorOf z k) (v .bytes))
+
+  -- a flush of slot d, with l left
+  pub record Flushes (s : State) (m : Move) (d : ℕ) (l : List (Action Sector)) : Type 0 where
+    pub state : State
+    pub kept : Moved s state
+    pub is : m ≡ record { stepped = record { state = state; answer = answer.Flush d }; image = img }
+    pub rest : toDo z state img ≡ l
+    pub fair : Fair z state img
+
+  -- nothing is left: the request is done
+  abbrev pub Does : State → Move → List (Action Sector) → Type 0
+  Does s m [] = m ≡ finished s img
+  Does s m (put k v ∷ l) = Puts s m k v l
+  Does s m (flush d ∷ l) = Flushes s m d l
+
+-- ---- it stays in order
+
+module _ (z : Shelf) (s : State) (img : List ℕ) (fair : Fair z s img) where
+  abbrev G : Geometry
+  G = geometry z
+
+  fit-now : fitsOf (s .now) ≡ true
+  unfolding sound
+  fit-now = and-left (fitsOf (s .now)) _ (fair .in-range)
+
+  busy : underWay (s .kind) ≡ true
+  unfolding sound
+  busy = and-left (underWay (s .kind)) _ (and-right (fitsOf (s .now)) _ (fair .in-range))
+
+  staged : s .cursor .stage ≤ mostStages
+  unfolding sound
+  staged = leb-true _ _ (and-left (leb (s .cursor .stage) mostStages) _ (and-right (underWay (s .kind)) _ (and-right (fitsOf (s .now)) _ (fair .in-range))))
+
+  c-now : s .now .c ≡ z .c
+  c-now = ap (λ (g : Geometry). g .c) (shelf-geometry z (s .now) (fair .ours-now))
+
+  within : s .cursor .sector < z .c
+  unfolding sound
+  within =
+      omega (arith, c-now, ltb-true (s .cursor .sector) (s .now .c) (and-right (leb (s .cursor .stage) mostStages) (ltb (s .cursor .sector) (s .now .c)) (and-right (underWay (s .kind)) _ (and-right (fitsOf (s .now)) _ (fair .in-range)))))
+
+  -- with another cursor in range, on another image of this shelf
+  fair-moved : (to : List ℕ) → Disks z to → (i d j : ℕ) → i ≤ mostStages → j < z .c → Fair z (moved s i d j) to
+  unfolding sound
+  fair-moved to disks i d j a b =
+      record {
+        in-range =
+            both (fitsOf (s .now)) _ fit-now
+            (both (underWay (s .kind)) _ busy (both (leb i mostStages) (ltb j (s .now .c)) (le-leb i mostStages a) (lt-ltb j (s .now .c) (omega (arith, c-now)))));
+        ours-now = fair .ours-now;
+        disks = disks;
+        stages = λ e. subst (Can z (s .absent)) (sym (stage-same (s .kind) s i d j e)) (fair .stages e);
+      }
+
+  -- the state after one of `count` sectors was put on slot d
+  fair-onward : (to : List ℕ) → Disks z to → (d count : ℕ) → count ≤ z .c → Fair z (onward s d count) to
+  unfolding onward
+  fair-onward to disks d count l = by (ltb (s .cursor .sector + 1) count) refl
+    where
+      by : (b : Bool) → ltb (s .cursor .sector + 1) count ≡ b → Fair z (cond b (moved s (s .cursor .stage) d (s .cursor .sector + 1)) (moved s (s .cursor .stage) (d + 1) 0)) to
+      by true e = fair-moved to disks (s .cursor .stage) d (s .cursor .sector + 1) staged (omega (arith, ltb-true (s .cursor .sector + 1) count e))
+      by false e = fair-moved to disks (s .cursor .stage) (d + 1) 0 staged (some-sectors z)
+
+  onward-kept : (d count : ℕ) → Moved s (onward s d count)
+  unfolding onward
+  onward-kept d count = by (ltb (s .cursor .sector + 1) count)
+    where
+      by : (b : Bool) → Moved s (cond b (moved s (s .cursor .stage) d (s .cursor .sector + 1)) (moved s (s .cursor .stage) (d + 1) 0))
+      by true = refl
+      by false = refl
+
+  -- the only sector of a slot is done
+  once : (d : ℕ) → onward s d 1 ≡ moved s (s .cursor .stage) (d + 1) 0
+  unfolding onward
+  once d = ap (λ (b : Bool). cond b (moved s (s .cursor .stage) d (s .cursor .sector + 1)) (moved s (s .cursor .stage) (d + 1) 0)) (le-ltb (s .cursor .sector + 1) 1 (omega arith))
+
+  -- ---- a put
+
+  -- of a place of a present slot
+  put-done : (k : Place) (v : Sector) (count : ℕ) → inside z k ≡ true → inMask (s .absent) (slot k) ≡ false
+      → putMove s G (slot k) (sectorOf z k) count (v .bytes) img
+      ≡ record { stepped = record { state = onward s (slot k) count; answer = answer.Put (slot k) (sectorOf z k) }; image = putSector (z .sectors) img (slot k) (sectorOf z k) (v .bytes) }
+  unfolding putMove putAnswer onShelf
+  put-done k v count i a =
+      let e : putAnswer G (length img) (slot k) (sectorOf z k) (length (v .bytes)) ≡ outcome.Done =
+      rw (image-fits z img (fair .disks), lt-ltb (slot k) (slots z) (slot-below z k i), lt-ltb (sectorOf z k) (z .sectors) (sector-below z k i), eq-eqb (length (v .bytes)) sectorBytes (v .whole)) in
+      unless (inMask (s .absent) (slot k)) _ _ a ∙ ap (λ (o : Outcome). byOutcome o s G (slot k) (sectorOf z k) count (v .bytes) img) e
+
+  puts-so : (k : Place) (v : Sector) (count : ℕ) (m : Move) (l : List (Action Sector)) → inside z k ≡ true → inMask (s .absent) (slot k) ≡ false → count ≤ z .c
+      → m ≡ putMove s G (slot k) (sectorOf z k) count (v .bytes) img → leftOf z (update (curOf z img) k v) mostStages (onward s (slot k) count) ≡ l → Puts z img s m k v l
+  unfolding toDo
+  puts-so k v count m l i a few e r =
+      let p = cur-put z img (fair .disks) k v i in
+      record {
+        state = onward s (slot k) count;
+        kept = onward-kept (slot k) count;
+        here = i;
+        is = e ∙ put-done k v count i a;
+        becomes = p;
+        rest = ap (λ (f : Image Sector). leftOf z f mostStages (onward s (slot k) count)) p ∙ r;
+        fair = fair-onward (putSector (z .sectors) img (slot k) (sectorOf z k) (v .bytes)) (disks-put z img (fair .disks) k v i) (slot k) count few;
+      }
+
+  -- ---- what each stage does to its next slot
+
+  module _ (k : ℕ) (enough : mostStages ≤ suc (s .cursor .stage + 1 + k)) (more : isEnd (stageOf s) ≡ false) where
+    abbrev F : Image Sector
+    F = curOf z img
+
+    -- what comes after this stage
+    abbrev R : List (Action Sector)
+    R = leftOf z F k (onStage s)
+
+    -- what is left from slot d, sector j of this stage on, on an image with the same records
+    left-then : (x : Stage) → stageOf s ≡ x → (g : Image Sector) → Alike z s F g → (d j : ℕ) → leftOf z g mostStages (moved s (s .cursor .stage) d j) ≡ actsOf z F x d j ++ R
+    unfolding Alike
+    left-then x e g h d j =
+        left-same z F g mostStages (moved s (s .cursor .stage) d j) h ∙ left-at z F k s d j more enough
+        ∙ ap (λ (y : Stage). actsOf z F y d j ++ R) e
+
+    left-once : (x : Stage) → stageOf s ≡ x → (g : Image Sector) → Alike z s F g → (d : ℕ) → leftOf z g mostStages (onward s d 1) ≡ actsOf z F x (d + 1) 0 ++ R
+    left-once x e g h d = ap (leftOf z g mostStages) (once d) ∙ left-then x e g h (d + 1) 0
+
+    can : (x : Stage) → stageOf s ≡ x → Can z (s .absent) x
+    can x e = subst (Can z (s .absent)) e (fair .stages (s .cursor .stage))
+
+    -- the slot that a mask has next
+    abbrev D : ℕ → ℕ
+    D mask = seek mask (slots z - s .cursor .slot) (s .cursor .slot)
+
+    abbrev Has : ℕ → Type 0
+    Has mask = Next mask (slots z) (slotsFrom (slots z) mask (s .cursor .slot)) (D mask)
+
+    flush-does : (mask : ℕ) → stageOf s ≡ Flush mask → Has mask → Does z img s (actMove s G (Flush mask) (D mask) img) (actsOf z F (Flush mask) (s .cursor .slot) (s .cursor .sector) ++ R)
+    unfolding flushMove toDo Alike
+    flush-does mask e h =
+        subst (λ (ds : List ℕ). Does z img s (actMove s G (Flush mask) (D mask) img) (flushes ds ++ R)) (sym (h .first))
+        (record {
+          state = onward s (D mask) 1;
+          kept = onward-kept (D mask) 1;
+          is = ap (λ (x : Stepped). record { stepped = x; image = img }) (unless (inMask (s .absent) (D mask)) _ _ (can (Flush mask) e (D mask) (h .below) (h .set)));
+          rest = left-once (Flush mask) e F (λ q d j. refl) (D mask);
+          fair = fair-onward img (fair .disks) (D mask) 1 (some-sectors z);
+        })
+
+    module _ (mask zeroed : ℕ) (l : bytes.Label) (e : stageOf s ≡ Give mask zeroed l) (h : Has mask) where
+      abbrev here-label : Place
+      here-label = toldAt l (D mask) 0
+
+      give-puts : actMove s G (Give mask zeroed l) (D mask) img ≡ putMove s G (D mask) (sectorOf z here-label) 1 (given z zeroed l here-label .bytes) img
+      unfolding giveMove
+      give-puts = by (inMask zeroed (D mask)) refl
+        where
+          t : Tells z l
+          t = can (Give mask zeroed l) e .1
+
+          putting : (to : ℕ) (v : List ℕ) → to ≡ sectorOf z here-label → v ≡ given z zeroed l here-label .bytes → putMove s G (D mask) to 1 v img ≡ putMove s G (D mask) (sectorOf z here-label) 1 (given z zeroed l here-label .bytes) img
+          putting to v p q = ap₂ (λ (x : ℕ) (y : List ℕ). putMove s G (D mask) x 1 y img) p q
+
+          by : (b : Bool) → inMask zeroed (D mask) ≡ b
+              → cond (inMask zeroed (D mask)) (putMove s G (D mask) (l .generation % 2) 1 (replicate sectorBytes 0) img)
+              (cond (fitsOf (named l (D mask))) (putMove s G (D mask) (l .generation % 2) 1 (sealed (named l (D mask))) img) (refuses s NotNow img))
+              ≡ putMove s G (D mask) (sectorOf z here-label) 1 (given z zeroed l here-label .bytes) img
+          by true q =
+              when (inMask zeroed (D mask)) _ _ q
+              ∙ putting (l .generation % 2) (replicate sectorBytes 0) (sym (told-sector z l (D mask) 0)) (ap (λ (v : Sector). v .bytes) (sym (given-zeros z zeroed l here-label q)))
+          by false q =
+              let f = t .fit (D mask) (h .below) in
+              unless (inMask zeroed (D mask)) _ _ q ∙ when (fitsOf (named l (D mask))) _ _ f
+              ∙ putting (l .generation % 2) (sealed (named l (D mask))) (sym (told-sector z l (D mask) 0))
+              (sealed-is z l (t .same) (D mask) f ∙ ap (λ (v : Sector). v .bytes) (sym (given-label z zeroed l here-label q)))
+
+      give-does : Does z img s (actMove s G (Give mask zeroed l) (D mask) img) (actsOf z F (Give mask zeroed l) (s .cursor .slot) (s .cursor .sector) ++ R)
+      unfolding Alike
+      give-does =
+          subst (λ (ds : List ℕ). Does z img s (actMove s G (Give mask zeroed l) (D mask) img) (puts (given z zeroed l) (rows (toldAt l) (0 ∷ []) ds) ++ R)) (sym (h .first))
+          (puts-so here-label (given z zeroed l here-label) 1 (actMove s G (Give mask zeroed l) (D mask) img) _ (label-inside z (D mask) (sideOf (l .generation)) (h .below)) (can (Give mask zeroed l) e .0 (D mask) (h .below) (h .set)) (some-sectors z) give-puts
+          (left-once (Give mask zeroed l) e (update F here-label (given z zeroed l here-label)) (λ q d j. update-other F here-label (given z zeroed l here-label) (log d j) (λ p. let i : _≡_ {A = ℕ} 0 1 = cc in omega arith)) (D mask)))
+
+    wipe-does : (mask : ℕ) → stageOf s ≡ Wipe mask → Has mask → Does z img s (actMove s G (Wipe mask) (D mask) img) (actsOf z F (Wipe mask) (s .cursor .slot) (s .cursor .sector) ++ R)
+    unfolding wipeMove Alike
+    wipe-does mask e h =
+        let here = tailAt z (D mask) 0 in
+        let no : s .marks .forward ≡ false = subst (Redoes (s .marks .forward)) e (redoes (s .kind) s (s .cursor .stage)) in
+        subst (λ (ds : List ℕ). Does z img s (actMove s G (Wipe mask) (D mask) img) (puts (λ k. zeros) (rows (tailAt z) (0 ∷ []) ds) ++ R)) (sym (h .first))
+        (puts-so here zeros 1 (actMove s G (Wipe mask) (D mask) img) _ (log-inside z (D mask) (z .c) (h .below) (omega arith)) (can (Wipe mask) e (D mask) (h .below) (h .set)) (some-sectors z) (ap (λ (to : ℕ). putMove s G (D mask) to 1 (replicate sectorBytes 0) img) (sym (tail-sector z (D mask) 0)))
+        (left-once (Wipe mask) e (update F here zeros) (λ q d j. absurd (false≢true (sym no ∙ q))) (D mask)))
+
+    module _ (mask t : ℕ) (e : stageOf s ≡ Restore mask t) (h : Has mask) where
+      abbrev strips : ℕ → ℕ → Place
+      strips d i = strip d t i
+
+      abbrev here-strip : Place
+      here-strip = strips (D mask) (s .cursor .sector)
+
+      restore-puts : actMove s G (Restore mask t) (D mask) img ≡ putMove s G (D mask) (sectorOf z here-strip) (z .c) (restored z F here-strip .bytes) img
+      unfolding restoreMove sectorOf
+      restore-puts =
+          let there : found (inRange G) (ltb t (stripesOf G)) (stripOf G t) ≡ spot.At (stripOf G t) = rw (in-limits z, lt-ltb t (stripesOf G) (can (Restore mask t) e .1 (D mask) (h .below) (h .set))) in
+          ap (λ (o : Outcome). byRestored o s G (D mask) t img) (restores z img (fair .disks) (D mask) (h .below) (s .cursor .sector) within)
+          ∙ ap (λ (f : Found). byStrip f s G (D mask) img) there
+          ∙ ap (λ (b : List ℕ). putMove s G (D mask) (stripOf G t + s .cursor .sector) (z .c) b img) (piece-is z img (fair .disks) (D mask) (h .below) (s .cursor .sector) within)
+
+      -- the sectors behind this one, and those of the slots behind this one
+      abbrev L : List Place
+      L = rowsFrom strips (z .c) (s .cursor .sector + 1) (D mask ∷ slotsFrom (slots z) mask (D mask + 1))
+
+      left-restored : (g : Image Sector) → Alike z s F g → leftOf z g mostStages (onward s (D mask) (z .c)) ≡ puts (restored z F) L ++ R
+      unfolding onward
+      left-restored g a = by (ltb (s .cursor .sector + 1) (z .c)) refl
+        where
+          by : (b : Bool) → ltb (s .cursor .sector + 1) (z .c) ≡ b
+              → leftOf z g mostStages (cond b (moved s (s .cursor .stage) (D mask) (s .cursor .sector + 1)) (moved s (s .cursor .stage) (D mask + 1) 0)) ≡ puts (restored z F) L ++ R
+          by true q =
+              left-then (Restore mask t) e g a (D mask) (s .cursor .sector + 1)
+              ∙ ap (λ (ds : List ℕ). puts (restored z F) (rowsFrom strips (z .c) (s .cursor .sector + 1) ds) ++ R) (slots-here mask (slots z) (D mask) (h .below) (h .set))
+          by false q =
+              left-then (Restore mask t) e g a (D mask + 1) 0
+              ∙ ap (λ (ks : List Place). puts (restored z F) ks ++ R)
+              (rows-fresh strips (z .c) (slotsFrom (slots z) mask (D mask + 1))
+              ∙ sym (rows-last strips (z .c) (s .cursor .sector + 1) (D mask) (slotsFrom (slots z) mask (D mask + 1)) (ltb-false (s .cursor .sector + 1) (z .c) q)))
+
+      restore-does : Does z img s (actMove s G (Restore mask t) (D mask) img) (actsOf z F (Restore mask t) (s .cursor .slot) (s .cursor .sector) ++ R)
+      unfolding Alike
+      restore-does =
+          let p : actsOf z F (Restore mask t) (s .cursor .slot) (s .cursor .sector) ++ R ≡ put here-strip (restored z F here-strip) ∷ (puts (restored z F) L ++ R) =
+          ap (λ (ds : List ℕ). puts (restored z F) (rowsFrom strips (z .c) (s .cursor .sector) ds) ++ R) (h .first)
+          ∙ ap (λ (ks : List Place). puts (restored z F) ks ++ R) (rows-next strips (z .c) (s .cursor .sector) (D mask) (slotsFrom (slots z) mask (D mask + 1)) within) in
+          subst (Does z img s (actMove s G (Restore mask t) (D mask) img)) (sym p)
+          (puts-so here-strip (restored z F here-strip) (z .c) (actMove s G (Restore mask t) (D mask) img) (puts (restored z F) L ++ R)
+          (strip-is-inside z (D mask) t (s .cursor .sector) (h .below) (can (Restore mask t) e .1 (D mask) (h .below) (h .set)) within) (can (Restore mask t) e .0 (D mask) (h .below) (h .set)) (omega arith) restore-puts
+          (left-restored (update F here-strip (restored z F here-strip)) (λ q d j. update-other F here-strip (restored z F here-strip) (log d j) (λ o. let i : _≡_ {A = ℕ} 0 1 = cc in omega arith))))
+
+    has : (mask : ℕ) → D mask < slots z → Has mask
+    has mask l = ⊎-elim (λ (q : (slots z ≤ D mask) × (slotsFrom (slots z) mask (s .cursor .slot) ≡ [])). absurd (omega (arith, q .0))) (λ (h : Has mask). h) (next-slot mask (slots z) (s .cursor .slot))
+
+    -- a stage that has a slot left
+    act-does : (x : Stage) → stageOf s ≡ x → isEnd x ≡ false → D (slotsOf x) < slots z → Does z img s (actMove s G x (D (slotsOf x)) img) (actsOf z F x (s .cursor .slot) (s .cursor .sector) ++ R)
+    act-does (Flush mask) e o l = flush-does mask e (has mask l)
+    act-does (Give mask zeroed l) e o h = give-does mask zeroed l e (has mask h)
+    act-does (Wipe mask) e o l = wipe-does mask e (has mask l)
+    act-does (Restore mask t) e o l = restore-does mask t e (has mask l)
+    act-does End e o l = absurd (false≢true (sym o))
+
+    -- a stage that has none
+    none : (mask : ℕ) → slots z ≤ D mask → slotsFrom (slots z) mask (s .cursor .slot) ≡ []
+    none mask l = ⊎-elim (λ (q : (slots z ≤ D mask) × (slotsFrom (slots z) mask (s .cursor .slot) ≡ [])). q .1) (λ (h : Has mask). absurd (omega (arith, h .below))) (next-slot mask (slots z) (s .cursor .slot))
+
+    acts-none : (x : Stage) → slots z ≤ D (slotsOf x) → actsOf z F x (s .cursor .slot) (s .cursor .sector) ≡ []
+    acts-none (Flush mask) l = ap (λ (ds : List ℕ). flushes ds) (none mask l)
+    acts-none (Give mask zeroed b) l = ap (λ (ds : List ℕ). puts (given z zeroed b) (rows (toldAt b) (0 ∷ []) ds)) (none mask l)
+    acts-none (Wipe mask) l = ap (λ (ds : List ℕ). puts (λ k. zeros) (rows (tailAt z) (0 ∷ []) ds)) (none mask l)
+    acts-none (Restore mask t) l = ap (λ (ds : List ℕ). puts (restored z F) (rowsFrom (λ d i. strip d t i) (z .c) (s .cursor .sector) ds)) (none mask l)
+    acts-none End l = refl
+
+  -- a stage with an action left is not the last
+  not-over : isEnd (stageOf s) ≡ false → s .cursor .stage + 1 ≤ mostStages
+  not-over e = ⊎-elim (λ (l : s .cursor .stage < mostStages). omega arith) (λ (l : mostStages ≤ s .cursor .stage). absurd (false≢true (sym e ∙ stage-over (s .kind) s (s .cursor .stage) (omega arith)))) (lt-or-ge (s .cursor .stage) mostStages)
+
+-- ---- the step
+
+module _ (z : Shelf) (img : List ℕ) where
+  does-on : (s : State) (m : Move) (l : List (Action Sector)) → Does z img (onStage s) m l → Does z img s m l
+  does-on s m [] h = h
+  does-on s m (put k v ∷ l) h = record { state = h .state; kept = h .kept; here = h .here; is = h .is; becomes = h .becomes; rest = h .rest; fair = h .fair }
+  does-on s m (flush d ∷ l) h = record { state = h .state; kept = h .kept; is = h .is; rest = h .rest; fair = h .fair }
+
+  walk-does : (k : ℕ) (s : State) → mostStages ≤ suc (s .cursor .stage + k) → Fair z s img → Does z img s (walk k s (geometry z) img) (leftOf z (curOf z img) k s)
+  unfolding walk leftOf
+  walk-does zero s h fair = refl
+  walk-does (suc k) s h fair =
+      let r : Fair z (onStage s) img → Does z img (onStage s) (walk k (onStage s) (geometry z) img) (leftOf z (curOf z img) k (onStage s)) = walk-does k (onStage s) (omega arith) in
+      go r (isEnd (stageOf s)) refl (ltb (nextSlot s (geometry z)) (slots z)) refl
+    where
+      go : (Fair z (onStage s) img → Does z img (onStage s) (walk k (onStage s) (geometry z) img) (leftOf z (curOf z img) k (onStage s)))
+          → (b : Bool) → isEnd (stageOf s) ≡ b → (t : Bool) → ltb (nextSlot s (geometry z)) (slots z) ≡ t
+          → Does z img s (cond b (finished s img) (cond t (actMove s (geometry z) (stageOf s) (nextSlot s (geometry z)) img) (walk k (onStage s) (geometry z) img)))
+          (cond b [] (actsOf z (curOf z img) (stageOf s) (s .cursor .slot) (s .cursor .sector) ++ leftOf z (curOf z img) k (onStage s)))
+      go r true e t q = refl
+      go r false e true q = act-does z s img fair k (omega arith) e (stageOf s) refl e (ltb-true (nextSlot s (geometry z)) (slots z) q)
+      go r false e false q =
+          let l = leftOf z (curOf z img) k (onStage s) in
+          let m = walk k (onStage s) (geometry z) img in
+          subst (λ (a : List (Action Sector)). Does z img s m (a ++ l)) (sym (acts-none z s img fair k (omega arith) e (stageOf s) (ltb-false (nextSlot s (geometry z)) (slots z) q)))
+          (does-on s m l (r (fair-moved z s img fair img (fair .disks) (s .cursor .stage + 1) 0 0 (not-over z s img fair e) (some-sectors z))))
+
+  does-keeps : (s : State) (m : Move) (l : List (Action Sector)) → Does z img s m l → Does z img s (keeps s m) l
+  does-keeps s m [] h = ap (keeps s) h
+  does-keeps s m (put k v ∷ l) h = record { state = h .state; kept = h .kept; here = h .here; is = ap (keeps s) (h .is); becomes = h .becomes; rest = h .rest; fair = h .fair }
+  does-keeps s m (flush d ∷ l) h = record { state = h .state; kept = h .kept; is = ap (keeps s) (h .is); rest = h .rest; fair = h .fair }
+
+  -- A STEP does the first of what is left to do, and the others are left; or the request is done
+  pub step-does : (s : State) → Fair z s img → Does z img s (stepMove s img) (toDo z s img)
+  unfolding toDo
+  step-does s fair =
+      subst (λ (m : Move). Does z img s m (toDo z s img))
+      (sym (step-goes s img (fair .in-range) (geometry z) (sym (shelf-geometry z (s .now) (fair .ours-now))) (image-fits z img (fair .disks))))
+      (does-keeps s (walk mostStages s (geometry z) img) (toDo z s img) (walk-does mostStages s (omega arith) fair))
+
+  module _ (s : State) (fair : Fair z s img) where
+    pub step-done : toDo z s img ≡ [] → stepMove s img ≡ finished s img
+    step-done e = subst (Does z img s (stepMove s img)) e (step-does s fair)
+
+    pub step-puts : (k : Place) (v : Sector) (l : List (Action Sector)) → toDo z s img ≡ put k v ∷ l → Puts z img s (stepMove s img) k v l
+    step-puts k v l e = subst (Does z img s (stepMove s img)) e (step-does s fair)
+
+    pub step-flushes : (d : ℕ) (l : List (Action Sector)) → toDo z s img ≡ flush d ∷ l → Flushes z img s (stepMove s img) d l
+    step-flushes d l e = subst (Does z img s (stepMove s img)) e (step-does s fair)
