@@ -12,6 +12,9 @@ type Cell = Vec<u32>;
 /// What the disks hold: the sectors (slot, sector) that are not certainly zeros.
 pub type World = BTreeMap<(usize, usize), Cell>;
 
+/// The label of a sector, if it has one.
+type Parsed = Option<(Shape, Content)>;
+
 /// The kind of a request, and stages of it.
 pub type LeftOut = Option<(u8, &'static [u8])>;
 
@@ -29,7 +32,7 @@ pub struct Disks {
     /// The stages of a kind of request that are left out, to see whether the tests notice.
     pub left_out: LeftOut,
     /// What was parsed already: (content, slot, place).
-    parsed: RefCell<HashMap<(u32, usize, usize), Option<(Shape, Content)>>>,
+    parsed: RefCell<HashMap<(u32, usize, usize), Parsed>>,
 }
 
 /// What a cut leaves of a world.
@@ -227,14 +230,14 @@ impl Disks {
     }
 
     /// The label in that place of a slot, if the sector has this content.
-    fn copy(&self, slot: usize, place: usize, value: u32) -> Option<(Shape, Content)> {
+    fn copy(&self, slot: usize, place: usize, value: u32) -> Parsed {
         let mut parsed = self.parsed.borrow_mut();
         let known = parsed.entry((value, slot, place));
         *known.or_insert_with(|| parse(&self.contents[value as usize], slot, place))
     }
 
     /// The newest valid label of a slot, as it is seen.
-    pub fn label(&self, slot: usize) -> Option<(Shape, Content)> {
+    pub fn label(&self, slot: usize) -> Parsed {
         let newest = |place| self.world.get(&(slot, place)).map_or(0, |c| c[c.len() - 1]);
         let copies = [0, 1].map(|place| self.copy(slot, place, newest(place)));
         let valid = copies.into_iter().flatten();

@@ -175,10 +175,11 @@ impl Explorer {
         self.watch.disks.state = state;
     }
 
-    /// Start-up from a world, with every set of absent slots.
+    /// Start-up from a world, with every set of absent slots. After create one of them at least is taken.
     fn visit(&mut self, node: usize) {
         self.at = node;
         let n = self.watch.disks.shape.n();
+        let before = self.starts;
         for absent in 0..1 << n {
             let Node { world, facts, .. } = &self.nodes[node];
             self.watch.load(world, facts);
@@ -191,6 +192,8 @@ impl Explorer {
             self.finish();
             self.take_all_out();
         }
+        let stuck = self.starts == before && self.nodes[node].facts.created;
+        assert!(!stuck, "no set of absent slots is taken");
     }
 
     /// Start-up from every world that was reached, as far as the cuts and this number of worlds go.

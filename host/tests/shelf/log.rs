@@ -4,6 +4,7 @@ use crate::explore::Explorer;
 use crate::random::Random;
 use crate::watch::Watch;
 use crate::writes::Write;
+use paritylocker::shelf::{Shelf, Step};
 
 /// Two stripes of one sector.
 const TWO_STRIPES: Shape = Shape {
@@ -182,6 +183,35 @@ fn plant_anything(watch: &mut Watch, slot: usize, random: &mut Random) {
     }
 }
 
+/// Whatever stands in the absent slots, start-up does the same.
+fn assert_absent_is_unseen(watch: &Watch, absent: u64, random: &mut Random) {
+    let shape = watch.disks.shape;
+    let disk = shape.sectors as usize * SECTOR;
+    let mut one = Shelf::new(shape.n() as u8, shape.c, watch.disks.image.clone());
+    let mut two = one.clone();
+    for slot in (0..shape.n()).filter(|d| absent >> d & 1 == 1) {
+        random.fill(&mut two.image[slot * disk..(slot + 1) * disk]);
+    }
+    let garbage = two.image.clone();
+    let start = |s: &mut Shelf| s.start(shape.n() as u8, shape.c, shape.sectors, absent);
+    let answer = start(&mut one);
+    assert_eq!(answer, start(&mut two));
+    while answer.is_ok() {
+        let step = one.step();
+        assert_eq!(step, two.step());
+        if step == Step::Done {
+            break;
+        }
+    }
+    assert_eq!(one.state, two.state);
+    for slot in 0..shape.n() {
+        let place = slot * disk..(slot + 1) * disk;
+        let gone = absent >> slot & 1 == 1;
+        let should = if gone { &garbage } else { &one.image };
+        assert!(two.image[place.clone()] == should[place], "slot {slot}");
+    }
+}
+
 /// Labels of generations 8 to 10 that disagree in everything they may; logs of few different writes. Start-up does what the
 /// documents say, or refuses.
 #[test]
@@ -219,6 +249,7 @@ fn strange_labels_and_logs() {
             }
         }
         let absent = [0, 0, 1 << random.below(shape.n())][random.below(3)];
+        assert_absent_is_unseen(&watch, absent, &mut random);
         if watch.start(absent) {
             while !watch.step() {}
             accepted += 1;

@@ -215,7 +215,7 @@ fn refusals_of_step_and_status() {
     });
 }
 
-/// A state of another length is BAD_BUFFER everywhere, last in order.
+/// A state of another length is BAD_BUFFER, last in order.
 #[test]
 fn states_of_another_length() {
     for length in [0, 279, 281] {
@@ -229,5 +229,15 @@ fn states_of_another_length() {
         refused(&mut shelf, Refusal::BAD_BUFFER, &mut |s| {
             s.start(3, 1, 67, 0)
         });
+        refused(&mut shelf, Refusal::BAD_BUFFER, &mut |s| {
+            s.status().map(|_| ())
+        });
+        // No bytes are the state in which nothing is started.
+        let why = [Refusal::BAD_BUFFER, Refusal::NOT_NOW][usize::from(length == 0)];
+        refused(&mut shelf, why, &mut |s| s.take_out(1));
+        let mut shelf = started();
+        assert_eq!(shelf.take_out(1), Ok(()));
+        shelf.state.resize(length, 0);
+        refused(&mut shelf, why, &mut step);
     }
 }

@@ -38,7 +38,7 @@ pub struct Write {
 }
 
 pub enum Action {
-    Put(usize, usize, Sector),
+    Put(usize, usize, Box<Sector>),
     Flush(usize),
 }
 
@@ -74,14 +74,16 @@ impl Write {
         for (slot, strip) in &slots {
             let sectors = record(stamp, self.stripe as u64, self.shards, strip);
             let puts = sectors.into_iter().enumerate();
-            all.extend(puts.map(|(i, s)| Action::Put(*slot, 2 + i, s)));
+            all.extend(puts.map(|(i, s)| Action::Put(*slot, 2 + i, Box::new(s))));
         }
         all.extend(slots.iter().map(|(slot, _)| Action::Flush(*slot)));
         let survives = all.len();
         for (slot, strip) in &slots {
             let first = shape.strip(self.stripe);
             let puts = strip.chunks(SECTOR).enumerate();
-            all.extend(puts.map(|(i, s)| Action::Put(*slot, first + i, s.try_into().unwrap())));
+            all.extend(
+                puts.map(|(i, s)| Action::Put(*slot, first + i, Box::new(s.try_into().unwrap()))),
+            );
         }
         all.extend(slots.iter().map(|(slot, _)| Action::Flush(*slot)));
         (all, survives)
@@ -91,7 +93,7 @@ impl Write {
 impl Disks {
     pub fn act(&mut self, action: &Action) {
         match action {
-            Action::Put(slot, sector, bytes) => self.put(*slot, *sector, *bytes),
+            Action::Put(slot, sector, bytes) => self.put(*slot, *sector, **bytes),
             Action::Flush(slot) => self.flush(*slot),
         }
     }
