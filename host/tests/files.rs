@@ -54,7 +54,7 @@ fn stopped_anywhere() {
     refused(&["take-out", dir, "1"], "NOT_NOW");
     refused(&["take-out", dir, "0"], "TOO_FEW");
     refused(&["take-out", dir, "3"], "BAD_BLOCK");
-    refused(&["start", dir, "1"], "TOO_FEW");
+    refused(&["start", dir, "0b001"], "TOO_FEW");
     fs::remove_file(path.join("slot1")).unwrap();
     assert!(run(&["start", dir, "0"])
         .0

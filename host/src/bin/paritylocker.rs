@@ -31,13 +31,14 @@ fn of(path: &Path) -> impl Fn(io::Error) -> Stop + '_ {
     move |error| Stop::Io(format!("{}: {error}", path.display()))
 }
 
+/// A number, decimal, or with 0x or 0b before it.
 fn number(text: &str) -> Result<u64, Stop> {
-    let hex = text.strip_prefix("0x");
-    match hex {
-        Some(digits) => u64::from_str_radix(digits, 16),
-        None => text.parse(),
-    }
-    .map_err(|_| Stop::Usage)
+    let (digits, radix) = match text.get(..2) {
+        Some("0x") => (&text[2..], 16),
+        Some("0b") => (&text[2..], 2),
+        _ => (text, 10),
+    };
+    u64::from_str_radix(digits, radix).map_err(|_| Stop::Usage)
 }
 
 /// A number that an interface of fewer bits takes.
