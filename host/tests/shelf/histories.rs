@@ -178,7 +178,7 @@ const SMALL: Shape = Shape {
 
 #[test]
 fn small_shelf() {
-    run(SMALL, 1500, 30, None);
+    run(SMALL, 1000, 30, None);
 }
 
 /// What is tested here can fail: with a flush of create, of start-up or of taking out left out, or a whole round, some history goes
@@ -202,7 +202,7 @@ fn three_parities() {
         sectors: 72,
         shelf: 1 << 63,
     };
-    run(shape, 500, 30, None);
+    run(shape, 250, 30, None);
 }
 
 #[test]
