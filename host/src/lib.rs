@@ -127,6 +127,7 @@ impl Refusal {
     pub const BAD_BUFFER: Refusal = Refusal(16);
 }
 
+pub mod map;
 pub mod shelf;
 
 /// The field of 256 elements.

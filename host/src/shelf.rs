@@ -186,17 +186,17 @@ pub fn status(state: &[u8]) -> Result<Status, Refusal> {
     })
 }
 
-/// The three together, for a caller who keeps the image in memory.
+/// The three together; the image is any memory that is a slice.
 #[derive(Clone, Debug, PartialEq, Eq)]
-pub struct Shelf {
-    pub image: Vec<u8>,
+pub struct Shelf<I = Vec<u8>> {
+    pub image: I,
     pub state: Vec<u8>,
     pub work: Vec<u8>,
 }
 
-impl Shelf {
+impl<I: AsRef<[u8]> + AsMut<[u8]>> Shelf<I> {
     /// An image with no shelf started on it; n and c are the shape that the work area is for.
-    pub fn new(n: u8, c: u8, image: Vec<u8>) -> Shelf {
+    pub fn new(n: u8, c: u8, image: I) -> Shelf<I> {
         Shelf {
             image,
             state: vec![0; state_bytes()],
@@ -211,7 +211,7 @@ impl Shelf {
             c,
             sectors,
             shelf,
-            &mut self.image,
+            self.image.as_mut(),
             &mut self.state,
             &mut self.work,
         )
@@ -223,18 +223,18 @@ impl Shelf {
             c,
             sectors,
             absent,
-            &mut self.image,
+            self.image.as_mut(),
             &mut self.state,
             &mut self.work,
         )
     }
 
     pub fn take_out(&mut self, slot: u32) -> Result<(), Refusal> {
-        take_out(slot, &mut self.image, &mut self.state, &mut self.work)
+        take_out(slot, self.image.as_mut(), &mut self.state, &mut self.work)
     }
 
     pub fn step(&mut self) -> Step {
-        step(&mut self.image, &mut self.state, &mut self.work)
+        step(self.image.as_mut(), &mut self.state, &mut self.work)
     }
 
     pub fn status(&self) -> Result<Status, Refusal> {
@@ -244,6 +244,6 @@ impl Shelf {
     /// The bytes of a sector; `sectors` is S.
     pub fn sector(&self, sectors: usize, slot: usize, sector: usize) -> &[u8] {
         let at = (slot * sectors + sector) * SECTOR;
-        &self.image[at..at + SECTOR]
+        &self.image.as_ref()[at..at + SECTOR]
     }
 }

@@ -20,12 +20,23 @@ fn folder(name: &str) -> PathBuf {
     path
 }
 
+/// Files that are no whole number of pages are read.
 #[test]
 fn stopped_anywhere() {
-    let path = folder("stopped");
+    stopped("67");
+}
+
+/// Files that are whole pages are mapped.
+#[test]
+fn stopped_anywhere_mapped() {
+    stopped("72");
+}
+
+fn stopped(sectors: &str) {
+    let path = folder(&format!("stopped{sectors}"));
     let dir = path.to_str().unwrap();
-    let (said, done) = run(&["create", dir, "2", "1", "1", "67", "0x77"]);
-    let shelf = "shelf 0x77, k 2, m 1, c 1, 67 sectors";
+    let (said, done) = run(&["create", dir, "2", "1", "1", sectors, "0x77"]);
+    let shelf = format!("shelf 0x77, k 2, m 1, c 1, {sectors} sectors");
     let ready = format!("ready: {shelf}, generation 1, out 0b0, absent 0b0\n");
     assert_eq!((said, done), (ready, true));
     // Start-up takes 22 steps with all slots present, and taking out 7 more.
@@ -39,7 +50,7 @@ fn stopped_anywhere() {
             // Put back as it was.
             if steps >= 22 {
                 fs::remove_dir_all(&path).unwrap();
-                assert!(run(&["create", dir, "2", "1", "1", "67", "0x77"]).1);
+                assert!(run(&["create", dir, "2", "1", "1", sectors, "0x77"]).1);
             }
         }
     }
@@ -61,7 +72,7 @@ fn stopped_anywhere() {
         .ends_with("out 0b10, absent 0b10\n"));
     fs::write(path.join("slot0"), "short").unwrap();
     refused(&["start", dir, "0"], "BAD_IMAGE");
-    assert!(!run(&["create", dir, "2", "1", "1", "67", "1"]).1);
+    assert!(!run(&["create", dir, "2", "1", "1", sectors, "1"]).1);
     fs::remove_dir_all(&path).unwrap();
 }
 

@@ -1,12 +1,13 @@
 //! Keeps a shelf in files, one a slot: DIR/slot0, DIR/slot1, .. A file that is missing is an absent slot. DIR/shape has n, c and
 //! S, which start-up wants from its caller.
 //!
-//! The whole image is read into memory; each step's sector then goes to its file with one write, and a flush is the file's
-//! own. Nothing but the files is kept from one run to the next, so every run begins with start-up, as after a power cut.
+//! The files are mapped side by side as one slice, copied on write; each step's sector then goes to its file with one write, and
+//! a flush is the file's own. Nothing but the files is kept from one run to the next, so every run begins with start-up, as after a power cut.
+use paritylocker::map::Map;
 use paritylocker::shelf::{work_bytes, Shelf, Step, SECTOR};
 use paritylocker::Refusal;
 use std::fs::{self, File, OpenOptions};
-use std::io::{self, Read};
+use std::io;
 use std::os::unix::fs::FileExt;
 use std::path::{Path, PathBuf};
 use std::process::ExitCode;
@@ -55,7 +56,7 @@ struct Files {
     dir: PathBuf,
     /// None: the slot is absent.
     slots: Vec<Option<File>>,
-    shelf: Shelf,
+    shelf: Shelf<Map>,
     n: u8,
     c: u8,
     sectors: u32,
@@ -75,7 +76,8 @@ impl Files {
         if work_bytes(n, c) == 0 || sectors > 1 << 24 {
             return Err(Stop::Refused(Refusal::BAD_IMAGE));
         }
-        let image = vec![0; usize::from(n) * sectors as usize * SECTOR];
+        let none: Vec<Option<File>> = (0..n).map(|_| None).collect();
+        let image = Map::of(&none, sectors as usize * SECTOR).map_err(of(dir))?;
         let mut shelf = Shelf::new(n, c, image);
         let begun = shelf.create(k, m, c, sectors, number);
         begun.map_err(Stop::Refused)?;
@@ -85,28 +87,22 @@ impl Files {
         Ok(files)
     }
 
-    /// Opens the files and reads them into one image, side by side. A missing file's part of it is zeros.
+    /// Opens the files, one image side by side. A missing file's part of it is zeros.
     fn open(dir: &Path, n: u8, c: u8, sectors: u32) -> Result<Files, Stop> {
-        let size = sectors as usize * SECTOR;
+        let size = u64::from(sectors) * SECTOR as u64;
         let mut slots = Vec::new();
-        let mut image = Vec::new();
         for slot in 0..usize::from(n) {
             let path = slot_path(dir, slot);
             match OpenOptions::new().read(true).write(true).open(&path) {
-                Ok(mut file) => {
-                    file.read_to_end(&mut image).map_err(of(&path))?;
-                    slots.push(Some(file));
+                Ok(file) if file.metadata().map_err(of(&path))?.len() != size => {
+                    return Err(Stop::Refused(Refusal::BAD_IMAGE));
                 }
-                Err(error) if error.kind() == io::ErrorKind::NotFound => {
-                    image.resize(image.len() + size, 0);
-                    slots.push(None);
-                }
+                Ok(file) => slots.push(Some(file)),
+                Err(error) if error.kind() == io::ErrorKind::NotFound => slots.push(None),
                 Err(error) => return Err(of(&path)(error)),
             }
-            if image.len() != (slot + 1) * size {
-                return Err(Stop::Refused(Refusal::BAD_IMAGE));
-            }
         }
+        let image = Map::of(&slots, size as usize).map_err(of(dir))?;
         Ok(Files {
             dir: dir.to_path_buf(),
             slots,
