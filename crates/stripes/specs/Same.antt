@@ -5,8 +5,7 @@ use mathlib.Core.Path.{_≡_, refl, sym, ap, _∙_, subst}
 use mathlib.Core.Bool.{Bool, true, false, cond, true≢false}
 use mathlib.Core.List.{List}
 use mathlib.Core.Logic.{_⊎_, inl, inr}
-use Prim.Native.Nat.{ℕ, _+_, _-_, _*_, _/_, _%_, _≤_, _<_}
-use native.Mathlib.Nat.{div-add-mod'}
+use Prim.Native.Nat.{ℕ, _+_, _-_, _*_, _≤_, _<_}
 use native.Mathlib.Omega.{arith}
 use lib.Dec.{eqb, leb, lit<}
 use lib.ListN.{length, getD}
@@ -32,12 +31,12 @@ use Rattle.codecs.specs.Sector.{Sector}
 use Rattle.codecs.specs.Shelf.{Shelf, slots}
 use Rattle.shards.specs.Quorum.{fewOf}
 use Rattle.shards.specs.Search.{some, some-of, first, first-is, first-lt}
-use Rattle.shards.specs.Position.{holds, holds-true, holds-is, padded, parity-ext}
+use Rattle.shards.specs.Position.{holds, holds-true, holds-is, padded, padded-off, parity-ext}
 use Rattle.shards.specs.Parity.{byte, shardSector, data-sector, sectors-hold}
 use Rattle.shards.specs.Code.{position, missingOf, missing-few, missing-has, blocksFrom, shard-there, scrub-holds, code}
 use Rattle.shards.specs.Exact as Exact
 use Rattle.shards.specs.Exact.{Blames, scrub-accuses, scrub-several, blocks-there, blocks-found}
-use Rattle.stripes.specs.Slice.{shardBytes, laidOut, within, laid-length, laid-at, laid-position, slice-shape, sector-byte, sector-is, missing-shards}
+use Rattle.stripes.specs.Slice.{shardBytes, laidOut, each-byte, within, laid-length, laid-position, laid-sector, laid-only, slice-shape, sector-byte, sector-is, missing-shards}
 
 -- the shards that a rebuild doesn't look at are the same in both
 pub same-padding : (k m : ℕ) (missing : List ℕ) → lookedPast k m missing ≡ padded k m missing
@@ -46,40 +45,55 @@ same-padding k m missing = refl
 
 -- ---- READ
 
-module _ (z : Shelf) (t : ℕ) (bad : ℕ → Bool) (g : ℕ → ℕ → Sector) (few : fewOf z bad ≡ true) where
+-- a slice that has the shards of the slots that are not bad. What it has for the others makes no difference
+module _ (z : Shelf) (t : ℕ) (bad : ℕ → Bool) (g : ℕ → ℕ → Sector) (few : fewOf z bad ≡ true) (before : List ℕ) (whole : length before ≡ slots z * shardBytes z) where
   abbrev missing : List ℕ
   missing = missingOf z t bad
 
-  rebuild-taken : rebuildAnswer (z .k) (z .m) (shardBytes z) (length (laidOut z t g)) missing ≡ Done
+  rebuild-taken : rebuildAnswer (z .k) (z .m) (shardBytes z) (length before) missing ≡ Done
   rebuild-taken =
       ap (λ (b : Bool). cond b (cond (leb (length missing) (z .m)) (cond (shardsOf (slots z) missing) Done (Refused BadShard)) (Refused TooMany)) (Refused BadShape))
-      (slice-shape z (laidOut z t g) (laid-length z t g))
+      (slice-shape z before whole)
       ∙ ap (λ (b : Bool). cond b (cond (shardsOf (slots z) missing) Done (Refused BadShard)) (Refused TooMany)) (le-leb (length missing) (z .m) (missing-few z t bad few))
       ∙ ap (λ (b : Bool). cond b Done (Refused BadShard)) (missing-shards z t bad)
 
-  module _ (a : Answer) (after : List ℕ) (w : Rebuilt (z .k) (z .m) (shardBytes z) missing a (laidOut z t g) after) where
+  module _ (a : Answer) (after : List ℕ) (w : Rebuilt (z .k) (z .m) (shardBytes z) missing a before after) where
     -- where few slots are bad, a rebuild is never refused
     pub rebuild-done : a ≡ Done
     rebuild-done = w .answers ∙ rebuild-taken
 
-    -- EVERY SECTOR OF EVERY SHARD is then what the code says: so for i < k it is the block's
-    pub read : (more : z .m < z .k) (i j : ℕ) → i < slots z → j < z .c → sector (z .c) after i j ≡ code z more .blocks t bad g i j .bytes
-    read more i j hi hj =
-        sector-is z after i j (w .same ∙ laid-length z t g) hi hj (blocksFrom z t bad g i j) (λ p hp. at p hp (bad (slotOf (slots z) t i)) refl)
-      where
-        at : (p : ℕ) → p < sectorBytes → (b : Bool) → bad (slotOf (slots z) t i) ≡ b
-            → byteAt (shardBytes z) after (j * sectorBytes + p) i ≡ byte (blocksFrom z t bad g i j) p
-        at p hp false e =
-            w .survivors rebuild-done i hi (missing-has z t bad i hi ∙ e) (j * sectorBytes + p) (within z j p hj hp)
-            ∙ laid-at z t g j p i hj hp hi ∙ ap (λ (x : Sector). byte x p) (sym (blocks-there z t bad g i j hi e))
-        at p hp true e =
-            let q : ℕ = j * sectorBytes + p in
-            let hq : q < shardBytes z = within z j p hj hp in
-            let y = w .goes-by rebuild-done in
-            let c = has-index missing i (missing-has z t bad i hi ∙ e) in
-            ap (byteAt (shardBytes z) after q) (sym (c .2)) ∙ y .filled (c .0) (c .1) q hq ∙ ap (byteAt (shardBytes z) (y .stripe) q) (c .2)
-            ∙ sym (blocks-found z t bad g i j hi few e p hp (byteAt (shardBytes z) (y .stripe) q) (λ r. y .bytes (r * shardBytes z + q)) (y .sound q hq)
-            (λ r hr n. sym (laid-position z t g j p r hj hp hr) ∙ y .agrees r hr (ap (λ (l : List ℕ). has l r) (same-padding (z .k) (z .m) missing) ∙ n) q hq))
+    module _ (there : (r j : ℕ) → r < slots z → j < z .c → bad (slotOf (slots z) t r) ≡ false → sector (z .c) before r j ≡ g (slotOf (slots z) t r) j .bytes) where
+      there-at : (j p r : ℕ) → j < z .c → p < sectorBytes → r < slots z → bad (slotOf (slots z) t r) ≡ false
+          → byteAt (shardBytes z) before (j * sectorBytes + p) r ≡ byte (g (slotOf (slots z) t r) j) p
+      there-at j p r hj hp hr e = sym (sector-byte z before r j p hp) ∙ ap (λ (l : List ℕ). getD l p 0) (there r j hr hj e)
+
+      -- EVERY SECTOR OF EVERY SHARD is then what the code says
+      pub rebuilt : (more : z .m < z .k) (i j : ℕ) → i < slots z → j < z .c → sector (z .c) after i j ≡ code z more .blocks t bad g i j .bytes
+      unfolding position
+      rebuilt more i j hi hj =
+          sector-is z after i j (w .same ∙ whole) hi hj (blocksFrom z t bad g i j) (λ p hp. at p hp (bad (slotOf (slots z) t i)) refl)
+        where
+          at : (p : ℕ) → p < sectorBytes → (b : Bool) → bad (slotOf (slots z) t i) ≡ b
+              → byteAt (shardBytes z) after (j * sectorBytes + p) i ≡ byte (blocksFrom z t bad g i j) p
+          at p hp false e =
+              w .survivors rebuild-done i hi (missing-has z t bad i hi ∙ e) (j * sectorBytes + p) (within z j p hj hp)
+              ∙ there-at j p i hj hp hi e ∙ ap (λ (x : Sector). byte x p) (sym (blocks-there z t bad g i j hi e))
+          at p hp true e =
+              let q : ℕ = j * sectorBytes + p in
+              let hq : q < shardBytes z = within z j p hj hp in
+              let y = w .goes-by rebuild-done in
+              let c = has-index missing i (missing-has z t bad i hi ∙ e) in
+              ap (byteAt (shardBytes z) after q) (sym (c .2)) ∙ y .filled (c .0) (c .1) q hq ∙ ap (byteAt (shardBytes z) (y .stripe) q) (c .2)
+              ∙ sym (blocks-found z t bad g i j hi few e p hp (byteAt (shardBytes z) (y .stripe) q) (λ r. y .bytes (r * shardBytes z + q)) (y .sound q hq)
+              (λ r hr n. sym (there-at j p r hj hp hr (sym (missing-has z t bad r hr) ∙ padded-off (z .k) (z .m) missing (missing-few z t bad few) r n))
+              ∙ y .agrees r hr (ap (λ (l : List ℕ). has l r) (same-padding (z .k) (z .m) missing) ∙ n) q hq))
+
+-- A READ: a rebuild of the stripe as it lies on the disks has the blocks (for i < k; for the other shards, what these are to be)
+pub read : (z : Shelf) (more : z .m < z .k) (t : ℕ) (bad : ℕ → Bool) (g : ℕ → ℕ → Sector) → fewOf z bad ≡ true → (a : Answer) (after : List ℕ)
+    → Rebuilt (z .k) (z .m) (shardBytes z) (missingOf z t bad) a (laidOut z t g) after
+    → (i j : ℕ) → i < slots z → j < z .c → sector (z .c) after i j ≡ code z more .blocks t bad g i j .bytes
+read z more t bad g few a after w =
+    rebuilt z t bad g few (laidOut z t g) (laid-length z t g) a after w (λ r j hr hj e. laid-sector z t g r j hr hj) more
 
 -- ---- WRITE
 
@@ -118,6 +132,10 @@ module _ (z : Shelf) (t : ℕ) (b : Blocks Sector) (before after : List ℕ) (wh
               subst (λ (i : ℕ). byteAt (shardBytes z) after (j * sectorBytes + p) i ≡ byte (shardSector (z .k) (z .m) b i j) p) e
               (parity-at j p (r - z .k) hj hp (omega arith))
 
+      -- so the slice is the stripe that the code says
+      pub written-all : (more : z .m < z .k) → after ≡ laidOut z t (code z more .shard t b)
+      written-all more = laid-only z t (code z more .shard t b) after (w .same ∙ whole) (written more)
+
 -- ---- SCRUB
 
 -- a finding as the scrub of a slice says it
@@ -140,10 +158,6 @@ verdict-one f h e = sym (back f) ∙ ap findingOf e ∙ back h
     back all-sound = refl
     back (accused r) = refl
     back several = refl
-
--- what holds of each byte of each sector holds of each byte
-each-byte : (c : ℕ) (P : ℕ → Type 0) → ((j p : ℕ) → j < c → p < sectorBytes → P (j * sectorBytes + p)) → (p : ℕ) → p < c * sectorBytes → P p
-each-byte c P h p l = subst P (div-add-mod' p sectorBytes) (h (p / sectorBytes) (p % sectorBytes) (omega arith) (omega arith))
 
 put-ext : (r v i : ℕ) (x y : ℕ → ℕ) → x i ≡ y i → put r v x i ≡ put r v y i
 unfolding put

@@ -1,10 +1,10 @@
 -- A stripe of a shelf as one slice: its shards one behind the other, as the functions on a stripe take them. Assumes nothing.
-use mathlib.Core.Path.{_≡_, refl, sym, ap, ap₂, _∙_}
+use mathlib.Core.Path.{_≡_, refl, sym, ap, ap₂, _∙_, subst}
 use mathlib.Core.Bool.{Bool, true, false, cond, not, _&&_, true≢false}
 use mathlib.Core.List.{List, [], _∷_, _++_, append-nil}
 use mathlib.Core.Logic.{⊎-elim}
-use Prim.Native.Nat.{ℕ, zero, suc, _+_, _*_, _≤_, _<_}
-use native.Mathlib.Nat.{zero-mul, suc-mul, mul-assoc, eq-or-lt-of-le, le-of-suc-le-suc}
+use Prim.Native.Nat.{ℕ, zero, suc, _+_, _*_, _/_, _%_, _≤_, _<_}
+use native.Mathlib.Nat.{zero-mul, suc-mul, mul-assoc, div-add-mod', div-lt-iff-lt-mul, mod-lt, eq-or-lt-of-le, le-of-suc-le-suc}
 use native.Mathlib.Omega.{arith}
 use lib.Arith.{digits-lt}
 use lib.Dec.{eqb, ltb}
@@ -60,9 +60,17 @@ module _ (w : ℕ) (f : ℕ → List ℕ) (h : (i : ℕ) → length (f i) ≡ w)
 abbrev pub shardBytes : Shelf → ℕ
 shardBytes z = z .c * sectorBytes
 
--- stripe t with the strips g of the slots: shard r is the c sectors of its slot in a row
+-- shard r of stripe t with the strips g of the slots: the c sectors of its slot in a row
+abbrev pub shardAt : Shelf → ℕ → (ℕ → ℕ → Sector) → ℕ → List ℕ
+shardAt z t g r = stripBytes (g (slotOf (slots z) t r)) (z .c)
+
+-- the stripe
 unfoldable pub laidOut : Shelf → ℕ → (ℕ → ℕ → Sector) → List ℕ
-laidOut z t g = inRow (slots z) (λ r. stripBytes (g (slotOf (slots z) t r)) (z .c))
+laidOut z t g = inRow (slots z) (shardAt z t g)
+
+-- what holds of each byte of each sector holds of each byte
+pub each-byte : (c : ℕ) (P : ℕ → Type 0) → ((j p : ℕ) → j < c → p < sectorBytes → P (j * sectorBytes + p)) → (p : ℕ) → p < c * sectorBytes → P p
+each-byte c P h p l = subst P (div-add-mod' p sectorBytes) (h (p / sectorBytes) (p % sectorBytes) (omega arith) (omega arith))
 
 module _ (z : Shelf) where
   abbrev n : ℕ
@@ -76,12 +84,12 @@ module _ (z : Shelf) where
   within j p hj hp = digits-lt hj hp
 
   module _ (t : ℕ) (g : ℕ → ℕ → Sector) where
-    abbrev shard : ℕ → List ℕ
-    shard r = stripBytes (g (slotOf n t r)) (z .c)
+    shard-length : (r : ℕ) → length (shardAt z t g r) ≡ len
+    shard-length r = length-strip _ (z .c)
 
     pub laid-length : length (laidOut z t g) ≡ n * len
     unfolding laidOut
-    laid-length = row-length len shard (λ r. length-strip (g (slotOf n t r)) (z .c)) n
+    laid-length = row-length len (shardAt z t g) shard-length n
 
     strip-at : (v : ℕ → Sector) (j p : ℕ) → j < z .c → p < sectorBytes → getD (stripBytes v (z .c)) (j * sectorBytes + p) 0 ≡ byte (v j) p
     unfolding part
@@ -94,8 +102,8 @@ module _ (z : Shelf) where
     pub laid-at : (j p r : ℕ) → j < z .c → p < sectorBytes → r < n → byteAt len (laidOut z t g) (j * sectorBytes + p) r ≡ byte (g (slotOf n t r) j) p
     unfolding laidOut
     laid-at j p r hj hp hr =
-        row-at len shard (λ r. length-strip (g (slotOf n t r)) (z .c)) n r (j * sectorBytes + p) hr (within j p hj hp)
-        ∙ strip-at (g (slotOf n t r)) j p hj hp
+        row-at len (shardAt z t g) shard-length n r (j * sectorBytes + p) hr (within j p hj hp)
+        ∙ strip-at _ j p hj hp
 
     pub laid-position : (j p r : ℕ) → j < z .c → p < sectorBytes → r < n → byteAt len (laidOut z t g) (j * sectorBytes + p) r ≡ position z t g j p r
     unfolding position
@@ -147,6 +155,24 @@ module _ (z : Shelf) where
   pub laid-sector : (t : ℕ) (g : ℕ → ℕ → Sector) (r j : ℕ) → r < n → j < z .c → sector (z .c) (laidOut z t g) r j ≡ g (slotOf n t r) j .bytes
   laid-sector t g r j hr hj =
       sector-is (laidOut z t g) r j (laid-length t g) hr hj (g (slotOf n t r) j) (λ p hp. laid-at t g j p r hj hp hr)
+
+  -- AND ONLY THIS SLICE is such
+  pub laid-only : (t : ℕ) (g : ℕ → ℕ → Sector) (s : List ℕ) → length s ≡ n * len
+      → ((r j : ℕ) → r < n → j < z .c → sector (z .c) s r j ≡ g (slotOf n t r) j .bytes) → s ≡ laidOut z t g
+  laid-only t g s e h = ext-getD 0 s (laidOut z t g) (e ∙ sym (laid-length t g)) (λ i l. each i (omega arith))
+    where
+      in-shard : (r : ℕ) → r < n → (p : ℕ) → p < len → byteAt len s p r ≡ byteAt len (laidOut z t g) p r
+      in-shard r hr =
+          each-byte (z .c) (λ p. byteAt len s p r ≡ byteAt len (laidOut z t g) p r)
+          (λ j p hj hp. sym (sector-byte s r j p hp) ∙ ap (λ (l : List ℕ). getD l p 0) (h r j hr hj) ∙ sym (laid-at t g j p r hj hp hr))
+
+      some : 0 < len
+      some = omega (arith, some-sectors z)
+
+      each : (i : ℕ) → i < n * len → getD s i 0 ≡ getD (laidOut z t g) i 0
+      each i l =
+          subst (λ (i : ℕ). getD s i 0 ≡ getD (laidOut z t g) i 0) (div-add-mod' i len)
+          (in-shard (i / len) (div-lt-iff-lt-mul {k = len} {x = i} {y = n} some .1 l) (i % len) (mod-lt i some))
 
 -- ---- the missing shards
 
