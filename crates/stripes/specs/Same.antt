@@ -88,7 +88,7 @@ module _ (z : Shelf) (t : ℕ) (bad : ℕ → Bool) (g : ℕ → ℕ → Sector)
               (λ r hr n. sym (there-at j p r hj hp hr (sym (missing-has z t bad r hr) ∙ padded-off (z .k) (z .m) missing (missing-few z t bad few) r n))
               ∙ y .agrees r hr (ap (λ (l : List ℕ). has l r) (same-padding (z .k) (z .m) missing) ∙ n) q hq))
 
--- A READ: a rebuild of the stripe as it lies on the disks has the blocks (for i < k; for the other shards, what these are to be)
+-- A READ: a rebuild of the stripe as it lies on the disks has the blocks (i < k), and for a parity shard what the code fills in
 pub read : (z : Shelf) (more : z .m < z .k) (t : ℕ) (bad : ℕ → Bool) (g : ℕ → ℕ → Sector) → fewOf z bad ≡ true → (a : Answer) (after : List ℕ)
     → Rebuilt (z .k) (z .m) (shardBytes z) (missingOf z t bad) a (laidOut z t g) after
     → (i j : ℕ) → i < slots z → j < z .c → sector (z .c) after i j ≡ code z more .blocks t bad g i j .bytes

@@ -15,7 +15,7 @@ use Rattle.disk.specs.Limits.{sectorBytes}
 use Rattle.disk.specs.Geometry.{slotOf}
 use Rattle.disk.specs.Image.{place, sector}
 use Rattle.record.specs.Log.{part}
-use Rattle.codeword.specs.Stripe.{byteAt, has}
+use Rattle.codeword.specs.Stripe.{kLeast, kMost, mLeast, mMost, lenMost, byteAt, has}
 use Rattle.codeword.specs.Named.{has-append}
 use Rattle.code.specs.Shape.{shapedOf, shardsOf}
 use Rattle.code.specs.Lost.{Lost}
@@ -117,12 +117,12 @@ module _ (z : Shelf) where
   slice-shape s e =
       let i = in-range z in
       rw (
-        le-leb 2 (z .k) (i .k-least),
-        le-leb (z .k) 16 (i .k-most),
-        le-leb 1 (z .m) (i .m-least),
-        le-leb (z .m) 3 (i .m-most),
+        le-leb kLeast (z .k) (i .k-least),
+        le-leb (z .k) kMost (i .k-most),
+        le-leb mLeast (z .m) (i .m-least),
+        le-leb (z .m) mMost (i .m-most),
         le-leb 1 len (omega (arith, some-sectors z)),
-        le-leb len 4096 (omega (arith, short-strip z)),
+        le-leb len lenMost (omega (arith, short-strip z)),
         eq-eqb (length s) (n * len) e,
       )
 
