@@ -162,7 +162,7 @@ has-append (x ∷ a) b r = go (eqb x r) (has-append a b r)
     go true q = refl
     go false q = q
 
-ascending-past : (p : ℕ → Bool) (n r : ℕ) → n ≤ r → has (ascending p n) r ≡ false
+pub ascending-past : (p : ℕ → Bool) (n r : ℕ) → n ≤ r → has (ascending p n) r ≡ false
 unfolding ascending
 ascending-past p zero r h = refl
 ascending-past p (suc n) r h = has-append (ascending p n) (cond (p n) (n ∷ []) []) r ∙ go (p n) (ascending-past p n r (omega arith))
