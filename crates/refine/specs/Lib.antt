@@ -17,3 +17,4 @@ pub mod Tied
 pub mod Asked
 pub mod Requests
 pub mod StartBegins
+pub mod Accepts

@@ -45,7 +45,7 @@ use Rattle.refine.specs.Tied.{ownOf, memoryOf, Tied, step-tied}
 use Rattle.refine.specs.Asked.{create-asked, out-asked}
 
 -- an accepted request begins with its first state
-goes : (o : Outcome) (s t : State) → begun o s t .outcome ≡ Done → (o ≡ Done) × (begun o s t .state ≡ t)
+pub goes : (o : Outcome) (s t : State) → begun o s t .outcome ≡ Done → (o ≡ Done) × (begun o s t .state ≡ t)
 goes Done s t e = (refl, refl)
 goes (Refused why) s t e = absurd (let z : _≡_ {A = ℕ} 0 1 = cc in omega arith)
 
@@ -59,7 +59,7 @@ module _ (z : Shelf) (more : z .m < z .k) (img : List ℕ) (disks : Disks z img)
   abbrev first-state : State
   first-state = created (z .k) (z .m) (z .c) (z .sectors) (z .number)
 
-  first-ours : ours z (first-state .now) ≡ true
+  pub first-ours : ours z (first-state .now) ≡ true
   unfolding sameShelf
   first-ours =
       both (eqb (z .k) (z .k)) _ (eq-eqb (z .k) (z .k) refl)
@@ -93,10 +93,10 @@ module _ (z : Shelf) (more : z .m < z .k) (img : List ℕ) (disks : Disks z img)
     abbrev l : bytes.Label
     l = s .now
 
-    n-is : l .k + l .m ≡ slots z
+    pub n-is : l .k + l .m ≡ slots z
     n-is = ap (λ (g : Geometry). g .n) (shelf-geometry z l own)
 
-    out-ours : ours z (outed l d) ≡ true
+    pub out-ours : ours z (outed l d) ≡ true
     unfolding outed sameShelf
     out-ours = by (eqb (l .rebuilding) d)
       where
@@ -119,7 +119,7 @@ module _ (z : Shelf) (more : z .m < z .k) (img : List ℕ) (disks : Disks z img)
             ne-eqb (slots z) d (λ q. omega arith) ∙ sym (ne-eqb (l .rebuilding) d (λ q. omega (arith, few-slots z, eqb-true (l .rebuilding) noSlot e)))
         by false e = refl
 
-    out-label : d < slots z → labelOf z (outed l d) ≡ protocol.outed (slots z) (labelOf z l) d
+    pub out-label : d < slots z → labelOf z (outed l d) ≡ protocol.outed (slots z) (labelOf z l) d
     unfolding outed
     out-label i = by (eqb (l .rebuilding) d) (rebuilt-test i)
       where

@@ -29,7 +29,7 @@ use Rattle.shelf.specs.declared.state.Kind.{Kind}
 use Rattle.shelf.specs.declared.state.Kind.the-variants.{Nothing, Idle, Creating, Starting, Labelling}
 use Rattle.shelf.specs.declared.state.Answer.{Answer}
 use Rattle.shelf.specs.declared.state.Answer.the-variants as answer
-use Rattle.refine.specs.Places.{sectorOf}
+use Rattle.refine.specs.Places.{sectorOf, inside}
 use Rattle.refine.specs.Disks.{curOf}
 use Rattle.refine.specs.ToDo.{toDo}
 use Rattle.refine.specs.Steps.{Fair, Moved, Does, step-does}
@@ -57,7 +57,7 @@ memoryOf z s img = memoryBy (s .kind) z s (toDo z s img)
 abbrev pub Same : Shelf → Answer → Reply Sector → Type 0
 Same z a accepted = ⊥
 Same z a (refused why) = ⊥
-Same z a (did (put k v)) = a ≡ answer.Put (slot k) (sectorOf z k)
+Same z a (did (put k v)) = (inside z k ≡ true) × (a ≡ answer.Put (slot k) (sectorOf z k))
 Same z a (did (flush d)) = a ≡ answer.Flush d
 Same z a safe = ⊥
 Same z a (done k) = a ≡ answer.Done
@@ -124,7 +124,7 @@ module _ (z : Shelf) (more : z .m < z .k) where
           steps =
               ap (λ (y : List (Action Sector)). programOf (memoryBy (s .kind) z s y) (curOf z img) step) e ∙ steps-on (s .kind) busy (put k v) l
               ∙ sym (ap (λ (x : Move). (memoryOf z (x .stepped .state) (x .image), did (put k v))) (h .is) ∙ ap (λ (y : Memory Sector). (y, did (put k v))) (memory-moved (h .state) _ l (h .kept) (h .rest)));
-          answers = ap (λ (x : Move). x .stepped .answer) (h .is);
+          answers = (h .here, ap (λ (x : Move). x .stepped .answer) (h .is));
           acts = λ w c. ap (λ (f : Image Sector). update f k v) c ∙ sym (h .becomes) ∙ sym (ap (λ (x : Move). curOf z (x .image)) (h .is));
           goes-on = inl (subst (λ (x : Move). Fair z (x .stepped .state) (x .image)) (sym (h .is)) (h .fair));
         }
