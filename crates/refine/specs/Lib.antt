@@ -18,3 +18,5 @@ pub mod Asked
 pub mod Requests
 pub mod StartBegins
 pub mod Accepts
+pub mod Named
+pub mod Chain
