@@ -45,7 +45,7 @@ use Rattle.codecs.specs.Records.{records}
 use Rattle.codecs.specs.Media.{stamps}
 use Rattle.shards.specs.Quorum.{few-none, quorum}
 use Rattle.shards.specs.Code.{code}
-use Rattle.shards.specs.Promise.{sectors, Keeps, simulate}
+use Rattle.shards.specs.Promise.{sectors, ZerosOf, Keeps, simulate}
 use Rattle.shelf.specs.Act.{Move, refuses}
 use Rattle.shelf.specs.Step.{underWay, sound, walk, stepMove, finished}
 use Rattle.shelf.specs.Step as Step
@@ -151,7 +151,7 @@ module _ (z : Shelf) (more : z .m < z .k) where
   -- ---- events that leave the blocks
 
   -- a death of the protocol's program
-  off : (w : World Sector) (m : Memory Sector) → Keeps z more (machine.at w m) (sure blocks) → Off (size z) (quorum z more) (labels z) (records z) (code z more) stamps (sectors z more) (sure blocks) w
+  pub off : (w : World Sector) (m : Memory Sector) → Keeps z more (machine.at w m) (sure blocks) → Off (size z) (quorum z more) (labels z) (records z) (code z more) stamps (sectors z more) (sure blocks) w
   off w m k =
       let r = simulate z more (from-outside (program-dies {w = w} {m = m})) (sure blocks) k in
       subst (λ (p : View Sector). Keeps z more (machine.at w nothing) p) (r .1) (r .2)
@@ -251,7 +251,7 @@ module _ (z : Shelf) (more : z .m < z .k) where
   idle-is Starting e = absurd (false≢true e)
   idle-is Labelling e = absurd (false≢true e)
 
-  rests : (s : State) (img : List ℕ) → s .kind ≡ Idle → memoryOf z s img ≡ idle (ownOf z s (s .now))
+  pub rests : (s : State) (img : List ℕ) → s .kind ≡ Idle → memoryOf z s img ≡ idle (ownOf z s (s .now))
   unfolding memoryOf
   rests s img e = ap (λ (k : Kind). memoryBy k z s (toDo z s img)) e
 
@@ -338,10 +338,23 @@ module _ (z : Shelf) (more : z .m < z .k) where
   refused-kept w img s why m w' e t =
       subst (λ (x : Move). Heard z w (x .stepped .answer) (x .image) w' → Tie w' (x .image) (has (x .stepped .state))) (sym e) (λ h. subst (λ (x : World Sector). Tie x img (has s)) (sym h) t)
 
+  -- at rest every step is refused
+  and-none : (a : Bool) → (a && false) ≡ false
+  and-none true = refl
+  and-none false = refl
+
+  step-rests : (s : State) (img : List ℕ) (room : ℕ) → s .kind ≡ Idle → stepWith s img room ≡ refuses s NotNow img
+  unfolding sound stepMove
+  step-rests s img room k =
+      let no : sound s ≡ false = ap (λ (x : Kind). fitsOf (s .now) && (underWay x && (leb (s .cursor .stage) mostStages && ltb (s .cursor .sector) (s .now .c)))) k ∙ and-none (fitsOf (s .now)) in
+      step-unsound s img room no
+      ∙ ap (λ (b : Bool). cond b (cond (fitsImage (geometryOf (s .now)) (length img)) (Step.keeps s (walk mostStages s (geometryOf (s .now)) img)) (refuses s BadImage img)) (refuses s NotNow img)) no
+
   step-kept : (w : World Sector) (img : List ℕ) (s : State) (room : ℕ) (w' : World Sector) → Tie w img (has s)
       → Heard z w (stepWith s img room .stepped .answer) (stepWith s img room .image) w' → Tie w' (stepWith s img room .image) (has (stepWith s img room .stepped .state))
-  unfolding sound stepMove
-  step-kept w img s room w' t = ⊎-elim (λ (f : Fair z s img). busy f (otherWork (s .now) (length img) room) refl) (λ (q : (s .kind ≡ Idle) × (ours z (s .now) ≡ true)). resting (q .0)) (t .order .1)
+  step-kept w img s room w' t =
+      ⊎-elim (λ (f : Fair z s img). busy f (otherWork (s .now) (length img) room) refl)
+      (λ (q : (s .kind ≡ Idle) × (ours z (s .now) ≡ true)). refused-kept w img s NotNow (stepWith s img room) w' (step-rests s img room (q .0)) t) (t .order .1)
     where
       Goal : Type 1
       Goal = Heard z w (stepWith s img room .stepped .answer) (stepWith s img room .image) w' → Tie w' (stepWith s img room .image) (has (stepWith s img room .stepped .state))
@@ -349,15 +362,6 @@ module _ (z : Shelf) (more : z .m < z .k) where
       busy : Fair z s img → (b : Bool) → otherWork (s .now) (length img) room ≡ b → Goal
       busy f true e = refused-kept w img s BadBuffer (stepWith s img room) w' (step-short s img room (f .in-range) e) t
       busy f false e = goes-kept w img s (stepWith s img room) w' (subst (Tied z more s img) (sym (step-goes s img room (f .in-range) e)) (step-tied z more s img f)) t
-
-      and-none : (a : Bool) → (a && false) ≡ false
-      and-none true = refl
-      and-none false = refl
-
-      resting : s .kind ≡ Idle → Goal
-      resting k =
-          let no : sound s ≡ false = ap (λ (x : Kind). fitsOf (s .now) && (underWay x && (leb (s .cursor .stage) mostStages && ltb (s .cursor .sector) (s .now .c)))) k ∙ and-none (fitsOf (s .now)) in
-          refused-kept w img s NotNow (stepWith s img room) w' (step-unsound s img room no ∙ ap (λ (b : Bool). cond b (cond (fitsImage (geometryOf (s .now)) (length img)) (Step.keeps s (walk mostStages s (geometryOf (s .now)) img)) (refuses s BadImage img)) (refuses s NotNow img)) no) t
 
   -- ---- A CALL KEEPS THE TIE
 
@@ -385,3 +389,51 @@ module _ (z : Shelf) (more : z .m < z .k) where
   pub chain-kept : {a b : Moment} → Chain z a b → On a → On b
   chain-kept stays t = t
   chain-kept (goes-on c x) t = call-kept x (chain-kept c t)
+
+  -- ---- THE PROMISE
+
+  -- disks of zeros with nothing in their caches, and no state
+  fresh-tie : (img : List ℕ) → Disks z img → allZero img ≡ true → Tie (after (curOf z img)) img none
+  unfolding after Named
+  fresh-tie img d e =
+      let c = all-zeros z img e in
+      let blank : ZerosOf z more (curOf z img) = subst (ZerosOf z more) (sym c) (record { labels = λ x b i. refl; logs = λ x j i l. refl; strips = λ x t j i h l. refl }) in
+      record {
+        disks = d;
+        reads = refl;
+        keeps = zeros-off (size z) (quorum z more) (labels z) (records z) (code z more) stamps (sectors z more) (after (curOf z img)) (sane-after (curOf z img)) (few-none z) (always-after (ZerosOf z more) (curOf z img) blank);
+        named = always-after (Named z) (curOf z img) (subst (Named z) (sym c) (zeros-named z));
+        names = tt;
+        order = tt;
+      }
+
+  -- FROM ZEROS ON, whatever is called, and however often power is lost or the program dies: the protocol's invariant holds of the
+  -- disks and of what its program remembers beside the state, with the host's blocks all zeros
+  pub chained : (img : List ℕ) → Disks z img → allZero img ≡ true → {b : Moment} → Chain z (at (after (curOf z img)) img none) b → On b
+  chained img d e c = chain-kept c (fresh-tie img d e)
+
+  -- and each step can be followed: its answer names a sector of the shelf
+  heard-by : (w : World Sector) (img : List ℕ) (r : Reply Sector) (a : Answer) → Same z a r → effect w r .cur ≡ curOf z img → (w' : World Sector) × Heard z w a img w'
+  heard-by w img accepted a s c = absurd s
+  heard-by w img (refused why) a s c = absurd s
+  heard-by w img (did (put k v)) a s c = (act w (put k (curOf z img k)), subst (λ (x : Answer). Heard z w x img (act w (put k (curOf z img k)))) (sym (s .1)) (k, s .0, refl, refl, refl))
+  heard-by w img (did (flush d)) a s c = (act w (flush d), subst (λ (x : Answer). Heard z w x img (act w (flush d))) (sym s) refl)
+  heard-by w img safe a s c = absurd s
+  heard-by w img (done k) a s c = (w, subst (λ (x : Answer). Heard z w x img w) (sym s) refl)
+  heard-by w img (block b) a s c = absurd s
+  heard-by w img (found x) a s c = absurd s
+
+  pub followed : (w : World Sector) (img : List ℕ) (s : State) (room : ℕ) → On (at w img (has s)) → (w' : World Sector) × Heard z w (stepWith s img room .stepped .answer) (stepWith s img room .image) w'
+  followed w img s room t = ⊎-elim (λ (f : Fair z s img). busy f (otherWork (s .now) (length img) room) refl) (λ (q : (s .kind ≡ Idle) × (ours z (s .now) ≡ true)). none-done NotNow (step-rests s img room (q .0))) (t .order .1)
+    where
+      Goal : Move → Type 1
+      Goal m = (w' : World Sector) × Heard z w (m .stepped .answer) (m .image) w'
+
+      none-done : (why : Refusal) → stepWith s img room ≡ refuses s why img → Goal (stepWith s img room)
+      none-done why e = subst Goal (sym e) (w, refl)
+
+      busy : Fair z s img → (b : Bool) → otherWork (s .now) (length img) room ≡ b → Goal (stepWith s img room)
+      busy f true e = none-done BadBuffer (step-short s img room (f .in-range) e)
+      busy f false e =
+          let tied = subst (Tied z more s img) (sym (step-goes s img room (f .in-range) e)) (step-tied z more s img f) in
+          heard-by w (stepWith s img room .image) (tied .reply) (stepWith s img room .stepped .answer) (tied .answers) (tied .acts w (t .reads))

@@ -20,3 +20,4 @@ pub mod StartBegins
 pub mod Accepts
 pub mod Named
 pub mod Chain
+pub mod Promise

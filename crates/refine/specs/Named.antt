@@ -212,13 +212,14 @@ module _ (z : Shelf) where
 
 -- ---- so the label that a survey goes by is this shelf's
 
-side : (s : ℕ) → s < 2 → (b : Bool) × (sectorOf b ≡ s)
+-- one of the two copies
+pub side : (s : ℕ) → s < 2 → (b : Bool) × (sectorOf b ≡ s)
 side zero h = (false, refl)
 side (suc zero) h = (true, refl)
 side (suc (suc s)) h = absurd (omega arith)
 
 module _ (z : Shelf) (img : List ℕ) (disks : Disks z img) (named : Named z (curOf z img)) where
-  copy-ours : (d s : ℕ) (a : bytes.Label) → d < slots z → s < 2 → copyOf (geometry z) img d s ≡ Valid a → ours z a ≡ true
+  pub copy-ours : (d s : ℕ) (a : bytes.Label) → d < slots z → s < 2 → copyOf (geometry z) img d s ≡ Valid a → ours z a ≡ true
   unfolding Named copyOf places.sectorOf places.copySector
   copy-ours d s a h l e =
       let b = side s l in
