@@ -8,15 +8,14 @@ use Prim.Native.Nat.{ℕ, zero, suc, _+_, _*_, _≤_, _<_, _%_, _^_}
 use native.Mathlib.Nat.{mod-lt, suc-mul}
 use native.Mathlib.Omega.{arith}
 use lib.Count.{ones}
-use lib.Dec.{eqb, leb, ltb, lit<}
-use lib.ListN.{length, getD, getD-replicate}
+use lib.Dec.{eqb, leb, lit<}
+use lib.ListN.{getD, getD-replicate}
 use lib.Seq.{ext-getD}
-use borrow.Author.Tests.{eq-eqb, ne-eqb, eqb-true, eqb-false, lt-ltb, le-leb, leb-true, not-true}
+use borrow.Author.Tests.{eq-eqb, ne-eqb, eqb-true, eqb-false, lt-ltb, le-leb}
 use Rattle.disk.specs.Limits.{sectorBytes}
 use Rattle.disk.specs.Image.{place}
 use Rattle.disk.specs.Tests.{and-left, and-right, both}
 use Rattle.disk.specs.Mask.{inMask, withSlot, with-lt}
-use Rattle.disk.specs.declared.geometry.Geometry.{Geometry}
 use Rattle.disk.specs.declared.refusal.Outcome.the-variants.{Done}
 use Rattle.label.specs.Fields.{noSlot, mostGeneration, fitsOf}
 use Rattle.label.specs.Bytes.{allZero}
@@ -41,7 +40,7 @@ use Rattle.protocol.specs.Invariant.{Ghost, Under, Off}
 use Rattle.protocol.specs.Promise.{under-framed, accept-f, same-label}
 use Rattle.protocol.specs.Request as protocol
 use Rattle.protocol.specs.Program as program
-use Rattle.protocol.specs.Program.{NO_LABEL, TOO_FEW, BAD_BLOCK, BUSY, NOT_NOW, Verdict, clear, first, Own, Memory, nothing, idle, Reply, accepted, create, start, take-out, beyond, blank, blank-slot, mask, may, may-create, may-start, asked-create, asked-start, asked-out, answer}
+use Rattle.protocol.specs.Program.{TOO_FEW, BAD_BLOCK, BUSY, NOT_NOW, Verdict, clear, first, Own, nothing, idle, accepted, create, start, take-out, beyond, blank, mask, may, may-create, may-start, asked-create, asked-start, asked-out, answer}
 use Rattle.codecs.specs.Sector.{Sector, zeros, sector-path}
 use Rattle.codecs.specs.Shelf.{Shelf, slots, geometry, size}
 use Rattle.codecs.specs.Labels.{noLabel, ours, labelOf, labels}

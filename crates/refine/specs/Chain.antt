@@ -9,10 +9,9 @@
 -- a disk whose newest label is another shelf's.
 use mathlib.Core.Path.{_≡_, refl, sym, ap, ap₂, subst, _∙_}
 use mathlib.Core.Logic.{_⊎_, ⊎-elim, inl, inr}
-use mathlib.Core.Bool.{Bool, true, false, cond, not, _&&_, false≢true}
-use mathlib.Core.List.{List, []}
-use Prim.Native.Nat.{ℕ, _+_, _<_}
-use native.Mathlib.Omega.{arith}
+use mathlib.Core.Bool.{Bool, true, false, cond, _&&_, false≢true}
+use mathlib.Core.List.{List, [], _∷_, _++_}
+use Prim.Native.Nat.{ℕ, _<_}
 use lib.Dec.{eqb, leb, ltb}
 use lib.ListN.{length}
 use Rattle.disk.specs.Mask.{inMask}
@@ -30,13 +29,12 @@ use Rattle.rounds.specs.declared.plan.Plan.{Plan}
 use Rattle.rounds.specs.declared.plan.Survey.{Survey}
 use Rattle.rounds.specs.declared.plan.Survey.the-variants as survey
 use Rattle.rounds.proofs.Plans.{survey-grounds}
-use Rattle.protocol.specs.World.{Place, slot, Image, update, update-here, World, put, flush, act, after, Possible, Sane, Always, sane-after, always-after, always-cur}
+use Rattle.protocol.specs.World.{Place, slot, Image, update-here, World, put, flush, act, after, Possible, Always, sane-after, always-after, always-cur}
 use Rattle.protocol.specs.Program.{Memory, nothing, idle, Input, create, start, take-out, step, Reply, accepted, refused, did, safe, done, block, found, beyond}
 use Rattle.protocol.specs.Program as program
 use Rattle.protocol.specs.Host.{Host}
-use Rattle.protocol.specs.Machine.{Machine, effect, from-outside, from-host, power-cut, program-dies, View, sure, Accepting, Answered}
+use Rattle.protocol.specs.Machine.{Machine, Event, ask, effect, from-outside, from-host, power-cut, program-dies, View, sure, Answered, Goes}
 use Rattle.protocol.specs.Machine as machine
-use Rattle.protocol.specs.Invariant.{Off}
 use Rattle.protocol.specs.Promise.{zeros-off}
 use Rattle.codecs.specs.Sector.{Sector, zeros}
 use Rattle.codecs.specs.Shelf.{Shelf, slots, geometry, size}
@@ -45,7 +43,7 @@ use Rattle.codecs.specs.Records.{records}
 use Rattle.codecs.specs.Media.{stamps}
 use Rattle.shards.specs.Quorum.{few-none, quorum}
 use Rattle.shards.specs.Code.{code}
-use Rattle.shards.specs.Promise.{sectors, ZerosOf, Keeps, simulate}
+use Rattle.shards.specs.Promise.{sectors, ZerosOf, HappensTo, RunsOf, Keeps, simulate}
 use Rattle.shelf.specs.Act.{Move, refuses}
 use Rattle.shelf.specs.Step.{underWay, sound, walk, stepMove, finished}
 use Rattle.shelf.specs.Step as Step
@@ -137,33 +135,49 @@ InOrder z none img = Unit {0}
 InOrder z (has s) img = (ours z (s .next) ≡ true) × (Fair z s img ⊎ ((s .kind ≡ Idle) × (ours z (s .now) ≡ true)))
 
 module _ (z : Shelf) (more : z .m < z .k) where
-  pub record Tie (w : World Sector) (img : List ℕ) (h : Hand) : Type 0 where
+  run-on : {a b c : Machine Sector} {e : Event Sector} (l : List (Event Sector)) → RunsOf z more a l b → HappensTo z more b e c → RunsOf z more a (l ++ (e ∷ [])) c
+  run-on l machine.stays h = machine.goes h machine.stays
+  run-on l (machine.goes {l = r} y x) h = machine.goes y (run-on r x h)
+
+  -- at rest the program remembers its own
+  pub rests : (s : State) (img : List ℕ) → s .kind ≡ Idle → memoryOf z s img ≡ idle (ownOf z s (s .now))
+  unfolding memoryOf
+  rests s img e = ap (λ (k : Kind). memoryBy k z s (toDo z s img)) e
+
+module _ (z : Shelf) (more : z .m < z .k) (first : Machine Sector) where
+  -- the protocol's machine comes here from the first one by its own events, and its invariant holds, with the host's blocks all zeros
+  pub record Reached (w : World Sector) (m : Memory Sector) : Type 1 where
+    pub events : List (Event Sector)
+    pub runs : RunsOf z more first events (machine.at w m)
+    pub keeps : Keeps z more (machine.at w m) (sure blocks)
+
+  -- the image is that of the disks as they are read, no label on them names another shelf or is about to, and what the caller holds is in order
+  pub record Tie (w : World Sector) (img : List ℕ) (h : Hand) : Type 1 where
     pub disks : Disks z img
     pub reads : w .cur ≡ curOf z img
-    pub keeps : Keeps z more (machine.at w (memoryIn z h img)) (sure blocks)
+    pub reached : Reached w (memoryIn z h img)
     pub named : Always w (Named z)
     pub names : Names z (leftIn z (memoryIn z h img))
     pub order : InOrder z h img
 
-  abbrev pub On : Moment → Type 0
+  abbrev pub On : Moment → Type 1
   On (at w img h) = Tie w img h
 
-  -- ---- events that leave the blocks
+  -- one event more, that leaves the blocks
+  happens : {w w' : World Sector} {m m' : Memory Sector} {e : Event Sector} → Reached w m → HappensTo z more (machine.at w m) e (machine.at w' m') → ((q : View Sector) → Goes (z .c) e (sure blocks) q → q ≡ sure blocks) → Reached w' m'
+  happens {w} {w'} {m} {m'} {e} t h same =
+      let r = simulate z more h (sure blocks) (t .keeps) in
+      record { events = t .events ++ (e ∷ []); runs = run-on z more (t .events) (t .runs) h; keeps = subst (Keeps z more (machine.at w' m')) (same (r .0) (r .1)) (r .2) }
 
-  -- a death of the protocol's program
-  pub off : (w : World Sector) (m : Memory Sector) → Keeps z more (machine.at w m) (sure blocks) → Off (size z) (quorum z more) (labels z) (records z) (code z more) stamps (sectors z more) (sure blocks) w
-  off w m k =
-      let r = simulate z more (from-outside (program-dies {w = w} {m = m})) (sure blocks) k in
-      subst (λ (p : View Sector). Keeps z more (machine.at w nothing) p) (r .1) (r .2)
+  -- the program dies
+  pub off : {w : World Sector} {m : Memory Sector} → Reached w m → Reached w nothing
+  off t = happens t (from-outside program-dies) (λ q e. e)
 
-  module _ (w : World Sector) (img : List ℕ) (reads : w .cur ≡ curOf z img) where
-    -- what is asked and answered
-    asks : (m m' : Memory Sector) (i : Input Sector) (r : Reply Sector) → ((q : View Sector) → Answered (z .c) i r (sure blocks) q → q ≡ sure blocks)
-        → programOf z more m (curOf z img) i ≡ (m', r) → Keeps z more (machine.at w m) (sure blocks) → Keeps z more (machine.at (effect w r) m') (sure blocks)
-    asks m m' i r same e k =
-        let x = subst (λ (y : Memory Sector × Reply Sector). (q : View Sector) × Answered (z .c) i (y .1) (sure blocks) q × Keeps z more (machine.at (effect w (y .1)) (y .0)) q)
-        (ap (λ (f : Image Sector). programOf z more m f i) reads ∙ e) (simulate z more (from-host {w = w} {m = m} i) (sure blocks) k) in
-        subst (Keeps z more (machine.at (effect w r) m')) (same (x .0) (x .1)) (x .2)
+  -- something is asked, and answered
+  asks : {w : World Sector} {m : Memory Sector} (img : List ℕ) → w .cur ≡ curOf z img → Reached w m → (m' : Memory Sector) (i : Input Sector) (r : Reply Sector)
+      → programOf z more m (curOf z img) i ≡ (m', r) → ((q : View Sector) → Answered (z .c) i r (sure blocks) q → q ≡ sure blocks) → Reached (effect w r) m'
+  asks {w} {m} img reads t m' i r e =
+      happens t (subst (λ (y : Memory Sector × Reply Sector). HappensTo z more (machine.at w m) (ask i (y .1)) (machine.at (effect w (y .1)) (y .0))) (ap (λ (f : Image Sector). programOf z more m f i) reads ∙ e) (from-host i))
 
   -- ---- each call
 
@@ -171,21 +185,21 @@ module _ (z : Shelf) (more : z .m < z .k) where
   create-kept : (w : World Sector) (img : List ℕ) (h : Hand) (s : State) (room : ℕ) → Tie w img h → Tie w img (handed h (createOf s (z .k) (z .m) (z .c) (z .sectors) (z .number) img room))
   create-kept w img h s room t = by (createAnswer (z .k) (z .m) (z .c) (z .sectors) img room) refl
     where
-      first : State
-      first = created (z .k) (z .m) (z .c) (z .sectors) (z .number)
+      fresh : State
+      fresh = created (z .k) (z .m) (z .c) (z .sectors) (z .number)
 
-      by : (o : Outcome) → createAnswer (z .k) (z .m) (z .c) (z .sectors) img room ≡ o → Tie w img (handed h (begun o s first))
+      by : (o : Outcome) → createAnswer (z .k) (z .m) (z .c) (z .sectors) img room ≡ o → Tie w img (handed h (begun o s fresh))
       by Done e =
-          let y : createOf s (z .k) (z .m) (z .c) (z .sectors) (z .number) img room .outcome ≡ Done = ap (λ (o : Outcome). begun o s first .outcome) e in
+          let y : createOf s (z .k) (z .m) (z .c) (z .sectors) (z .number) img room .outcome ≡ Done = ap (λ (o : Outcome). begun o s fresh .outcome) e in
           let b = create-begins z more img (t .disks) s room y in
-          let q = goes (createAnswer (z .k) (z .m) (z .c) (z .sectors) img room) s first y .1 in
+          let q = goes (createAnswer (z .k) (z .m) (z .c) (z .sectors) img room) s fresh y .1 in
           let m = ap (λ (x : State). memoryOf z x img) (sym q) ∙ b .1 in
           record {
             disks = t .disks;
             reads = t .reads;
-            keeps =
-                subst (λ (x : Memory Sector). Keeps z more (machine.at w x) (sure blocks)) (sym m)
-                (asks w img (t .reads) nothing _ create accepted (λ p a. a) (create-accepted z img more (create-done (z .k) (z .m) (z .c) (z .sectors) img room e .1)) (off w (memoryIn z h img) (t .keeps)));
+            reached =
+                subst (Reached w) (sym m)
+                (asks img (t .reads) (off (t .reached)) _ create accepted (create-accepted z img more (create-done (z .k) (z .m) (z .c) (z .sectors) img room e .1)) (λ p a. a));
             named = t .named;
             names = subst (λ (x : Memory Sector). Names z (leftIn z x)) (sym m) (create-names z more);
             order = (first-ours z more img (t .disks), inl (subst (λ (x : State). Fair z x img) q (b .0)));
@@ -203,8 +217,8 @@ module _ (z : Shelf) (more : z .m < z .k) where
       A : ℕ → Bool
       A = beyond (slots z) (inMask absent)
 
-      off-w : Off (size z) (quorum z more) (labels z) (records z) (code z more) stamps (sectors z more) (sure blocks) w
-      off-w = off w (memoryIn z h img) (t .keeps)
+      off-w : Reached w nothing
+      off-w = off (t .reached)
 
       led-by : (p : Plan) → surveyOf (geometry z) img absent ≡ survey.Plan p → Led z img absent A (p .lead)
       led-by p e =
@@ -212,7 +226,7 @@ module _ (z : Shelf) (more : z .m < z .k) where
           record {
             disks = t .disks;
             are = beyond-below (slots z) absent;
-            own = lead-ours z img (t .disks) (subst (Named z) (t .reads) (always-cur (Named z) w (off-w .sane) (t .named))) absent (p .lead) (r .leads);
+            own = lead-ours z img (t .disks) (subst (Named z) (t .reads) (always-cur (Named z) w (off-w .keeps .sane) (t .named))) absent (p .lead) (r .leads);
             leads = r .leads;
             agree = r .agree;
           }
@@ -222,14 +236,12 @@ module _ (z : Shelf) (more : z .m < z .k) where
           let led = led-by p e in
           let is : startOf s (geometry z) absent img room ≡ record { state = started (geometry z) absent p img; outcome = Done } =
           ap (λ (x : Survey). bySurvey x s (geometry z) absent img room) e ∙ ap (λ (b : Bool). cond b (record { state = started (geometry z) absent p img; outcome = Done }) (record { state = s; outcome = Refused BadBuffer })) q in
-          let b = start-begins z more img absent p led e (start-real z img more absent p e led w (t .reads) blocks off-w) s room (ap (λ (x : Begun). x .outcome) is) in
+          let b = start-begins z more img absent p led e (start-real z img more absent p e led w (t .reads) blocks (off-w .keeps)) s room (ap (λ (x : Begun). x .outcome) is) in
           let m = ap (λ (x : Begun). memoryOf z (x .state) img) (sym is) ∙ b .1 in
           record {
             disks = t .disks;
             reads = t .reads;
-            keeps =
-                subst (λ (x : Memory Sector). Keeps z more (machine.at w x) (sure blocks)) (sym m)
-                (asks w img (t .reads) nothing _ (start (inMask absent)) accepted (λ y a. a) (start-accepted z img more absent p e led) off-w);
+            reached = subst (Reached w) (sym m) (asks img (t .reads) off-w _ (start (inMask absent)) accepted (start-accepted z img more absent p e led) (λ y a. a));
             named = t .named;
             names = subst (λ (x : Memory Sector). Names z (leftIn z x)) (sym m) (start-names z more A _);
             order = (ap (λ (x : Plan). ours z (x .next)) (survey-grounds (geometry z) img absent p e .is) ∙ settled-ours img absent (p .lead) (led .own), inl (subst (λ (x : Begun). Fair z (x .state) img) is (b .0)));
@@ -251,10 +263,6 @@ module _ (z : Shelf) (more : z .m < z .k) where
   idle-is Starting e = absurd (false≢true e)
   idle-is Labelling e = absurd (false≢true e)
 
-  pub rests : (s : State) (img : List ℕ) → s .kind ≡ Idle → memoryOf z s img ≡ idle (ownOf z s (s .now))
-  unfolding memoryOf
-  rests s img e = ap (λ (k : Kind). memoryBy k z s (toDo z s img)) e
-
   out-kept : (w : World Sector) (img : List ℕ) (s : State) (d room : ℕ) → Tie w img (has s) → Tie w img (handed (has s) (takeOutOf s d img room))
   out-kept w img s d room t = by (takeAnswer (s .now) (s .kind) (s .absent) img d room) refl
     where
@@ -267,14 +275,11 @@ module _ (z : Shelf) (more : z .m < z .k) where
           let b = out-begins z more img (t .disks) s own d room y in
           let q = goes (takeAnswer (s .now) (s .kind) (s .absent) img d room) s (tookOut s d) y .1 in
           let m = ap (λ (x : State). memoryOf z x img) (sym q) ∙ b .1 in
-          let r = rests s img (idle-is (s .kind) (take-done (s .now) (s .kind) (s .absent) img d room e .1 .at-rest)) in
+          let r = rests z more s img (idle-is (s .kind) (take-done (s .now) (s .kind) (s .absent) img d room e .1 .at-rest)) in
           record {
             disks = t .disks;
             reads = t .reads;
-            keeps =
-                subst (λ (x : Memory Sector). Keeps z more (machine.at w x) (sure blocks)) (sym m)
-                (asks w img (t .reads) (idle (ownOf z s (s .now))) _ (take-out d) accepted (λ p a. a) (out-accepted z img more (t .disks) s own d room e)
-                (subst (λ (x : Memory Sector). Keeps z more (machine.at w x) (sure blocks)) r (t .keeps)));
+            reached = subst (Reached w) (sym m) (asks img (t .reads) (subst (Reached w) r (t .reached)) _ (take-out d) accepted (out-accepted z img more (t .disks) s own d room e) (λ p a. a));
             named = t .named;
             names = subst (λ (x : Memory Sector). Names z (leftIn z x)) (sym m) (out-names z more (ownOf z s (s .now)) d);
             order = (out-ours z more img (t .disks) s own d, inl (subst (λ (x : State). Fair z x img) q (b .0)));
@@ -316,14 +321,14 @@ module _ (z : Shelf) (more : z .m < z .k) where
   goes-kept : (w : World Sector) (img : List ℕ) (s : State) (m : Move) (w' : World Sector) → Tied z more s img m → Tie w img (has s) → Heard z w (m .stepped .answer) (m .image) w' → Tie w' (m .image) (has (m .stepped .state))
   goes-kept w img s m w' tied t h =
       let r = tied .reply in
-      let o = off w (memoryOf z s img) (t .keeps) in
+      let o = off (t .reached) .keeps in
       let n = subst (λ (y : Memory Sector × Reply Sector). Always (effect w (y .1)) (Named z) × Names z (leftIn z (y .0))) (tied .steps) (step-names z more (memoryOf z s img) (curOf z img) w (o .sane) (t .named) (t .names)) in
       let next-ours = ap (ours z) (tied .settles) ∙ t .order .0 in
       subst (λ (x : World Sector). Tie x (m .image) (has (m .stepped .state))) (heard-is w w' (m .image) r (m .stepped .answer) (tied .answers) (tied .acts w (t .reads)) h)
       (record {
         disks = ⊎-elim (λ (f : Fair z (m .stepped .state) (m .image)). f .disks) (λ (q : m ≡ finished s img). subst (λ (x : Move). Disks z (x .image)) (sym q) (t .disks)) (tied .goes-on);
         reads = tied .acts w (t .reads);
-        keeps = asks w img (t .reads) (memoryOf z s img) (memoryOf z (m .stepped .state) (m .image)) step r (step-same r (m .stepped .answer) (tied .answers)) (tied .steps) (t .keeps);
+        reached = asks img (t .reads) (t .reached) (memoryOf z (m .stepped .state) (m .image)) step r (tied .steps) (step-same r (m .stepped .answer) (tied .answers));
         named = n .0;
         names = n .1;
         order = (
@@ -368,11 +373,10 @@ module _ (z : Shelf) (more : z .m < z .k) where
   cut-kept : (w : World Sector) (img : List ℕ) (h : Hand) (left : List ℕ) → Disks z left → Possible w (curOf z left) → Tie w img h → Tie (after (curOf z left)) left none
   unfolding after Always
   cut-kept w img h left d p t =
-      let r = simulate z more (from-outside (power-cut {w = w} {m = memoryIn z h img} (curOf z left) p)) (sure blocks) (t .keeps) in
       record {
         disks = d;
         reads = refl;
-        keeps = subst (λ (q : View Sector). Keeps z more (machine.at (after (curOf z left)) nothing) q) (r .1) (r .2);
+        reached = happens (t .reached) (from-outside (power-cut (curOf z left) p)) (λ q e. e);
         named = always-after (Named z) (curOf z left) (t .named (curOf z left) p);
         names = tt;
         order = tt;
@@ -384,33 +388,11 @@ module _ (z : Shelf) (more : z .m < z .k) where
   call-kept (takes-out {w} {img} {s} d room) t = out-kept w img s d room t
   call-kept (steps {w} {w'} {img} {s} room heard) t = step-kept w img s room w' t heard
   call-kept (cut {w} {img} {h} left d p) t = cut-kept w img h left d p t
-  call-kept (dies {w} {img} {h}) t = record { disks = t .disks; reads = t .reads; keeps = off w (memoryIn z h img) (t .keeps); named = t .named; names = tt; order = tt }
+  call-kept (dies {w} {img} {h}) t = record { disks = t .disks; reads = t .reads; reached = off (t .reached); named = t .named; names = tt; order = tt }
 
   pub chain-kept : {a b : Moment} → Chain z a b → On a → On b
   chain-kept stays t = t
   chain-kept (goes-on c x) t = call-kept x (chain-kept c t)
-
-  -- ---- THE PROMISE
-
-  -- disks of zeros with nothing in their caches, and no state
-  fresh-tie : (img : List ℕ) → Disks z img → allZero img ≡ true → Tie (after (curOf z img)) img none
-  unfolding after Named
-  fresh-tie img d e =
-      let c = all-zeros z img e in
-      let blank : ZerosOf z more (curOf z img) = subst (ZerosOf z more) (sym c) (record { labels = λ x b i. refl; logs = λ x j i l. refl; strips = λ x t j i h l. refl }) in
-      record {
-        disks = d;
-        reads = refl;
-        keeps = zeros-off (size z) (quorum z more) (labels z) (records z) (code z more) stamps (sectors z more) (after (curOf z img)) (sane-after (curOf z img)) (few-none z) (always-after (ZerosOf z more) (curOf z img) blank);
-        named = always-after (Named z) (curOf z img) (subst (Named z) (sym c) (zeros-named z));
-        names = tt;
-        order = tt;
-      }
-
-  -- FROM ZEROS ON, whatever is called, and however often power is lost or the program dies: the protocol's invariant holds of the
-  -- disks and of what its program remembers beside the state, with the host's blocks all zeros
-  pub chained : (img : List ℕ) → Disks z img → allZero img ≡ true → {b : Moment} → Chain z (at (after (curOf z img)) img none) b → On b
-  chained img d e c = chain-kept c (fresh-tie img d e)
 
   -- and each step can be followed: its answer names a sector of the shelf
   heard-by : (w : World Sector) (img : List ℕ) (r : Reply Sector) (a : Answer) → Same z a r → effect w r .cur ≡ curOf z img → (w' : World Sector) × Heard z w a img w'
@@ -437,3 +419,36 @@ module _ (z : Shelf) (more : z .m < z .k) where
       busy f false e =
           let tied = subst (Tied z more s img) (sym (step-goes s img room (f .in-range) e)) (step-tied z more s img f) in
           heard-by w (stepWith s img room .image) (tied .reply) (stepWith s img room .stepped .answer) (tied .answers) (tied .acts w (t .reads))
+
+-- ---- THE PROMISE
+
+module _ (z : Shelf) (more : z .m < z .k) (img : List ℕ) (disks : Disks z img) (blank : allZero img ≡ true) where
+  -- the protocol's machine on these disks, with nothing in their caches and no program
+  abbrev pub fresh : Machine Sector
+  fresh = machine.at (after (curOf z img)) nothing
+
+  -- no state is held
+  fresh-tie : Tie z more fresh (after (curOf z img)) img none
+  unfolding after Named
+  fresh-tie =
+      let c = all-zeros z img blank in
+      let bare : ZerosOf z more (curOf z img) = subst (ZerosOf z more) (sym c) (record { labels = λ x b i. refl; logs = λ x j i l. refl; strips = λ x t j i h l. refl }) in
+      record {
+        disks = disks;
+        reads = refl;
+        reached =
+            record {
+              events = [];
+              runs = machine.stays;
+              keeps = zeros-off (size z) (quorum z more) (labels z) (records z) (code z more) stamps (sectors z more) (after (curOf z img)) (sane-after (curOf z img)) (few-none z) (always-after (ZerosOf z more) (curOf z img) bare);
+            };
+        named = always-after (Named z) (curOf z img) (subst (Named z) (sym c) (zeros-named z));
+        names = tt;
+        order = tt;
+      }
+
+  -- FROM AN IMAGE OF ZEROS ON, whatever is called, and however often power is lost or the program dies: the disks and what the
+  -- program remembers beside the state are reached by the protocol's own events, and its invariant holds of them, with the host's
+  -- blocks all zeros
+  pub chained : {b : Moment} → Chain z (at (after (curOf z img)) img none) b → On z more fresh b
+  chained c = chain-kept z more fresh c fresh-tie

@@ -1,7 +1,7 @@
 -- NO DISK EVER NAMES ANOTHER SHELF: where no sector of the disks is another shelf's label, whatever a cut leaves, none is after an
 -- action of the protocol's program. Assumes nothing.
 use mathlib.Core.Path.{_≡_, refl, sym, ap, subst, _∙_}
-use mathlib.Core.Bool.{Bool, true, false, cond, false≢true, _&&_, _||_}
+use mathlib.Core.Bool.{Bool, true, false, cond, false≢true, _||_}
 use mathlib.Core.List.{List, [], _∷_, _++_}
 use Prim.Native.Nat.{ℕ, zero, suc, _+_, _*_, _<_, _/_, _%_, _^_}
 use native.Mathlib.Nat.{pow-suc}
@@ -15,14 +15,13 @@ use Rattle.label.specs.Bytes.{labelBytes, sealed}
 use Rattle.label.specs.Valid.{labelAt, decodeOf}
 use Rattle.label.specs.Newest.{sameShelf, copyOf, shelfLabel}
 use Rattle.label.specs.declared.fields.Label as bytes
-use Rattle.label.specs.declared.codec.Decoded.{Decoded}
-use Rattle.label.specs.declared.codec.Decoded.the-variants.{Valid, Nothing}
+use Rattle.label.specs.declared.codec.Decoded.the-variants.{Valid}
 use Rattle.label.proofs.Laws.{decode-says, zeros-nothing}
 use Rattle.label.proofs.Counts.{shelf-says, present-says, disk-says}
-use Rattle.protocol.specs.World.{Place, label, log, strip, slot, Image, update, update-cases, World, Action, put, flush, act, Sane, Always, always-put, always-flush}
+use Rattle.protocol.specs.World.{Place, label, log, strip, slot, Image, update, update-cases, World, Action, put, flush, Sane, Always, always-put, always-flush}
 use Rattle.protocol.specs.Slots.{from}
 use Rattle.protocol.specs.Batch.{puts, flushes, Batch, actions, Each}
-use Rattle.protocol.specs.Label.{Label, again, belief, copy, round, round-batch, prep, prep-batch, prep-value}
+use Rattle.protocol.specs.Label.{Label, again, belief, copy, round, round-batch, prep, prep-batch}
 use Rattle.protocol.specs.Redo.{redo}
 use Rattle.protocol.specs.Startup.{M, L, late, level-to, again-to, last-to, rounds}
 use Rattle.protocol.specs.Decide.{data-place, Touch, Looked, strips-each, redo-each, in-turn, settled, startup}
@@ -30,11 +29,11 @@ use Rattle.protocol.specs.Log.{Write}
 use Rattle.protocol.specs.Write.{store}
 use Rattle.protocol.specs.Request.{outed}
 use Rattle.protocol.specs.Program as program
-use Rattle.protocol.specs.Program.{Own, Kind, creating, starting, logging, storing, labelling, Memory, nothing, idle, doing, Reply, step, new-label, beyond, flushed-first, told-to, asked-create, asked-start, asked-out}
+use Rattle.protocol.specs.Program.{Own, creating, starting, logging, storing, labelling, Memory, nothing, idle, doing, step, new-label, beyond, flushed-first, told-to, asked-create, asked-start, asked-out}
 use Rattle.protocol.specs.Machine.{effect}
 use Rattle.codecs.specs.Sector.{Sector, zeros}
 use Rattle.codecs.specs.Shelf.{Shelf, slots, geometry, size, few-data, few-parity, short-strip, limits}
-use Rattle.codecs.specs.Labels.{sectorOf, fieldsOf, encodeLabel, ours, noLabel, labels}
+use Rattle.codecs.specs.Labels.{sectorOf, fieldsOf, encodeLabel, ours, labels}
 use Rattle.codecs.specs.Records.{records}
 use Rattle.codecs.specs.Media.{stamps}
 use Rattle.shards.specs.Quorum.{quorum}

@@ -1,16 +1,13 @@
 -- WHAT THE CHAIN OF CALLS PROMISES OF THE IMAGE, in the words of the bytes: whatever a cut leaves, every sector that the state's
 -- label believes at rest is zeros, and no label on any disk lies. Assumes nothing.
-use mathlib.Core.Path.{_≡_, refl, sym, ap, ap₂, subst, _∙_}
-use mathlib.Core.Bool.{Bool, true, false, cond, _&&_}
+use mathlib.Core.Path.{_≡_, refl, sym, ap, subst, _∙_}
+use mathlib.Core.Bool.{Bool, true, false, cond}
 use mathlib.Core.List.{List}
-use Prim.Native.Nat.{ℕ, zero, suc, _+_, _≤_, _<_}
+use Prim.Native.Nat.{ℕ, _+_, _≤_, _<_}
 use native.Mathlib.Omega.{arith}
-use lib.Dec.{ltb}
 use lib.ListN.{replicate}
-use borrow.Author.Tests.{ltb-true}
 use Rattle.disk.specs.Limits.{sectorBytes}
-use Rattle.disk.specs.Tests.{and-left, and-right}
-use Rattle.disk.specs.Geometry.{stripOf, stripesOf}
+use Rattle.disk.specs.Geometry.{stripOf}
 use Rattle.disk.specs.Image.{sector}
 use Rattle.label.specs.Valid.{decodeOf}
 use Rattle.label.specs.Newest.{copyOf}
@@ -22,7 +19,7 @@ use Rattle.label.proofs.Fits.{fits-says}
 use Rattle.label.proofs.Counts.{copy-says}
 use Rattle.redo.specs.Decide.{believed}
 use Rattle.redo.specs.Laws.{looked-below, believed-looked, believed-below}
-use Rattle.protocol.specs.World.{label, strip, Image, World, after, Possible, Always}
+use Rattle.protocol.specs.World.{label, strip, World, after, Possible, Always}
 use Rattle.protocol.specs.Label.{Label, copy, Aged}
 use Rattle.protocol.specs.Label as Label
 use Rattle.protocol.specs.Host.{table}
@@ -30,7 +27,7 @@ use Rattle.protocol.specs.Program.{Memory}
 use Rattle.protocol.specs.Machine.{sure}
 use Rattle.protocol.specs.Machine as machine
 use Rattle.protocol.specs.Kept.{Honest}
-use Rattle.codecs.specs.Sector.{Sector, zeros}
+use Rattle.codecs.specs.Sector.{Sector}
 use Rattle.codecs.specs.Shelf.{Shelf, slots, geometry, size}
 use Rattle.codecs.specs.Labels.{sectorOf, noLabel, ours, labelOf, meant, decodeLabel, labels}
 use Rattle.codecs.specs.Records.{records}
@@ -45,7 +42,7 @@ use Rattle.refine.specs.Places as places
 use Rattle.refine.specs.Disks.{Disks, curOf, cur-bytes, cur-read}
 use Rattle.refine.specs.Redo.{believe-is}
 use Rattle.refine.specs.Named.{Named, side, copy-ours}
-use Rattle.refine.specs.Chain.{Hand, none, has, Moment, at, Chain, blocks, memoryIn, Tie, On, rests, off, chained}
+use Rattle.refine.specs.Chain.{Hand, none, has, at, Chain, blocks, Tie, rests, off, fresh, chained}
 
 -- sector j of strip t of slot d is zeros
 abbrev pub Blank : Shelf → List ℕ → ℕ → ℕ → ℕ → Type 0
@@ -116,13 +113,13 @@ module _ (z : Shelf) (more : z .m < z .k) where
   -- ---- AFTER ANY CHAIN OF CALLS, from an image of zeros on
   module _ (first : List ℕ) (disks : Disks z first) (blank : allZero first ≡ true) {w : World Sector} {img : List ℕ} {h : Hand} (chain : Chain z (at (after (curOf z first)) first none) (at w img h))
       (left : List ℕ) (here : Disks z left) (possible : Possible w (curOf z left)) where
-    tie : Tie z more w img h
+    tie : Tie z more (fresh z more first disks blank) w img h
     tie = chained z more first disks blank chain
 
     -- whatever a cut leaves, no label on any disk lies
     pub honest-labels : NoLies z left
     unfolding Always
-    honest-labels = no-lies left here (tie .named (curOf z left) possible) (honest z more blocks w (off z more w (memoryIn z h img) (tie .keeps)) (curOf z left) possible)
+    honest-labels = no-lies left here (tie .named (curOf z left) possible) (honest z more blocks w (off z more (fresh z more first disks blank) (tie .reached) .keeps) (curOf z left) possible)
 
   -- at rest, whatever a cut leaves, the state's own label is true
   pub rests-true : (first : List ℕ) → Disks z first → allZero first ≡ true → {w : World Sector} {img : List ℕ} {s : State} → Chain z (at (after (curOf z first)) first none) (at w img (has s)) → s .kind ≡ Idle
@@ -130,5 +127,5 @@ module _ (z : Shelf) (more : z .m < z .k) where
   unfolding Always
   rests-true first disks blank {w} {img} {s} chain e left here possible d t j b l =
       let tie = chained z more first disks blank chain in
-      let k = subst (λ (x : Memory Sector). Keeps z more (machine.at w x) (sure blocks)) (rests z more s img e) (tie .keeps) in
+      let k = subst (λ (x : Memory Sector). Keeps z more (machine.at w x) (sure blocks)) (rests z more s img e) (tie .reached .keeps) in
       blank-of left here (s .now) d t j b l (sound z more blocks w _ k (curOf z left) possible d t j (believe-is z (s .now) d t ∙ b) l)
