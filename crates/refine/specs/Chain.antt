@@ -35,6 +35,8 @@ use Rattle.protocol.specs.Program as program
 use Rattle.protocol.specs.Host.{Host}
 use Rattle.protocol.specs.Machine.{Machine, Event, ask, effect, from-outside, from-host, power-cut, program-dies, View, sure, Answered, Goes}
 use Rattle.protocol.specs.Machine as machine
+use Rattle.protocol.specs.Shape.{Shapes}
+use Rattle.protocol.specs.Shaped.{Shaped, AllShaped, shaped, zeros-shaped}
 use Rattle.protocol.specs.Promise.{zeros-off}
 use Rattle.codecs.specs.Sector.{Sector, zeros}
 use Rattle.codecs.specs.Shelf.{Shelf, slots, geometry, size}
@@ -145,11 +147,13 @@ module _ (z : Shelf) (more : z .m < z .k) where
   rests s img e = ap (λ (k : Kind). memoryBy k z s (toDo z s img)) e
 
 module _ (z : Shelf) (more : z .m < z .k) (first : Machine Sector) where
-  -- the protocol's machine comes here from the first one by its own events, and its invariant holds, with the host's blocks all zeros
+  -- the protocol's machine comes here from the first one by its own events, and its invariant holds, with the host's blocks all zeros;
+  -- and the disks' labels have their shape (document 02, C6)
   pub record Reached (w : World Sector) (m : Memory Sector) : Type 1 where
     pub events : List (Event Sector)
     pub runs : RunsOf z more first events (machine.at w m)
     pub keeps : Keeps z more (machine.at w m) (sure blocks)
+    pub tidy : Shaped (size z) (quorum z more) (labels z) (records z) (code z more) stamps (sectors z more) (machine.at w m)
 
   -- the image is that of the disks as they are read, no label on them names another shelf or is about to, and what the caller holds is in order
   pub record Tie (w : World Sector) (img : List ℕ) (h : Hand) : Type 1 where
@@ -164,20 +168,28 @@ module _ (z : Shelf) (more : z .m < z .k) (first : Machine Sector) where
   On (at w img h) = Tie w img h
 
   -- one event more, that leaves the blocks
-  happens : {w w' : World Sector} {m m' : Memory Sector} {e : Event Sector} → Reached w m → HappensTo z more (machine.at w m) e (machine.at w' m') → ((q : View Sector) → Goes (z .c) e (sure blocks) q → q ≡ sure blocks) → Reached w' m'
-  happens {w} {w'} {m} {m'} {e} t h same =
+  happens : {w w' : World Sector} {m m' : Memory Sector} {e : Event Sector} → Reached w m → (h : HappensTo z more (machine.at w m) e (machine.at w' m')) → AllShaped (size z) (quorum z more) (labels z) (records z) (code z more) stamps (sectors z more) h
+      → ((q : View Sector) → Goes (z .c) e (sure blocks) q → q ≡ sure blocks) → Reached w' m'
+  happens {w} {w'} {m} {m'} {e} t h new same =
       let r = simulate z more h (sure blocks) (t .keeps) in
-      record { events = t .events ++ (e ∷ []); runs = run-on z more (t .events) (t .runs) h; keeps = subst (Keeps z more (machine.at w' m')) (same (r .0) (r .1)) (r .2) }
+      record {
+        events = t .events ++ (e ∷ []);
+        runs = run-on z more (t .events) (t .runs) h;
+        keeps = subst (Keeps z more (machine.at w' m')) (same (r .0) (r .1)) (r .2);
+        tidy = shaped (size z) (quorum z more) (labels z) (records z) (code z more) stamps (sectors z more) h new (sure blocks) (t .keeps) (t .tidy);
+      }
 
   -- the program dies
   pub off : {w : World Sector} {m : Memory Sector} → Reached w m → Reached w nothing
-  off t = happens t (from-outside program-dies) (λ q e. e)
+  off t = happens t (from-outside program-dies) tt (λ q e. e)
 
   -- something is asked, and answered
   asks : {w : World Sector} {m : Memory Sector} (img : List ℕ) → w .cur ≡ curOf z img → Reached w m → (m' : Memory Sector) (i : Input Sector) (r : Reply Sector)
       → programOf z more m (curOf z img) i ≡ (m', r) → ((q : View Sector) → Answered (z .c) i r (sure blocks) q → q ≡ sure blocks) → Reached (effect w r) m'
-  asks {w} {m} img reads t m' i r e =
-      happens t (subst (λ (y : Memory Sector × Reply Sector). HappensTo z more (machine.at w m) (ask i (y .1)) (machine.at (effect w (y .1)) (y .0))) (ap (λ (f : Image Sector). programOf z more m f i) reads ∙ e) (from-host i))
+  asks {w} {m} img reads t m' i r e same =
+      let y : programOf z more m (w .cur) i ≡ (m', r) = ap (λ (f : Image Sector). programOf z more m f i) reads ∙ e in
+      subst (λ (x : Memory Sector × Reply Sector). Reached (effect w (x .1)) (x .0)) y
+      (happens t (from-host i) tt (subst (λ (x : Memory Sector × Reply Sector). (q : View Sector) → Answered (z .c) i (x .1) (sure blocks) q → q ≡ sure blocks) (sym y) same))
 
   -- ---- each call
 
@@ -376,7 +388,7 @@ module _ (z : Shelf) (more : z .m < z .k) (first : Machine Sector) where
       record {
         disks = d;
         reads = refl;
-        reached = happens (t .reached) (from-outside (power-cut (curOf z left) p)) (λ q e. e);
+        reached = happens (t .reached) (from-outside (power-cut (curOf z left) p)) tt (λ q e. e);
         named = always-after (Named z) (curOf z left) (t .named (curOf z left) p);
         names = tt;
         order = tt;
@@ -441,6 +453,7 @@ module _ (z : Shelf) (more : z .m < z .k) (img : List ℕ) (disks : Disks z img)
               events = [];
               runs = machine.stays;
               keeps = zeros-off (size z) (quorum z more) (labels z) (records z) (code z more) stamps (sectors z more) (after (curOf z img)) (sane-after (curOf z img)) (few-none z) (always-after (ZerosOf z more) (curOf z img) bare);
+              tidy = always-after (Shapes (labels z)) (curOf z img) (zeros-shaped (size z) (quorum z more) (labels z) (records z) (code z more) stamps (sectors z more) (curOf z img) bare);
             };
         named = always-after (Named z) (curOf z img) (subst (Named z) (sym c) (zeros-named z));
         names = tt;
