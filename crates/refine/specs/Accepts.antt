@@ -52,12 +52,12 @@ use Rattle.shards.specs.Parity.{byte-of}
 use Rattle.shards.specs.Parity as Parity
 use Rattle.shards.specs.Code.{code}
 use Rattle.shards.specs.Promise.{sectors}
-use Rattle.refine.specs.Places.{sectorOf, inside}
-use Rattle.refine.specs.Disks.{Disks, byteIn, curOf, seenOf, seen-mask, seen-present}
 use Rattle.shelf.specs.declared.state.State.{State}
 use Rattle.requests.specs.Ready.{isIdle}
 use Rattle.requests.specs.TakeOut.{outWith, plainlyOut, takeAnswer, nextLabel, outed}
 use Rattle.requests.specs.Accepted.{Goes, take-done}
+use Rattle.refine.specs.Places.{sectorOf, inside}
+use Rattle.refine.specs.Disks.{Disks, byteIn, curOf, seenOf, seen-mask, seen-present}
 use Rattle.refine.specs.Labels.{Led}
 use Rattle.refine.specs.Rounds.{slot-test, next-is, verdict, start-is}
 use Rattle.refine.specs.Redo.{look-is, logs-fair, settled-dark}

@@ -33,7 +33,7 @@ use Rattle.protocol.specs.World.{Place, slot, Image, update-here, World, put, f
 use Rattle.protocol.specs.Program.{Memory, nothing, idle, Input, create, start, take-out, step, Reply, accepted, refused, did, safe, done, block, found, beyond}
 use Rattle.protocol.specs.Program as program
 use Rattle.protocol.specs.Host.{Host}
-use Rattle.protocol.specs.Machine.{Machine, Event, ask, effect, from-outside, from-host, power-cut, program-dies, View, sure, Answered, Goes}
+use Rattle.protocol.specs.Machine.{Machine, Event, effect, from-outside, from-host, power-cut, program-dies, View, sure, Answered, Goes}
 use Rattle.protocol.specs.Machine as machine
 use Rattle.protocol.specs.Shape.{Shapes}
 use Rattle.protocol.specs.Shaped.{Shaped, AllShaped, shaped, zeros-shaped}
@@ -367,18 +367,20 @@ module _ (z : Shelf) (more : z .m < z .k) (first : Machine Sector) where
       step-unsound s img room no
       ∙ ap (λ (b : Bool). cond b (cond (fitsImage (geometryOf (s .now)) (length img)) (Step.keeps s (walk mostStages s (geometryOf (s .now)) img)) (refuses s BadImage img)) (refuses s NotNow img)) no
 
+  -- A STEP is the program's, or it is refused and nothing changes
+  pub step-is : (w : World Sector) (img : List ℕ) (s : State) (room : ℕ) → Tie w img (has s) → Tied z more s img (stepWith s img room) ⊎ ((why : Refusal) × (stepWith s img room ≡ refuses s why img))
+  step-is w img s room t =
+      ⊎-elim (λ (f : Fair z s img). busy f (otherWork (s .now) (length img) room) refl) (λ (q : (s .kind ≡ Idle) × (ours z (s .now) ≡ true)). inr (NotNow, step-rests s img room (q .0))) (t .order .1)
+    where
+      busy : Fair z s img → (b : Bool) → otherWork (s .now) (length img) room ≡ b → Tied z more s img (stepWith s img room) ⊎ ((why : Refusal) × (stepWith s img room ≡ refuses s why img))
+      busy f true e = inr (BadBuffer, step-short s img room (f .in-range) e)
+      busy f false e = inl (subst (Tied z more s img) (sym (step-goes s img room (f .in-range) e)) (step-tied z more s img f))
+
   step-kept : (w : World Sector) (img : List ℕ) (s : State) (room : ℕ) (w' : World Sector) → Tie w img (has s)
       → Heard z w (stepWith s img room .stepped .answer) (stepWith s img room .image) w' → Tie w' (stepWith s img room .image) (has (stepWith s img room .stepped .state))
-  step-kept w img s room w' t =
-      ⊎-elim (λ (f : Fair z s img). busy f (otherWork (s .now) (length img) room) refl)
-      (λ (q : (s .kind ≡ Idle) × (ours z (s .now) ≡ true)). refused-kept w img s NotNow (stepWith s img room) w' (step-rests s img room (q .0)) t) (t .order .1)
-    where
-      Goal : Type 1
-      Goal = Heard z w (stepWith s img room .stepped .answer) (stepWith s img room .image) w' → Tie w' (stepWith s img room .image) (has (stepWith s img room .stepped .state))
-
-      busy : Fair z s img → (b : Bool) → otherWork (s .now) (length img) room ≡ b → Goal
-      busy f true e = refused-kept w img s BadBuffer (stepWith s img room) w' (step-short s img room (f .in-range) e) t
-      busy f false e = goes-kept w img s (stepWith s img room) w' (subst (Tied z more s img) (sym (step-goes s img room (f .in-range) e)) (step-tied z more s img f)) t
+  step-kept w img s room w' t h =
+      ⊎-elim (λ (d : Tied z more s img (stepWith s img room)). goes-kept w img s (stepWith s img room) w' d t h)
+      (λ (d : (why : Refusal) × (stepWith s img room ≡ refuses s why img)). refused-kept w img s (d .0) (stepWith s img room) w' (d .1) t h) (step-is w img s room t)
 
   -- ---- A CALL KEEPS THE TIE
 
@@ -418,19 +420,9 @@ module _ (z : Shelf) (more : z .m < z .k) (first : Machine Sector) where
   heard-by w img (found x) a s c = absurd s
 
   pub followed : (w : World Sector) (img : List ℕ) (s : State) (room : ℕ) → On (at w img (has s)) → (w' : World Sector) × Heard z w (stepWith s img room .stepped .answer) (stepWith s img room .image) w'
-  followed w img s room t = ⊎-elim (λ (f : Fair z s img). busy f (otherWork (s .now) (length img) room) refl) (λ (q : (s .kind ≡ Idle) × (ours z (s .now) ≡ true)). none-done NotNow (step-rests s img room (q .0))) (t .order .1)
-    where
-      Goal : Move → Type 1
-      Goal m = (w' : World Sector) × Heard z w (m .stepped .answer) (m .image) w'
-
-      none-done : (why : Refusal) → stepWith s img room ≡ refuses s why img → Goal (stepWith s img room)
-      none-done why e = subst Goal (sym e) (w, refl)
-
-      busy : Fair z s img → (b : Bool) → otherWork (s .now) (length img) room ≡ b → Goal (stepWith s img room)
-      busy f true e = none-done BadBuffer (step-short s img room (f .in-range) e)
-      busy f false e =
-          let tied = subst (Tied z more s img) (sym (step-goes s img room (f .in-range) e)) (step-tied z more s img f) in
-          heard-by w (stepWith s img room .image) (tied .reply) (stepWith s img room .stepped .answer) (tied .answers) (tied .acts w (t .reads))
+  followed w img s room t =
+      ⊎-elim (λ (d : Tied z more s img (stepWith s img room)). heard-by w (stepWith s img room .image) (d .reply) (stepWith s img room .stepped .answer) (d .answers) (d .acts w (t .reads)))
+      (λ (d : (why : Refusal) × (stepWith s img room ≡ refuses s why img)). subst (λ (m : Move). (w' : World Sector) × Heard z w (m .stepped .answer) (m .image) w') (sym (d .1)) (w, refl)) (step-is w img s room t)
 
 -- ---- THE PROMISE
 

@@ -212,7 +212,7 @@ module _ (z : Shelf) where
 -- ---- so the label that a survey goes by is this shelf's
 
 -- one of the two copies
-pub side : (s : ℕ) → s < 2 → (b : Bool) × (sectorOf b ≡ s)
+abbrev pub side : (s : ℕ) → s < 2 → (b : Bool) × (sectorOf b ≡ s)
 side zero h = (false, refl)
 side (suc zero) h = (true, refl)
 side (suc (suc s)) h = absurd (omega arith)

@@ -1,14 +1,19 @@
--- WHAT THE CHAIN OF CALLS PROMISES OF THE IMAGE, in the words of the bytes: whatever a cut leaves, every sector that the state's
--- label believes at rest is zeros, and no label on any disk lies. Assumes nothing.
+-- WHAT EVERY CHAIN OF CALLS KEEPS, in the words of the bytes: no label on any disk lies, names another shelf or loses its shape; at
+-- rest the state's own label is true, whatever a cut leaves; no step touches an absent slot. (The protocol's theorems that this
+-- follows from: `honest`, `sound`, `untouched` of the shards' Promise, `shaped` of the protocol.) Assumes nothing.
 use mathlib.Core.Path.{_≡_, refl, sym, ap, subst, _∙_}
-use mathlib.Core.Bool.{Bool, true, false, cond}
+use mathlib.Core.Logic.{_⊎_, ⊎-elim, inl, inr}
+use mathlib.Core.Bool.{Bool, true, false, cond, not, _||_, true≢false}
 use mathlib.Core.List.{List}
-use Prim.Native.Nat.{ℕ, _+_, _≤_, _<_}
+use Prim.Native.Nat.{ℕ, suc, _+_, _≤_, _<_}
 use native.Mathlib.Omega.{arith}
 use lib.ListN.{replicate}
+use lib.Dec.{ltb}
 use Rattle.disk.specs.Limits.{sectorBytes}
 use Rattle.disk.specs.Geometry.{stripOf}
 use Rattle.disk.specs.Image.{sector}
+use Rattle.disk.specs.declared.refusal.Refusal.{Refusal}
+use Rattle.disk.specs.Mask.{inMask}
 use Rattle.label.specs.Valid.{decodeOf}
 use Rattle.label.specs.Newest.{copyOf}
 use Rattle.label.specs.Bytes.{allZero}
@@ -19,38 +24,47 @@ use Rattle.label.proofs.Fits.{fits-says}
 use Rattle.label.proofs.Counts.{copy-says}
 use Rattle.redo.specs.Decide.{believed}
 use Rattle.redo.specs.Laws.{looked-below, believed-looked, believed-below}
-use Rattle.protocol.specs.World.{label, strip, World, after, Possible, Always}
+use Rattle.protocol.specs.World.{label, strip, Image, Action, put, flush, World, after, Possible, Always}
 use Rattle.protocol.specs.Label.{Label, copy, Aged}
 use Rattle.protocol.specs.Label as Label
 use Rattle.protocol.specs.Host.{table}
-use Rattle.protocol.specs.Program.{Memory}
+use Rattle.protocol.specs.Shape.{Shape}
+use Rattle.protocol.specs.Shaped.{shaped-off}
+use Rattle.protocol.specs.Program.{Memory, Reply, accepted, refused, did, safe, done, block, found, step}
 use Rattle.protocol.specs.Machine.{sure}
 use Rattle.protocol.specs.Machine as machine
-use Rattle.protocol.specs.Kept.{Honest}
-use Rattle.codecs.specs.Sector.{Sector}
+use Rattle.protocol.specs.Kept.{Honest, slot-of, away}
+use Rattle.codecs.specs.Sector.{Sector, zeros}
 use Rattle.codecs.specs.Shelf.{Shelf, slots, geometry, size}
 use Rattle.codecs.specs.Labels.{sectorOf, noLabel, ours, labelOf, meant, decodeLabel, labels}
 use Rattle.codecs.specs.Records.{records}
 use Rattle.codecs.specs.Media.{stamps}
 use Rattle.shards.specs.Quorum.{fewOf, quorum}
 use Rattle.shards.specs.Code.{code, zeros-shard}
-use Rattle.shards.specs.Promise.{sectors, Keeps, sound, honest}
+use Rattle.shards.specs.Promise.{sectors, Keeps, sound, honest, untouched}
 use Rattle.shelf.specs.declared.state.State.{State}
-use Rattle.shelf.specs.declared.state.Kind.the-variants.{Idle}
+use Rattle.shelf.specs.declared.state.Kind.the-variants.{Nothing, Idle, Creating, Starting, Labelling}
+use Rattle.shelf.specs.declared.state.Kind.{Kind}
+use Rattle.shelf.specs.Act.{Move, refuses}
+use Rattle.shelf.specs.declared.state.Answer.{Answer}
+use Rattle.shelf.specs.declared.state.Answer.the-variants as answer
+use Rattle.requests.specs.Step.{stepWith}
 use Rattle.refine.specs.Places.{label-inside, strip-is-inside}
 use Rattle.refine.specs.Places as places
 use Rattle.refine.specs.Disks.{Disks, curOf, cur-bytes, cur-read}
 use Rattle.refine.specs.Redo.{believe-is}
+use Rattle.refine.specs.ToDo.{toDo}
+use Rattle.refine.specs.Tied.{ownOf, memoryOf, memoryBy, Same, programOf, Tied}
 use Rattle.refine.specs.Named.{Named, side, copy-ours}
-use Rattle.refine.specs.Chain.{Hand, none, has, at, Chain, blocks, Tie, rests, off, fresh, chained}
+use Rattle.refine.specs.Chain.{Hand, none, has, Moment, at, Heard, Chain, blocks, memoryIn, Tie, rests, off, step-is, followed, fresh, chained}
 
 -- sector j of strip t of slot d is zeros
 abbrev pub Blank : Shelf → List ℕ → ℕ → ℕ → ℕ → Type 0
 Blank z img d t j = sector (z .sectors) img d (stripOf (geometry z) t + j) ≡ replicate sectorBytes 0
 
 -- every strip sector that the label believes is zeros
-abbrev pub True : Shelf → List ℕ → bytes.Label → Type 0
-True z img a = (d t j : ℕ) → believed (geometry z) a d t ≡ true → j < z .c → Blank z img d t j
+abbrev pub Truthful : Shelf → List ℕ → bytes.Label → Type 0
+Truthful z img a = (d t j : ℕ) → believed (geometry z) a d t ≡ true → j < z .c → Blank z img d t j
 
 -- NO LABEL LIES: there is a settled generation, which every disk has but few (at most m); and each label on any disk, of this
 -- generation or a newer one, is true
@@ -59,7 +73,19 @@ pub record NoLies (z : Shelf) (img : List ℕ) : Type 0 where
   pub out : ℕ → Bool
   pub few-out : fewOf z out ≡ true
   pub everyone : (d : ℕ) → d < slots z → out d ≡ false → 0 < settled → (s : ℕ) × (a : bytes.Label) × (copyOf (geometry z) img d s ≡ Valid a) × (settled ≤ a .generation)
-  pub right : (d s : ℕ) (a : bytes.Label) → d < slots z → s < 2 → copyOf (geometry z) img d s ≡ Valid a → settled ≤ a .generation → True z img a
+  pub right : (d s : ℕ) (a : bytes.Label) → d < slots z → s < 2 → copyOf (geometry z) img d s ≡ Valid a → settled ≤ a .generation → Truthful z img a
+
+-- THE SHAPE OF A LABEL (document 02, C6): each of the two sectors is zeros or a valid copy, and two copies follow each other
+pub record Follows (z : Shelf) (img : List ℕ) (d : ℕ) : Type 0 where
+  pub calm : (s : ℕ) → s < 2 → (sector (z .sectors) img d s ≡ replicate sectorBytes 0) ⊎ ((a : bytes.Label) × (copyOf (geometry z) img d s ≡ Valid a))
+  pub follow : (a b : bytes.Label) → copyOf (geometry z) img d 0 ≡ Valid a → copyOf (geometry z) img d 1 ≡ Valid b → (a .generation ≡ suc (b .generation)) ⊎ (b .generation ≡ suc (a .generation))
+
+-- the slot that a step's answer names
+abbrev pub Touches : Answer → ℕ → Type 0
+Touches (answer.Put d to) e = d ≡ e
+Touches (answer.Flush d) e = d ≡ e
+Touches answer.Done e = ⊥
+Touches (answer.Refused why) e = ⊥
 
 module _ (z : Shelf) (more : z .m < z .k) where
   module _ (img : List ℕ) (disks : Disks z img) where
@@ -84,12 +110,12 @@ module _ (z : Shelf) (more : z .m < z .k) where
           ∙ ap (λ (t : Bool). cond t (labelOf z a) (noLabel z)) (copy-ours z img disks named d s a h l e)
 
       -- a copy that has a generation is a label
-      copy-there : (d : ℕ) (b : Bool) (q : ℕ) → d < slots z → 0 < q → q ≤ copy (labels z) (curOf z img) d b .generation → (s : ℕ) × (a : bytes.Label) × (copyOf (geometry z) img d s ≡ Valid a) × (q ≤ a .generation)
+      copy-there : (d : ℕ) (b : Bool) (q : ℕ) → d < slots z → 0 < q → q ≤ copy (labels z) (curOf z img) d b .generation → (a : bytes.Label) × (copyOf (geometry z) img d (sectorOf b) ≡ Valid a) × (q ≤ a .generation)
       copy-there d b q h pos le = by (copyOf (geometry z) img d (sectorOf b)) refl (subst (λ (x : Label). q ≤ x .generation) (copy-meant d b h) le)
         where
-          by : (x : Decoded) → copyOf (geometry z) img d (sectorOf b) ≡ x → q ≤ meant z x .generation → (s : ℕ) × (a : bytes.Label) × (copyOf (geometry z) img d s ≡ Valid a) × (q ≤ a .generation)
+          by : (x : Decoded) → copyOf (geometry z) img d (sectorOf b) ≡ x → q ≤ meant z x .generation → (a : bytes.Label) × (copyOf (geometry z) img d (sectorOf b) ≡ Valid a) × (q ≤ a .generation)
           by Nothing e i = absurd (omega arith)
-          by (Valid a) e i = (sectorOf b, a, e, own (ours z a) i)
+          by (Valid a) e i = (a, e, own (ours z a) i)
             where
               own : (t : Bool) → q ≤ cond t (labelOf z a) (noLabel z) .generation → q ≤ a .generation
               own true i = i
@@ -102,7 +128,7 @@ module _ (z : Shelf) (more : z .m < z .k) where
             settled = h .q;
             out = h .out;
             few-out = h .few-out;
-            everyone = λ d i o pos. let y = h .everyone d i o in copy-there d (y .0) (h .q) i pos (y .1);
+            everyone = λ d i o pos. let y = h .everyone d i o in let c = copy-there d (y .0) (h .q) i pos (y .1) in (sectorOf (y .0), c .0, c .1, c .2);
             right = λ d s a i l e g x t j b c.
                 let q = copy-label d s a i l e in
                 blank-of a x t j b c
@@ -110,22 +136,106 @@ module _ (z : Shelf) (more : z .m < z .k) where
                 (ap (λ (y : Label). Label.believed (size z) y x t) q ∙ believe-is z a x t ∙ b) c);
           }
 
+      shape-of : (d : ℕ) → d < slots z → Shape (labels z) (curOf z img) d → Follows z img d
+      unfolding places.sectorOf places.copySector
+      shape-of d i h = record { calm = calm; follow = follow }
+        where
+          calm : (s : ℕ) → s < 2 → (sector (z .sectors) img d s ≡ replicate sectorBytes 0) ⊎ ((a : bytes.Label) × (copyOf (geometry z) img d s ≡ Valid a))
+          calm s l =
+              let b = side s l in
+              ⊎-elim
+              (λ (q : curOf z img (label d (b .0)) ≡ zeros). inl (ap (sector (z .sectors) img d) (sym (b .1)) ∙ sym (cur-bytes z img disks (label d (b .0)) (label-inside z d (b .0) i)) ∙ ap (λ (x : Sector). x .bytes) q))
+              (λ (q : 0 < copy (labels z) (curOf z img) d (b .0) .generation). inr (let y = copy-there d (b .0) 1 i (omega arith) q in (y .0, ap (copyOf (geometry z) img d) (sym (b .1)) ∙ y .1))) (h .calm (b .0))
+
+          follow : (a b : bytes.Label) → copyOf (geometry z) img d 0 ≡ Valid a → copyOf (geometry z) img d 1 ≡ Valid b → (a .generation ≡ suc (b .generation)) ⊎ (b .generation ≡ suc (a .generation))
+          follow a b p q =
+              let x = ap (λ (y : Label). y .generation) (copy-label d 0 a i (omega arith) p) in
+              let y = ap (λ (y : Label). y .generation) (copy-label d 1 b i (omega arith) q) in
+              let m = fits-says a (copy-says (geometry z) img d 0 a p .fit) .from-one in
+              let n = fits-says b (copy-says (geometry z) img d 1 b q .fit) .from-one in
+              ⊎-elim (λ (e : copy (labels z) (curOf z img) d false .generation ≡ suc (copy (labels z) (curOf z img) d true .generation)). inl (omega (arith, e, x, y)))
+              (λ (e : copy (labels z) (curOf z img) d true .generation ≡ suc (copy (labels z) (curOf z img) d false .generation)). inr (omega (arith, e, x, y)))
+              (h .follow false (omega (arith, x, m)) (omega (arith, y, n)))
+
+  -- ---- absent slots
+
+  or-none : (a b : Bool) → (a || b) ≡ false → a ≡ false
+  or-none true b e = e
+  or-none false b e = refl
+
+  away-says : (s : State) (k : Kind) (l : List (Action Sector)) (e : ℕ)
+      → away (size z) (quorum z more) (labels z) (records z) (code z more) stamps (sectors z more) (memoryBy k z s l) e ≡ false → inMask (s .absent) e ≡ false
+  away-says s Nothing l e q = absurd (true≢false q)
+  away-says s Idle l e q = or-none (inMask (s .absent) e) (not (ltb e (slots z))) q
+  away-says s Creating l e q = or-none (inMask (s .absent) e) (not (ltb e (slots z))) q
+  away-says s Starting l e q = or-none (inMask (s .absent) e) (not (ltb e (slots z))) q
+  away-says s Labelling l e q = or-none (inMask (s .absent) e) (not (ltb e (slots z))) q
+
+  touch-says : (s : State) (e : ℕ) (r : Reply Sector) (a : Answer) → Same z a r → Touches a e
+      → ((x : Action Sector) → r ≡ did x → inMask (s .absent) (slot-of x) ≡ false) → inMask (s .absent) e ≡ false
+  touch-says s e accepted a same t h = absurd same
+  touch-says s e (refused why) a same t h = absurd same
+  touch-says s e (did (put k v)) a same t h = ap (inMask (s .absent)) (sym (subst (λ (x : Answer). Touches x e) (same .1) t)) ∙ h (put k v) refl
+  touch-says s e (did (flush d)) a same t h = ap (inMask (s .absent)) (sym (subst (λ (x : Answer). Touches x e) same t)) ∙ h (flush d) refl
+  touch-says s e safe a same t h = absurd same
+  touch-says s e (done k) a same t h = absurd (subst (λ (x : Answer). Touches x e) same t)
+  touch-says s e (block b) a same t h = absurd same
+  touch-says s e (found x) a same t h = absurd same
+
   -- ---- AFTER ANY CHAIN OF CALLS, from an image of zeros on
-  module _ (first : List ℕ) (disks : Disks z first) (blank : allZero first ≡ true) {w : World Sector} {img : List ℕ} {h : Hand} (chain : Chain z (at (after (curOf z first)) first none) (at w img h))
-      (left : List ℕ) (here : Disks z left) (possible : Possible w (curOf z left)) where
-    tie : Tie z more (fresh z more first disks blank) w img h
-    tie = chained z more first disks blank chain
 
-    -- whatever a cut leaves, no label on any disk lies
-    pub honest-labels : NoLies z left
-    unfolding Always
-    honest-labels = no-lies left here (tie .named (curOf z left) possible) (honest z more blocks w (off z more (fresh z more first disks blank) (tie .reached) .keeps) (curOf z left) possible)
+  module _ (first : List ℕ) (disks : Disks z first) (blank : allZero first ≡ true) where
+    -- what may happen before: chains from these disks, with nothing in their caches and no state, to here
+    abbrev pub ComesTo : Moment → Type 1
+    ComesTo = Chain z (at (after (curOf z first)) first none)
 
-  -- at rest, whatever a cut leaves, the state's own label is true
-  pub rests-true : (first : List ℕ) → Disks z first → allZero first ≡ true → {w : World Sector} {img : List ℕ} {s : State} → Chain z (at (after (curOf z first)) first none) (at w img (has s)) → s .kind ≡ Idle
-      → (left : List ℕ) → Disks z left → Possible w (curOf z left) → True z left (s .now)
-  unfolding Always
-  rests-true first disks blank {w} {img} {s} chain e left here possible d t j b l =
-      let tie = chained z more first disks blank chain in
-      let k = subst (λ (x : Memory Sector). Keeps z more (machine.at w x) (sure blocks)) (rests z more s img e) (tie .reached .keeps) in
-      blank-of left here (s .now) d t j b l (sound z more blocks w _ k (curOf z left) possible d t j (believe-is z (s .now) d t ∙ b) l)
+    module _ {w : World Sector} {img : List ℕ} {h : Hand} (chain : ComesTo (at w img h)) (left : List ℕ) (here : Disks z left) (possible : Possible w (curOf z left)) where
+      tie : Tie z more (fresh z more first disks blank) w img h
+      tie = chained z more first disks blank chain
+
+      own : Named z (curOf z left)
+      unfolding Always
+      own = tie .named (curOf z left) possible
+
+      -- NO LABEL ON ANY DISK LIES, whatever a cut leaves
+      pub honest-labels : NoLies z left
+      unfolding Always
+      honest-labels = no-lies left here own (honest z more blocks w (off z more (fresh z more first disks blank) (tie .reached) .keeps) (curOf z left) possible)
+
+      -- NO DISK NAMES ANOTHER SHELF
+      pub own-labels : (d s : ℕ) (a : bytes.Label) → d < slots z → s < 2 → copyOf (geometry z) left d s ≡ Valid a → ours z a ≡ true
+      own-labels = copy-ours z left here own
+
+      -- EVERY DISK'S LABEL HAS ITS SHAPE
+      pub shaped-labels : (d : ℕ) → d < slots z → Follows z left d
+      unfolding Always
+      shaped-labels d i =
+          shape-of left here own d i
+          (shaped-off (size z) (quorum z more) (labels z) (records z) (code z more) stamps (sectors z more) w (memoryIn z h img) (tie .reached .tidy) (curOf z left) possible d i)
+
+    module _ {w : World Sector} {img : List ℕ} {s : State} (chain : ComesTo (at w img (has s))) where
+      held : Tie z more (fresh z more first disks blank) w img (has s)
+      held = chained z more first disks blank chain
+
+      -- AT REST the state's own label is true, whatever a cut leaves
+      pub rests-true : s .kind ≡ Idle → (left : List ℕ) → Disks z left → Possible w (curOf z left) → Truthful z left (s .now)
+      unfolding Always
+      rests-true e left here possible d t j b l =
+          let k = subst (λ (x : Memory Sector). Keeps z more (machine.at w x) (sure blocks)) (rests z more s img e) (held .reached .keeps) in
+          blank-of left here (s .now) d t j b l (sound z more blocks w (ownOf z s (s .now)) k (curOf z left) possible d t j (believe-is z (s .now) d t ∙ b) l)
+
+      -- NO STEP TOUCHES AN ABSENT SLOT
+      pub absent-untouched : (room e : ℕ) → Touches (stepWith s img room .stepped .answer) e → inMask (s .absent) e ≡ false
+      unfolding memoryOf
+      absent-untouched room e t =
+          ⊎-elim
+          (λ (d : Tied z more s img (stepWith s img room)).
+          touch-says s e (d .reply) (stepWith s img room .stepped .answer) (d .answers) t
+          (λ x q. away-says s (s .kind) (toDo z s img) (slot-of x)
+          (untouched z more w (memoryOf z s img) (sure blocks) step x (held .reached .keeps)
+          (ap (λ (f : Image Sector). programOf z more (memoryOf z s img) f step .1) (held .reads) ∙ ap (λ (y : Memory Sector × Reply Sector). y .1) (d .steps) ∙ q))))
+          (λ (d : (why : Refusal) × (stepWith s img room ≡ refuses s why img)). absurd (subst (λ (m : Move). Touches (m .stepped .answer) e) (d .1) t)) (step-is z more (fresh z more first disks blank) w img s room held)
+
+      -- A STEP CAN BE FOLLOWED
+      pub step-followed : (room : ℕ) → (w' : World Sector) × Heard z w (stepWith s img room .stepped .answer) (stepWith s img room .image) w'
+      step-followed room = followed z more (fresh z more first disks blank) w img s room held
