@@ -16,6 +16,7 @@ pub mod Begins
 pub mod Tied
 pub mod Asked
 pub mod Requests
+pub mod Ends
 pub mod StartBegins
 pub mod Accepts
 pub mod Named

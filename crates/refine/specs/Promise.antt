@@ -1,5 +1,5 @@
 -- WHAT EVERY CHAIN OF CALLS KEEPS, in the words of the bytes: no label on any disk lies, names another shelf or loses its shape; at
--- rest the state's own label is true, whatever a cut leaves; no step touches an absent slot. (The protocol's theorems that this
+-- rest the state's own label is true, whatever a cut leaves; no step touches an absent slot; what was accepted is carried out. (The protocol's theorems that this
 -- follows from: `honest`, `sound`, `untouched` of the shards' Promise, `shaped` of the protocol.) Assumes nothing.
 use mathlib.Core.Path.{_≡_, refl, sym, ap, subst, _∙_}
 use mathlib.Core.Logic.{_⊎_, ⊎-elim, inl, inr}
@@ -7,7 +7,7 @@ use mathlib.Core.Bool.{Bool, true, false, cond, not, _||_, true≢false}
 use mathlib.Core.List.{List}
 use Prim.Native.Nat.{ℕ, suc, _+_, _≤_, _<_}
 use native.Mathlib.Omega.{arith}
-use lib.ListN.{replicate}
+use lib.ListN.{length, replicate}
 use lib.Dec.{ltb}
 use Rattle.disk.specs.Limits.{sectorBytes}
 use Rattle.disk.specs.Geometry.{stripOf}
@@ -48,6 +48,7 @@ use Rattle.shelf.specs.declared.state.Kind.{Kind}
 use Rattle.shelf.specs.Act.{Move, refuses}
 use Rattle.shelf.specs.declared.state.Answer.{Answer}
 use Rattle.shelf.specs.declared.state.Answer.the-variants as answer
+use Rattle.requests.specs.Begun.{workBytes}
 use Rattle.requests.specs.Step.{stepWith}
 use Rattle.refine.specs.Places.{label-inside, strip-is-inside}
 use Rattle.refine.specs.Places as places
@@ -55,6 +56,8 @@ use Rattle.refine.specs.Disks.{Disks, curOf, cur-bytes, cur-read}
 use Rattle.refine.specs.Redo.{believe-is}
 use Rattle.refine.specs.ToDo.{toDo}
 use Rattle.refine.specs.Tied.{ownOf, memoryOf, memoryBy, Same, programOf, Tied}
+use Rattle.refine.specs.Steps.{Fair}
+use Rattle.refine.specs.Ends.{EndsAfter, request-ends}
 use Rattle.refine.specs.Named.{Named, side, copy-ours}
 use Rattle.refine.specs.Chain.{Hand, none, has, Moment, at, Heard, Chain, blocks, memoryIn, Tie, rests, off, step-is, followed, fresh, chained}
 
@@ -239,3 +242,8 @@ module _ (z : Shelf) (more : z .m < z .k) where
       -- A STEP CAN BE FOLLOWED
       pub step-followed : (room : ℕ) → (w' : World Sector) × Heard z w (stepWith s img room .stepped .answer) (stepWith s img room .image) w'
       step-followed room = followed z more (fresh z more first disks blank) w img s room held
+
+      -- A REQUEST UNDER WAY IS CARRIED OUT by its steps: some actions, and then it is done; none of them is refused
+      pub carried-out : (room : ℕ) → room ≡ workBytes (slots z) (z .c) → (s .kind ≡ Idle → ⊥) → (n : ℕ) × EndsAfter n room s img
+      carried-out room fits busy =
+          ⊎-elim (λ (f : Fair z s img). (length (toDo z s img), request-ends z room fits s img f)) (λ (q : (s .kind ≡ Idle) × (ours z (s .now) ≡ true)). absurd (busy (q .0))) (held .order .1)

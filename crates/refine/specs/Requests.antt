@@ -28,6 +28,7 @@ use Rattle.codecs.specs.Media.{stamps}
 use Rattle.shards.specs.Quorum.{quorum}
 use Rattle.shards.specs.Code.{code}
 use Rattle.shards.specs.Promise.{sectors}
+use Rattle.shelf.specs.Step.{stepMove}
 use Rattle.shelf.specs.declared.state.State.{State}
 use Rattle.requests.specs.Begun.{workBytes, begun, slotsBut}
 use Rattle.requests.specs.Step.{otherWork, stepWith, step-goes}
@@ -153,10 +154,14 @@ module _ (z : Shelf) (more : z .m < z .k) (img : List ℕ) (disks : Disks z img)
 
 -- ---- A STEP, with a work area of the right size, is the program's
 
-pub step-with : (z : Shelf) (more : z .m < z .k) (s : State) (img : List ℕ) (room : ℕ) → Fair z s img → room ≡ workBytes (slots z) (z .c) → Tied z more s img (stepWith s img room)
+-- it is the shelf's step
+pub room-fits : (z : Shelf) (s : State) (img : List ℕ) (room : ℕ) → Fair z s img → room ≡ workBytes (slots z) (z .c) → stepWith s img room ≡ stepMove s img
 unfolding otherWork
-step-with z more s img room fair e =
+room-fits z s img room fair e =
     let g = shelf-geometry z (s .now) (fair .ours-now) in
     let w : eqb room (workBytes (s .now .k + s .now .m) (s .now .c)) ≡ true = eq-eqb room (workBytes (s .now .k + s .now .m) (s .now .c)) (e ∙ sym (ap (λ (x : Geometry). workBytes (x .n) (x .c)) g)) in
     let f : fitsImage (geometryOf (s .now)) (length img) ≡ true = ap (λ (x : Geometry). fitsImage x (length img)) g ∙ image-fits z img (fair .disks) in
-    subst (Tied z more s img) (sym (step-goes s img room (fair .in-range) (ap₂ (λ (a b : Bool). a && not b) f w))) (step-tied z more s img fair)
+    step-goes s img room (fair .in-range) (ap₂ (λ (a b : Bool). a && not b) f w)
+
+pub step-with : (z : Shelf) (more : z .m < z .k) (s : State) (img : List ℕ) (room : ℕ) → Fair z s img → room ≡ workBytes (slots z) (z .c) → Tied z more s img (stepWith s img room)
+step-with z more s img room fair e = subst (Tied z more s img) (sym (room-fits z s img room fair e)) (step-tied z more s img fair)
