@@ -11,7 +11,7 @@ use mathlib.Core.Path.{_≡_, refl, sym, ap, ap₂, subst, _∙_}
 use mathlib.Core.Logic.{_⊎_, ⊎-elim, inl, inr}
 use mathlib.Core.Bool.{Bool, true, false, cond, _&&_, false≢true}
 use mathlib.Core.List.{List, [], _∷_, _++_}
-use Prim.Native.Nat.{ℕ, _<_}
+use Prim.Native.Nat.{ℕ, zero, suc, _<_}
 use lib.Dec.{eqb, leb, ltb}
 use lib.ListN.{length}
 use Rattle.disk.specs.Mask.{inMask}
@@ -71,6 +71,7 @@ use Rattle.refine.specs.ToDo.{toDo}
 use Rattle.refine.specs.Steps.{Fair}
 use Rattle.refine.specs.Tied.{ownOf, memoryOf, memoryBy, Same, programOf, Tied, step-tied}
 use Rattle.refine.specs.Requests.{goes, first-ours, create-begins, out-ours, out-begins}
+use Rattle.refine.specs.Ends.{nth}
 use Rattle.refine.specs.StartBegins.{start-begins}
 use Rattle.refine.specs.Accepts.{all-zeros, create-accepted, start-accepted, start-real, out-accepted}
 use Rattle.refine.specs.Named.{Named, zeros-named, Names, leftIn, create-names, start-names, out-names, step-names, lead-ours}
@@ -119,6 +120,10 @@ pub data Calls (z : Shelf) : Moment → Moment → Type 1 where
 pub data Chain (z : Shelf) : Moment → Moment → Type 1 where
   stays : {a : Moment} → Chain z a a
   goes-on : {a b c : Moment} → Chain z a b → Calls z b c → Chain z a c
+
+pub chained-on : {z : Shelf} {a b c : Moment} → Chain z a b → Chain z b c → Chain z a c
+chained-on p stays = p
+chained-on p (goes-on q x) = goes-on (chained-on p q) x
 
 -- ---- THE TIE between a moment and the protocol's machine
 
@@ -423,6 +428,14 @@ module _ (z : Shelf) (more : z .m < z .k) (first : Machine Sector) where
   followed w img s room t =
       ⊎-elim (λ (d : Tied z more s img (stepWith s img room)). heard-by w (stepWith s img room .image) (d .reply) (stepWith s img room .stepped .answer) (d .answers) (d .acts w (t .reads)))
       (λ (d : (why : Refusal) × (stepWith s img room ≡ refuses s why img)). subst (λ (m : Move). (w' : World Sector) × Heard z w (m .stepped .answer) (m .image) w') (sym (d .1)) (w, refl)) (step-is w img s room t)
+
+  -- step after step
+  pub followed-on : (room n : ℕ) (w : World Sector) (img : List ℕ) (s : State) → On (at w img (has s)) → (w' : World Sector) × Chain z (at w img (has s)) (at w' (nth room n s img .image) (has (nth room n s img .stepped .state)))
+  followed-on room zero w img s t = let y = followed w img s room t in (y .0, goes-on stays (steps room (y .1)))
+  followed-on room (suc n) w img s t =
+      let y = followed w img s room t in
+      let r = followed-on room n (y .0) (stepWith s img room .image) (stepWith s img room .stepped .state) (step-kept w img s room (y .0) t (y .1)) in
+      (r .0, chained-on (goes-on stays (steps room (y .1))) (r .1))
 
 -- ---- THE PROMISE
 

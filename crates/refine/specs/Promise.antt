@@ -5,13 +5,19 @@ use mathlib.Core.Path.{_≡_, refl, sym, ap, subst, _∙_}
 use mathlib.Core.Logic.{_⊎_, ⊎-elim, inl, inr}
 use mathlib.Core.Bool.{Bool, true, false, cond, not, _||_, true≢false}
 use mathlib.Core.List.{List}
-use Prim.Native.Nat.{ℕ, suc, _+_, _≤_, _<_}
+use Prim.Native.Nat.{ℕ, zero, suc, _+_, _*_, _≤_, _<_}
 use native.Mathlib.Omega.{arith}
-use lib.ListN.{length, replicate}
-use lib.Dec.{ltb}
-use Rattle.disk.specs.Limits.{sectorBytes}
+use lib.ListN.{length, length-replicate, replicate}
+use lib.Dec.{ltb, leb}
+use borrow.Author.Tests.{le-leb, eq-eqb}
+use Rattle.disk.specs.Limits.{leastK, mostK, leastM, mostM, sectorBytes}
+use Rattle.disk.specs.Tests.{both}
+use Rattle.disk.specs.declared.refusal.Refusal.the-variants.{BadImage, NotNow, BadBuffer}
+use Rattle.disk.specs.declared.refusal.Outcome.{Outcome}
+use Rattle.disk.specs.declared.refusal.Outcome.the-variants.{Done, Refused}
 use Rattle.disk.specs.Geometry.{stripOf}
-use Rattle.disk.specs.Image.{sector}
+use Rattle.disk.specs.Image.{sector, fitsImage}
+use Rattle.disk.specs.Image as image
 use Rattle.disk.specs.declared.refusal.Refusal.{Refusal}
 use Rattle.disk.specs.Mask.{inMask}
 use Rattle.label.specs.Valid.{decodeOf}
@@ -24,7 +30,7 @@ use Rattle.label.proofs.Fits.{fits-says}
 use Rattle.label.proofs.Counts.{copy-says}
 use Rattle.redo.specs.Decide.{believed}
 use Rattle.redo.specs.Laws.{looked-below, believed-looked, believed-below}
-use Rattle.protocol.specs.World.{label, strip, Image, Action, put, flush, World, after, Possible, Always}
+use Rattle.protocol.specs.World.{label, strip, Image, Action, put, flush, World, after, Possible, Sane, Always}
 use Rattle.protocol.specs.Label.{Label, copy, Aged}
 use Rattle.protocol.specs.Label as Label
 use Rattle.protocol.specs.Host.{table}
@@ -34,8 +40,8 @@ use Rattle.protocol.specs.Program.{Memory, Reply, accepted, refused, did, safe,
 use Rattle.protocol.specs.Machine.{sure}
 use Rattle.protocol.specs.Machine as machine
 use Rattle.protocol.specs.Kept.{Honest, slot-of, away}
-use Rattle.codecs.specs.Sector.{Sector, zeros}
-use Rattle.codecs.specs.Shelf.{Shelf, slots, geometry, size}
+use Rattle.codecs.specs.Sector.{Sector, zeros, bytes-zeros}
+use Rattle.codecs.specs.Shelf.{Shelf, slots, geometry, size, limits, few-data, few-parity}
 use Rattle.codecs.specs.Labels.{sectorOf, noLabel, ours, labelOf, meant, decodeLabel, labels}
 use Rattle.codecs.specs.Records.{records}
 use Rattle.codecs.specs.Media.{stamps}
@@ -45,21 +51,24 @@ use Rattle.shards.specs.Promise.{sectors, Keeps, sound, honest, untouched}
 use Rattle.shelf.specs.declared.state.State.{State}
 use Rattle.shelf.specs.declared.state.Kind.the-variants.{Nothing, Idle, Creating, Starting, Labelling}
 use Rattle.shelf.specs.declared.state.Kind.{Kind}
+use Rattle.shelf.specs.State.{rested}
 use Rattle.shelf.specs.Act.{Move, refuses}
+use Rattle.shelf.specs.declared.state.Stepped.{Stepped}
 use Rattle.shelf.specs.declared.state.Answer.{Answer}
 use Rattle.shelf.specs.declared.state.Answer.the-variants as answer
-use Rattle.requests.specs.Begun.{workBytes}
+use Rattle.requests.specs.Begun.{workBytes, begun}
+use Rattle.requests.specs.Create.{shardsFit, shelfFits, createAnswer, created, createOf}
 use Rattle.requests.specs.Step.{stepWith}
 use Rattle.refine.specs.Places.{label-inside, strip-is-inside}
 use Rattle.refine.specs.Places as places
-use Rattle.refine.specs.Disks.{Disks, curOf, cur-bytes, cur-read}
+use Rattle.refine.specs.Disks.{Disks, image-fits, curOf, cur-bytes, cur-read}
 use Rattle.refine.specs.Redo.{believe-is}
 use Rattle.refine.specs.ToDo.{toDo}
 use Rattle.refine.specs.Tied.{ownOf, memoryOf, memoryBy, Same, programOf, Tied}
 use Rattle.refine.specs.Steps.{Fair}
-use Rattle.refine.specs.Ends.{EndsAfter, request-ends}
+use Rattle.refine.specs.Ends.{nth, EndsAfter, request-ends}
 use Rattle.refine.specs.Named.{Named, side, copy-ours}
-use Rattle.refine.specs.Chain.{Hand, none, has, Moment, at, Heard, Chain, blocks, memoryIn, Tie, rests, off, step-is, followed, fresh, chained}
+use Rattle.refine.specs.Chain.{Hand, none, has, Moment, at, handed, Heard, creates, Chain, stays, goes-on, chained-on, blocks, memoryIn, Tie, rests, off, step-is, followed, followed-on, fresh, chained}
 
 -- sector j of strip t of slot d is zeros
 abbrev pub Blank : Shelf → List ℕ → ℕ → ℕ → ℕ → Type 0
@@ -192,29 +201,35 @@ module _ (z : Shelf) (more : z .m < z .k) where
     abbrev pub ComesTo : Moment → Type 1
     ComesTo = Chain z (at (after (curOf z first)) first none)
 
-    module _ {w : World Sector} {img : List ℕ} {h : Hand} (chain : ComesTo (at w img h)) (left : List ℕ) (here : Disks z left) (possible : Possible w (curOf z left)) where
+    module _ {w : World Sector} {img : List ℕ} {h : Hand} (chain : ComesTo (at w img h)) where
       tie : Tie z more (fresh z more first disks blank) w img h
       tie = chained z more first disks blank chain
 
-      own : Named z (curOf z left)
-      unfolding Always
-      own = tie .named (curOf z left) possible
+      -- what is read is one of the things that a cut may leave
+      pub read-possible : Possible w (curOf z img)
+      unfolding Sane
+      read-possible = subst (Possible w) (tie .reads) (off z more (fresh z more first disks blank) (tie .reached) .keeps .sane)
 
-      -- NO LABEL ON ANY DISK LIES, whatever a cut leaves
-      pub honest-labels : NoLies z left
-      unfolding Always
-      honest-labels = no-lies left here own (honest z more blocks w (off z more (fresh z more first disks blank) (tie .reached) .keeps) (curOf z left) possible)
+      module _ (left : List ℕ) (here : Disks z left) (possible : Possible w (curOf z left)) where
+        own : Named z (curOf z left)
+        unfolding Always
+        own = tie .named (curOf z left) possible
 
-      -- NO DISK NAMES ANOTHER SHELF
-      pub own-labels : (d s : ℕ) (a : bytes.Label) → d < slots z → s < 2 → copyOf (geometry z) left d s ≡ Valid a → ours z a ≡ true
-      own-labels = copy-ours z left here own
+        -- NO LABEL ON ANY DISK LIES, whatever a cut leaves
+        pub honest-labels : NoLies z left
+        unfolding Always
+        honest-labels = no-lies left here own (honest z more blocks w (off z more (fresh z more first disks blank) (tie .reached) .keeps) (curOf z left) possible)
 
-      -- EVERY DISK'S LABEL HAS ITS SHAPE
-      pub shaped-labels : (d : ℕ) → d < slots z → Follows z left d
-      unfolding Always
-      shaped-labels d i =
-          shape-of left here own d i
-          (shaped-off (size z) (quorum z more) (labels z) (records z) (code z more) stamps (sectors z more) w (memoryIn z h img) (tie .reached .tidy) (curOf z left) possible d i)
+        -- NO DISK NAMES ANOTHER SHELF
+        pub own-labels : (d s : ℕ) (a : bytes.Label) → d < slots z → s < 2 → copyOf (geometry z) left d s ≡ Valid a → ours z a ≡ true
+        own-labels = copy-ours z left here own
+
+        -- EVERY DISK'S LABEL HAS ITS SHAPE
+        pub shaped-labels : (d : ℕ) → d < slots z → Follows z left d
+        unfolding Always
+        shaped-labels d i =
+            shape-of left here own d i
+            (shaped-off (size z) (quorum z more) (labels z) (records z) (code z more) stamps (sectors z more) w (memoryIn z h img) (tie .reached .tidy) (curOf z left) possible d i)
 
     module _ {w : World Sector} {img : List ℕ} {s : State} (chain : ComesTo (at w img (has s))) where
       held : Tie z more (fresh z more first disks blank) w img (has s)
@@ -247,3 +262,45 @@ module _ (z : Shelf) (more : z .m < z .k) where
       pub carried-out : (room : ℕ) → room ≡ workBytes (slots z) (z .c) → (s .kind ≡ Idle → ⊥) → (n : ℕ) × EndsAfter n room s img
       carried-out room fits busy =
           ⊎-elim (λ (f : Fair z s img). (length (toDo z s img), request-ends z room fits s img f)) (λ (q : (s .kind ≡ Idle) × (ours z (s .now) ≡ true)). absurd (busy (q .0))) (held .order .1)
+
+      -- so the steps lead to rest, under the label that the request was to settle
+      pub comes-to-rest : (s .kind ≡ Idle → ⊥) → (w' : World Sector) × (left : List ℕ) × ComesTo (at w' left (has (rested s)))
+      comes-to-rest busy =
+          let room = workBytes (slots z) (z .c) in
+          let e = carried-out room refl busy in
+          let r = followed-on z more (fresh z more first disks blank) room (e .0) w img s held in
+          (r .0, nth room (e .0) s img .image, chained-on chain (subst (λ (x : Stepped). Chain z (at w img (has s)) (at (r .0) (nth room (e .0) s img .image) (has (x .state)))) (e .1 .ends) (r .1)))
+
+-- ---- THERE ARE SUCH CHAINS: the image of zeros is one to begin with, and create is accepted on it
+
+all-zero : (n : ℕ) → allZero (replicate n 0) ≡ true
+unfolding allZero
+all-zero zero = refl
+all-zero (suc n) = all-zero n
+
+module _ (z : Shelf) where
+  abbrev pub newImage : List ℕ
+  newImage = replicate (slots z * z .sectors * sectorBytes) 0
+
+  pub new-disks : Disks z newImage × (allZero newImage ≡ true)
+  unfolding image.Shape
+  new-disks = (record { shape = length-replicate (slots z * z .sectors * sectorBytes) 0; small = bytes-zeros (slots z * z .sectors * sectorBytes) }, all-zero (slots z * z .sectors * sectorBytes))
+
+  pub create-goes : (s : State) → handed none (createOf s (z .k) (z .m) (z .c) (z .sectors) (z .number) newImage (workBytes (slots z) (z .c))) ≡ has (created (z .k) (z .m) (z .c) (z .sectors) (z .number))
+  unfolding createAnswer shelfFits shardsFit
+  create-goes s =
+      let room = workBytes (slots z) (z .c) in
+      let some = limits z .1 in
+      let shards : shardsFit (z .k) (z .m) ≡ true =
+      both (leb leastK (z .k)) _ (le-leb leastK (z .k) (some .least)) (both (leb (z .k) mostK) _ (le-leb (z .k) mostK (few-data z)) (both (leb leastM (z .m)) (leb (z .m) mostM) (le-leb leastM (z .m) (omega (arith, some .parity))) (le-leb (z .m) mostM (few-parity z)))) in
+      let fits = both (shardsFit (z .k) (z .m)) (fitsImage (geometry z) (length newImage)) shards (image-fits z newImage (new-disks .0)) in
+      let yes : createAnswer (z .k) (z .m) (z .c) (z .sectors) newImage room ≡ Done = λ i. cond (fits i) (cond (new-disks .1 i) (cond (eq-eqb room room refl i) Done (Refused BadBuffer)) (Refused NotNow)) (Refused BadImage) in
+      ap (λ (o : Outcome). handed none (begun o s (created (z .k) (z .m) (z .c) (z .sectors) (z .number)))) yes
+
+  -- a new shelf, at rest
+  pub new-shelf : (more : z .m < z .k) (s : State) → (w : World Sector) × (img : List ℕ) × Chain z (at (after (curOf z newImage)) newImage none) (at w img (has (rested (created (z .k) (z .m) (z .c) (z .sectors) (z .number)))))
+  new-shelf more s =
+      let d = new-disks in
+      let first : Chain z (at (after (curOf z newImage)) newImage none) (at (after (curOf z newImage)) newImage (has (created (z .k) (z .m) (z .c) (z .sectors) (z .number)))) =
+      subst (λ (h : Hand). Chain z (at (after (curOf z newImage)) newImage none) (at (after (curOf z newImage)) newImage h)) (create-goes s) (goes-on stays (creates s (workBytes (slots z) (z .c)))) in
+      comes-to-rest z more newImage (d .0) (d .1) first (λ e. let i : _≡_ {A = ℕ} 0 1 = cc in omega arith)
