@@ -35,7 +35,7 @@ pub record Disks (z : Shelf) (img : List ℕ) : Type 0 where
   pub small : Bytes img
 
 -- byte p of a place's sector (of every list: what is missing is 0, and what is no byte counts modulo 256)
-abbrev byteIn : Shelf → List ℕ → Place → ℕ → ℕ
+abbrev pub byteIn : Shelf → List ℕ → Place → ℕ → ℕ
 byteIn z img k p = getD img (place (z .sectors) (slot k) (sectorOf z k) + p) 0 % 256
 
 -- what each place holds; a place that the shelf does not have holds zeros

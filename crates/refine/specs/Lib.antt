@@ -16,4 +16,9 @@ pub mod Begins
 pub mod Tied
 pub mod Asked
 pub mod Requests
+pub mod Ends
 pub mod StartBegins
+pub mod Accepts
+pub mod Named
+pub mod Chain
+pub mod Promise

@@ -28,6 +28,7 @@ use Rattle.codecs.specs.Media.{stamps}
 use Rattle.shards.specs.Quorum.{quorum}
 use Rattle.shards.specs.Code.{code}
 use Rattle.shards.specs.Promise.{sectors}
+use Rattle.shelf.specs.Step.{stepMove}
 use Rattle.shelf.specs.declared.state.State.{State}
 use Rattle.requests.specs.Begun.{workBytes, begun, slotsBut}
 use Rattle.requests.specs.Step.{otherWork, stepWith, step-goes}
@@ -45,7 +46,7 @@ use Rattle.refine.specs.Tied.{ownOf, memoryOf, Tied, step-tied}
 use Rattle.refine.specs.Asked.{create-asked, out-asked}
 
 -- an accepted request begins with its first state
-goes : (o : Outcome) (s t : State) → begun o s t .outcome ≡ Done → (o ≡ Done) × (begun o s t .state ≡ t)
+pub goes : (o : Outcome) (s t : State) → begun o s t .outcome ≡ Done → (o ≡ Done) × (begun o s t .state ≡ t)
 goes Done s t e = (refl, refl)
 goes (Refused why) s t e = absurd (let z : _≡_ {A = ℕ} 0 1 = cc in omega arith)
 
@@ -59,7 +60,7 @@ module _ (z : Shelf) (more : z .m < z .k) (img : List ℕ) (disks : Disks z img)
   abbrev first-state : State
   first-state = created (z .k) (z .m) (z .c) (z .sectors) (z .number)
 
-  first-ours : ours z (first-state .now) ≡ true
+  pub first-ours : ours z (first-state .now) ≡ true
   unfolding sameShelf
   first-ours =
       both (eqb (z .k) (z .k)) _ (eq-eqb (z .k) (z .k) refl)
@@ -93,10 +94,10 @@ module _ (z : Shelf) (more : z .m < z .k) (img : List ℕ) (disks : Disks z img)
     abbrev l : bytes.Label
     l = s .now
 
-    n-is : l .k + l .m ≡ slots z
+    pub n-is : l .k + l .m ≡ slots z
     n-is = ap (λ (g : Geometry). g .n) (shelf-geometry z l own)
 
-    out-ours : ours z (outed l d) ≡ true
+    pub out-ours : ours z (outed l d) ≡ true
     unfolding outed sameShelf
     out-ours = by (eqb (l .rebuilding) d)
       where
@@ -119,7 +120,7 @@ module _ (z : Shelf) (more : z .m < z .k) (img : List ℕ) (disks : Disks z img)
             ne-eqb (slots z) d (λ q. omega arith) ∙ sym (ne-eqb (l .rebuilding) d (λ q. omega (arith, few-slots z, eqb-true (l .rebuilding) noSlot e)))
         by false e = refl
 
-    out-label : d < slots z → labelOf z (outed l d) ≡ protocol.outed (slots z) (labelOf z l) d
+    pub out-label : d < slots z → labelOf z (outed l d) ≡ protocol.outed (slots z) (labelOf z l) d
     unfolding outed
     out-label i = by (eqb (l .rebuilding) d) (rebuilt-test i)
       where
@@ -153,10 +154,14 @@ module _ (z : Shelf) (more : z .m < z .k) (img : List ℕ) (disks : Disks z img)
 
 -- ---- A STEP, with a work area of the right size, is the program's
 
-pub step-with : (z : Shelf) (more : z .m < z .k) (s : State) (img : List ℕ) (room : ℕ) → Fair z s img → room ≡ workBytes (slots z) (z .c) → Tied z more s img (stepWith s img room)
+-- it is the shelf's step
+pub room-fits : (z : Shelf) (s : State) (img : List ℕ) (room : ℕ) → Fair z s img → room ≡ workBytes (slots z) (z .c) → stepWith s img room ≡ stepMove s img
 unfolding otherWork
-step-with z more s img room fair e =
+room-fits z s img room fair e =
     let g = shelf-geometry z (s .now) (fair .ours-now) in
     let w : eqb room (workBytes (s .now .k + s .now .m) (s .now .c)) ≡ true = eq-eqb room (workBytes (s .now .k + s .now .m) (s .now .c)) (e ∙ sym (ap (λ (x : Geometry). workBytes (x .n) (x .c)) g)) in
     let f : fitsImage (geometryOf (s .now)) (length img) ≡ true = ap (λ (x : Geometry). fitsImage x (length img)) g ∙ image-fits z img (fair .disks) in
-    subst (Tied z more s img) (sym (step-goes s img room (fair .in-range) (ap₂ (λ (a b : Bool). a && not b) f w))) (step-tied z more s img fair)
+    step-goes s img room (fair .in-range) (ap₂ (λ (a b : Bool). a && not b) f w)
+
+pub step-with : (z : Shelf) (more : z .m < z .k) (s : State) (img : List ℕ) (room : ℕ) → Fair z s img → room ≡ workBytes (slots z) (z .c) → Tied z more s img (stepWith s img room)
+step-with z more s img room fair e = subst (Tied z more s img) (sym (room-fits z s img room fair e)) (step-tied z more s img fair)

@@ -29,7 +29,7 @@ use Rattle.shelf.specs.declared.state.Kind.{Kind}
 use Rattle.shelf.specs.declared.state.Kind.the-variants.{Nothing, Idle, Creating, Starting, Labelling}
 use Rattle.shelf.specs.declared.state.Answer.{Answer}
 use Rattle.shelf.specs.declared.state.Answer.the-variants as answer
-use Rattle.refine.specs.Places.{sectorOf}
+use Rattle.refine.specs.Places.{sectorOf, inside}
 use Rattle.refine.specs.Disks.{curOf}
 use Rattle.refine.specs.ToDo.{toDo}
 use Rattle.refine.specs.Steps.{Fair, Moved, Does, step-does}
@@ -57,7 +57,7 @@ memoryOf z s img = memoryBy (s .kind) z s (toDo z s img)
 abbrev pub Same : Shelf → Answer → Reply Sector → Type 0
 Same z a accepted = ⊥
 Same z a (refused why) = ⊥
-Same z a (did (put k v)) = a ≡ answer.Put (slot k) (sectorOf z k)
+Same z a (did (put k v)) = (inside z k ≡ true) × (a ≡ answer.Put (slot k) (sectorOf z k))
 Same z a (did (flush d)) = a ≡ answer.Flush d
 Same z a safe = ⊥
 Same z a (done k) = a ≡ answer.Done
@@ -68,13 +68,14 @@ module _ (z : Shelf) (more : z .m < z .k) where
   abbrev pub programOf : Memory Sector → Image Sector → program.Input Sector → Memory Sector × Reply Sector
   programOf = program.program (size z) (quorum z more) (labels z) (records z) (code z more) stamps (sectors z more)
 
-  -- the program, asked for a step, remembers what it has to beside the state that the move leaves, answers the same, and acts as the move does
+  -- the program, asked for a step, remembers what it has to beside the state that the move leaves, answers the same, and acts as the move does; the label to be settled stays
   pub record Tied (s : State) (img : List ℕ) (m : Move) : Type 1 where
     pub reply : Reply Sector
     pub steps : programOf (memoryOf z s img) (curOf z img) step ≡ (memoryOf z (m .stepped .state) (m .image), reply)
     pub answers : Same z (m .stepped .answer) reply
     pub acts : (w : World Sector) → w .cur ≡ curOf z img → effect w reply .cur ≡ curOf z (m .image)
     pub goes-on : Fair z (m .stepped .state) (m .image) ⊎ (m ≡ finished s img)
+    pub settles : m .stepped .state .next ≡ s .next
 
   module _ (s : State) (img : List ℕ) where
     -- a step with an action left
@@ -117,6 +118,7 @@ module _ (z : Shelf) (more : z .m < z .k) where
           answers = r .2 (m .stepped .answer) (ap (λ (x : Move). x .stepped .answer) h);
           acts = λ w c. ap (λ (v : World Sector). v .cur) (r .3 w) ∙ c ∙ sym (ap (λ (x : Move). curOf z (x .image)) h);
           goes-on = inr h;
+          settles = ap (λ (x : Move). x .stepped .state .next) h;
         }
     tied-by m (put k v ∷ l) busy e h =
         record {
@@ -124,9 +126,10 @@ module _ (z : Shelf) (more : z .m < z .k) where
           steps =
               ap (λ (y : List (Action Sector)). programOf (memoryBy (s .kind) z s y) (curOf z img) step) e ∙ steps-on (s .kind) busy (put k v) l
               ∙ sym (ap (λ (x : Move). (memoryOf z (x .stepped .state) (x .image), did (put k v))) (h .is) ∙ ap (λ (y : Memory Sector). (y, did (put k v))) (memory-moved (h .state) _ l (h .kept) (h .rest)));
-          answers = ap (λ (x : Move). x .stepped .answer) (h .is);
+          answers = (h .here, ap (λ (x : Move). x .stepped .answer) (h .is));
           acts = λ w c. ap (λ (f : Image Sector). update f k v) c ∙ sym (h .becomes) ∙ sym (ap (λ (x : Move). curOf z (x .image)) (h .is));
           goes-on = inl (subst (λ (x : Move). Fair z (x .stepped .state) (x .image)) (sym (h .is)) (h .fair));
+          settles = ap (λ (x : Move). x .stepped .state .next) (h .is) ∙ ap (λ (x : State). x .next) (h .kept);
         }
     tied-by m (flush d ∷ l) busy e h =
         record {
@@ -137,6 +140,7 @@ module _ (z : Shelf) (more : z .m < z .k) where
           answers = ap (λ (x : Move). x .stepped .answer) (h .is);
           acts = λ w c. c ∙ sym (ap (λ (x : Move). curOf z (x .image)) (h .is));
           goes-on = inl (subst (λ (x : Move). Fair z (x .stepped .state) (x .image)) (sym (h .is)) (h .fair));
+          settles = ap (λ (x : Move). x .stepped .state .next) (h .is) ∙ ap (λ (x : State). x .next) (h .kept);
         }
 
     -- THE STEP OF THE CODE is the program's

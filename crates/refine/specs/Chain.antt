@@ -1,0 +1,472 @@
+-- THE PROMISE OF THE CODE, over chains of calls of the public functions create, start, take_out and step, on disks with caches, with
+-- power cuts and deaths of the caller in between. What the functions return and leave is said in the words of their contracts
+-- (`createOf`, `startOf`, `takeOutOf`, `stepWith`). Nothing is asked of the caller but that it calls them for this shelf, that it
+-- hands back to take_out and to step the state that it was handed last, and that it does with the disks what a step's answer says.
+-- Each call is an event of the protocol's machine or changes nothing, and the disks are that machine's; so what the protocol
+-- promises holds of them. Assumes nothing.
+--
+-- A refusal is an answer that leaves everything as it was, and needs no event. The code may refuse more than the protocol's program:
+-- a disk whose newest label is another shelf's.
+use mathlib.Core.Path.{_≡_, refl, sym, ap, ap₂, subst, _∙_}
+use mathlib.Core.Logic.{_⊎_, ⊎-elim, inl, inr}
+use mathlib.Core.Bool.{Bool, true, false, cond, _&&_, false≢true}
+use mathlib.Core.List.{List, [], _∷_, _++_}
+use Prim.Native.Nat.{ℕ, zero, suc, _<_}
+use lib.Dec.{eqb, leb, ltb}
+use lib.ListN.{length}
+use Rattle.disk.specs.Mask.{inMask}
+use Rattle.disk.specs.Image.{fitsImage}
+use Rattle.disk.specs.declared.refusal.Refusal.{Refusal}
+use Rattle.disk.specs.declared.refusal.Refusal.the-variants.{BadImage, BadBuffer, NotNow}
+use Rattle.disk.specs.declared.refusal.Outcome.{Outcome}
+use Rattle.disk.specs.declared.refusal.Outcome.the-variants.{Done, Refused}
+use Rattle.label.specs.Fields.{geometryOf, fitsOf}
+use Rattle.label.specs.Bytes.{allZero}
+use Rattle.label.specs.Newest.{sameShelf}
+use Rattle.label.specs.declared.fields.Label as bytes
+use Rattle.rounds.specs.Survey.{nextOf, planOf, surveyOf}
+use Rattle.rounds.specs.declared.plan.Plan.{Plan}
+use Rattle.rounds.specs.declared.plan.Survey.{Survey}
+use Rattle.rounds.specs.declared.plan.Survey.the-variants as survey
+use Rattle.rounds.proofs.Plans.{survey-grounds}
+use Rattle.protocol.specs.World.{Place, slot, Image, update-here, World, put, flush, act, after, Possible, Always, sane-after, always-after, always-cur}
+use Rattle.protocol.specs.Program.{Memory, nothing, idle, Input, create, start, take-out, step, Reply, accepted, refused, did, safe, done, block, found, beyond}
+use Rattle.protocol.specs.Program as program
+use Rattle.protocol.specs.Host.{Host}
+use Rattle.protocol.specs.Machine.{Machine, Event, effect, from-outside, from-host, power-cut, program-dies, View, sure, Answered, Goes}
+use Rattle.protocol.specs.Machine as machine
+use Rattle.protocol.specs.Shape.{Shapes}
+use Rattle.protocol.specs.Shaped.{Shaped, AllShaped, shaped, zeros-shaped}
+use Rattle.protocol.specs.Promise.{zeros-off}
+use Rattle.codecs.specs.Sector.{Sector, zeros}
+use Rattle.codecs.specs.Shelf.{Shelf, slots, geometry, size}
+use Rattle.codecs.specs.Labels.{ours, labels}
+use Rattle.codecs.specs.Records.{records}
+use Rattle.codecs.specs.Media.{stamps}
+use Rattle.shards.specs.Quorum.{few-none, quorum}
+use Rattle.shards.specs.Code.{code}
+use Rattle.shards.specs.Promise.{sectors, ZerosOf, HappensTo, RunsOf, Keeps, simulate}
+use Rattle.shelf.specs.Act.{Move, refuses}
+use Rattle.shelf.specs.Step.{underWay, sound, walk, stepMove, finished}
+use Rattle.shelf.specs.Step as Step
+use Rattle.shelf.specs.Limits.{mostStages}
+use Rattle.shelf.specs.declared.state.State.{State}
+use Rattle.shelf.specs.declared.state.Kind.{Kind}
+use Rattle.shelf.specs.declared.state.Kind.the-variants.{Nothing, Idle, Creating, Starting, Labelling}
+use Rattle.shelf.specs.declared.state.Answer.{Answer}
+use Rattle.shelf.specs.declared.state.Answer.the-variants as answer
+use Rattle.requests.specs.Begun.{workBytes, begun}
+use Rattle.requests.specs.Create.{createAnswer, created, createOf}
+use Rattle.requests.specs.Start.{started, bySurvey, startOf}
+use Rattle.requests.specs.TakeOut.{takeAnswer, tookOut, takeOutOf}
+use Rattle.requests.specs.Step.{otherWork, stepWith, step-short, step-goes, step-unsound}
+use Rattle.requests.specs.Accepted.{create-done, take-done}
+use Rattle.requests.specs.Ready.{isIdle}
+use Rattle.requests.specs.declared.begun.Begun.{Begun}
+use Rattle.refine.specs.Places.{sectorOf, inside, place-one}
+use Rattle.refine.specs.Disks.{Disks, curOf}
+use Rattle.refine.specs.Labels.{Led}
+use Rattle.refine.specs.Rounds.{beyond-below}
+use Rattle.refine.specs.ToDo.{toDo}
+use Rattle.refine.specs.Steps.{Fair}
+use Rattle.refine.specs.Tied.{ownOf, memoryOf, memoryBy, Same, programOf, Tied, step-tied}
+use Rattle.refine.specs.Requests.{goes, first-ours, create-begins, out-ours, out-begins}
+use Rattle.refine.specs.Ends.{nth}
+use Rattle.refine.specs.StartBegins.{start-begins}
+use Rattle.refine.specs.Accepts.{all-zeros, create-accepted, start-accepted, start-real, out-accepted}
+use Rattle.refine.specs.Named.{Named, zeros-named, Names, leftIn, create-names, start-names, out-names, step-names, lead-ours}
+
+-- ---- THE CALLS
+
+-- what the caller holds: no state (none yet, or it was lost), or the one that it was handed last
+pub data Hand : Type 0 where
+  none : Hand
+  has : State → Hand
+
+-- the disks with their caches, the image that is lent, and what the caller holds
+pub data Moment : Type 1 where
+  at : World Sector → List ℕ → Hand → Moment
+
+-- the state of a request that was accepted; a refusal leaves what was held
+abbrev answered : Outcome → Hand → State → Hand
+answered Done h s = has s
+answered (Refused why) h s = h
+
+abbrev pub handed : Hand → Begun → Hand
+handed h b = answered (b .outcome) h (b .state)
+
+-- what the disks are once the caller has done what a step's answer says, with the image that the step left: the sector put is read
+-- at once, and may or may not be there after a cut; a flush makes certain what its slot reads as; no other answer does anything
+abbrev pub Heard : Shelf → World Sector → Answer → List ℕ → World Sector → Type 1
+Heard z w (answer.Put d to) img w' = (k : Place) × (inside z k ≡ true) × (slot k ≡ d) × (sectorOf z k ≡ to) × (w' ≡ act w (put k (curOf z img k)))
+Heard z w (answer.Flush d) img w' = w' ≡ act w (flush d)
+Heard z w answer.Done img w' = w' ≡ w
+Heard z w (answer.Refused why) img w' = w' ≡ w
+
+pub data Calls (z : Shelf) : Moment → Moment → Type 1 where
+  -- create and start begin anew, in any state, whatever state they are handed (its bytes may be anything)
+  creates : {w : World Sector} {img : List ℕ} {h : Hand} (s : State) (room : ℕ) → Calls z (at w img h) (at w img (handed h (createOf s (z .k) (z .m) (z .c) (z .sectors) (z .number) img room)))
+  starts : {w : World Sector} {img : List ℕ} {h : Hand} (s : State) (absent room : ℕ) → Calls z (at w img h) (at w img (handed h (startOf s (geometry z) absent img room)))
+  -- the state that was handed out last is handed back
+  takes-out : {w : World Sector} {img : List ℕ} {s : State} (d room : ℕ) → Calls z (at w img (has s)) (at w img (handed (has s) (takeOutOf s d img room)))
+  steps : {w w' : World Sector} {img : List ℕ} {s : State} (room : ℕ) → Heard z w (stepWith s img room .stepped .answer) (stepWith s img room .image) w'
+      → Calls z (at w img (has s)) (at w' (stepWith s img room .image) (has (stepWith s img room .stepped .state)))
+  -- power is lost: each sector holds something that its cache allows, each by itself; the state is lost
+  cut : {w : World Sector} {img : List ℕ} {h : Hand} (left : List ℕ) → Disks z left → Possible w (curOf z left) → Calls z (at w img h) (at (after (curOf z left)) left none)
+  -- the program dies: the state is lost
+  dies : {w : World Sector} {img : List ℕ} {h : Hand} → Calls z (at w img h) (at w img none)
+
+-- any number of calls
+pub data Chain (z : Shelf) : Moment → Moment → Type 1 where
+  stays : {a : Moment} → Chain z a a
+  goes-on : {a b c : Moment} → Chain z a b → Calls z b c → Chain z a c
+
+pub chained-on : {z : Shelf} {a b c : Moment} → Chain z a b → Chain z b c → Chain z a c
+chained-on p stays = p
+chained-on p (goes-on q x) = goes-on (chained-on p q) x
+
+-- ---- THE TIE between a moment and the protocol's machine
+
+-- the host's blocks are zeros: nothing here writes any
+abbrev pub blocks : Host Sector
+blocks t i j = zeros
+
+-- what the protocol's program remembers
+abbrev pub memoryIn : Shelf → Hand → List ℕ → Memory Sector
+memoryIn z none img = nothing
+memoryIn z (has s) img = memoryOf z s img
+
+-- the state is of this shelf, and at rest or with a request under way that can be carried out
+abbrev InOrder : Shelf → Hand → List ℕ → Type 0
+InOrder z none img = Unit {0}
+InOrder z (has s) img = (ours z (s .next) ≡ true) × (Fair z s img ⊎ ((s .kind ≡ Idle) × (ours z (s .now) ≡ true)))
+
+module _ (z : Shelf) (more : z .m < z .k) where
+  run-on : {a b c : Machine Sector} {e : Event Sector} (l : List (Event Sector)) → RunsOf z more a l b → HappensTo z more b e c → RunsOf z more a (l ++ (e ∷ [])) c
+  run-on l machine.stays h = machine.goes h machine.stays
+  run-on l (machine.goes {l = r} y x) h = machine.goes y (run-on r x h)
+
+  -- at rest the program remembers its own
+  pub rests : (s : State) (img : List ℕ) → s .kind ≡ Idle → memoryOf z s img ≡ idle (ownOf z s (s .now))
+  unfolding memoryOf
+  rests s img e = ap (λ (k : Kind). memoryBy k z s (toDo z s img)) e
+
+module _ (z : Shelf) (more : z .m < z .k) (first : Machine Sector) where
+  -- the protocol's machine comes here from the first one by its own events, and its invariant holds, with the host's blocks all zeros;
+  -- and the disks' labels have their shape (document 02, C6)
+  pub record Reached (w : World Sector) (m : Memory Sector) : Type 1 where
+    pub events : List (Event Sector)
+    pub runs : RunsOf z more first events (machine.at w m)
+    pub keeps : Keeps z more (machine.at w m) (sure blocks)
+    pub tidy : Shaped (size z) (quorum z more) (labels z) (records z) (code z more) stamps (sectors z more) (machine.at w m)
+
+  -- the image is that of the disks as they are read, no label on them names another shelf or is about to, and what the caller holds is in order
+  pub record Tie (w : World Sector) (img : List ℕ) (h : Hand) : Type 1 where
+    pub disks : Disks z img
+    pub reads : w .cur ≡ curOf z img
+    pub reached : Reached w (memoryIn z h img)
+    pub named : Always w (Named z)
+    pub names : Names z (leftIn z (memoryIn z h img))
+    pub order : InOrder z h img
+
+  abbrev pub On : Moment → Type 1
+  On (at w img h) = Tie w img h
+
+  -- one event more, that leaves the blocks
+  happens : {w w' : World Sector} {m m' : Memory Sector} {e : Event Sector} → Reached w m → (h : HappensTo z more (machine.at w m) e (machine.at w' m')) → AllShaped (size z) (quorum z more) (labels z) (records z) (code z more) stamps (sectors z more) h
+      → ((q : View Sector) → Goes (z .c) e (sure blocks) q → q ≡ sure blocks) → Reached w' m'
+  happens {w} {w'} {m} {m'} {e} t h new same =
+      let r = simulate z more h (sure blocks) (t .keeps) in
+      record {
+        events = t .events ++ (e ∷ []);
+        runs = run-on z more (t .events) (t .runs) h;
+        keeps = subst (Keeps z more (machine.at w' m')) (same (r .0) (r .1)) (r .2);
+        tidy = shaped (size z) (quorum z more) (labels z) (records z) (code z more) stamps (sectors z more) h new (sure blocks) (t .keeps) (t .tidy);
+      }
+
+  -- the program dies
+  pub off : {w : World Sector} {m : Memory Sector} → Reached w m → Reached w nothing
+  off t = happens t (from-outside program-dies) tt (λ q e. e)
+
+  -- something is asked, and answered
+  asks : {w : World Sector} {m : Memory Sector} (img : List ℕ) → w .cur ≡ curOf z img → Reached w m → (m' : Memory Sector) (i : Input Sector) (r : Reply Sector)
+      → programOf z more m (curOf z img) i ≡ (m', r) → ((q : View Sector) → Answered (z .c) i r (sure blocks) q → q ≡ sure blocks) → Reached (effect w r) m'
+  asks {w} {m} img reads t m' i r e same =
+      let y : programOf z more m (w .cur) i ≡ (m', r) = ap (λ (f : Image Sector). programOf z more m f i) reads ∙ e in
+      subst (λ (x : Memory Sector × Reply Sector). Reached (effect w (x .1)) (x .0)) y
+      (happens t (from-host i) tt (subst (λ (x : Memory Sector × Reply Sector). (q : View Sector) → Answered (z .c) i (x .1) (sure blocks) q → q ≡ sure blocks) (sym y) same))
+
+  -- ---- each call
+
+  -- create
+  create-kept : (w : World Sector) (img : List ℕ) (h : Hand) (s : State) (room : ℕ) → Tie w img h → Tie w img (handed h (createOf s (z .k) (z .m) (z .c) (z .sectors) (z .number) img room))
+  create-kept w img h s room t = by (createAnswer (z .k) (z .m) (z .c) (z .sectors) img room) refl
+    where
+      fresh : State
+      fresh = created (z .k) (z .m) (z .c) (z .sectors) (z .number)
+
+      by : (o : Outcome) → createAnswer (z .k) (z .m) (z .c) (z .sectors) img room ≡ o → Tie w img (handed h (begun o s fresh))
+      by Done e =
+          let y : createOf s (z .k) (z .m) (z .c) (z .sectors) (z .number) img room .outcome ≡ Done = ap (λ (o : Outcome). begun o s fresh .outcome) e in
+          let b = create-begins z more img (t .disks) s room y in
+          let q = goes (createAnswer (z .k) (z .m) (z .c) (z .sectors) img room) s fresh y .1 in
+          let m = ap (λ (x : State). memoryOf z x img) (sym q) ∙ b .1 in
+          record {
+            disks = t .disks;
+            reads = t .reads;
+            reached =
+                subst (Reached w) (sym m)
+                (asks img (t .reads) (off (t .reached)) _ create accepted (create-accepted z img more (create-done (z .k) (z .m) (z .c) (z .sectors) img room e .1)) (λ p a. a));
+            named = t .named;
+            names = subst (λ (x : Memory Sector). Names z (leftIn z x)) (sym m) (create-names z more);
+            order = (first-ours z more img (t .disks), inl (subst (λ (x : State). Fair z x img) q (b .0)));
+          }
+      by (Refused why) e = t
+
+  -- start-up
+  settled-ours : (img : List ℕ) (absent : ℕ) (l : bytes.Label) → ours z l ≡ true → ours z (planOf (geometry z) img absent l .next) ≡ true
+  unfolding planOf nextOf sameShelf
+  settled-ours img absent l e = e
+
+  start-kept : (w : World Sector) (img : List ℕ) (h : Hand) (s : State) (absent room : ℕ) → Tie w img h → Tie w img (handed h (startOf s (geometry z) absent img room))
+  start-kept w img h s absent room t = by (surveyOf (geometry z) img absent) refl
+    where
+      A : ℕ → Bool
+      A = beyond (slots z) (inMask absent)
+
+      off-w : Reached w nothing
+      off-w = off (t .reached)
+
+      led-by : (p : Plan) → surveyOf (geometry z) img absent ≡ survey.Plan p → Led z img absent A (p .lead)
+      led-by p e =
+          let r = survey-grounds (geometry z) img absent p e in
+          record {
+            disks = t .disks;
+            are = beyond-below (slots z) absent;
+            own = lead-ours z img (t .disks) (subst (Named z) (t .reads) (always-cur (Named z) w (off-w .keeps .sane) (t .named))) absent (p .lead) (r .leads);
+            leads = r .leads;
+            agree = r .agree;
+          }
+
+      begins : (p : Plan) → surveyOf (geometry z) img absent ≡ survey.Plan p → eqb room (workBytes (slots z) (z .c)) ≡ true → Tie w img (has (started (geometry z) absent p img))
+      begins p e q =
+          let led = led-by p e in
+          let is : startOf s (geometry z) absent img room ≡ record { state = started (geometry z) absent p img; outcome = Done } =
+          ap (λ (x : Survey). bySurvey x s (geometry z) absent img room) e ∙ ap (λ (b : Bool). cond b (record { state = started (geometry z) absent p img; outcome = Done }) (record { state = s; outcome = Refused BadBuffer })) q in
+          let b = start-begins z more img absent p led e (start-real z img more absent p e led w (t .reads) blocks (off-w .keeps)) s room (ap (λ (x : Begun). x .outcome) is) in
+          let m = ap (λ (x : Begun). memoryOf z (x .state) img) (sym is) ∙ b .1 in
+          record {
+            disks = t .disks;
+            reads = t .reads;
+            reached = subst (Reached w) (sym m) (asks img (t .reads) off-w _ (start (inMask absent)) accepted (start-accepted z img more absent p e led) (λ y a. a));
+            named = t .named;
+            names = subst (λ (x : Memory Sector). Names z (leftIn z x)) (sym m) (start-names z more A _);
+            order = (ap (λ (x : Plan). ours z (x .next)) (survey-grounds (geometry z) img absent p e .is) ∙ settled-ours img absent (p .lead) (led .own), inl (subst (λ (x : Begun). Fair z (x .state) img) is (b .0)));
+          }
+
+      by : (x : Survey) → surveyOf (geometry z) img absent ≡ x → Tie w img (handed h (bySurvey x s (geometry z) absent img room))
+      by (survey.Refused why) e = t
+      by (survey.Plan p) e = fits (eqb room (workBytes (slots z) (z .c))) refl
+        where
+          fits : (b : Bool) → eqb room (workBytes (slots z) (z .c)) ≡ b → Tie w img (handed h (cond b (record { state = started (geometry z) absent p img; outcome = Done }) (record { state = s; outcome = Refused BadBuffer })))
+          fits true q = begins p e q
+          fits false q = t
+
+  -- taking a slot out
+  idle-is : (k : Kind) → isIdle k ≡ true → k ≡ Idle
+  idle-is Nothing e = absurd (false≢true e)
+  idle-is Idle e = refl
+  idle-is Creating e = absurd (false≢true e)
+  idle-is Starting e = absurd (false≢true e)
+  idle-is Labelling e = absurd (false≢true e)
+
+  out-kept : (w : World Sector) (img : List ℕ) (s : State) (d room : ℕ) → Tie w img (has s) → Tie w img (handed (has s) (takeOutOf s d img room))
+  out-kept w img s d room t = by (takeAnswer (s .now) (s .kind) (s .absent) img d room) refl
+    where
+      own : ours z (s .now) ≡ true
+      own = ⊎-elim (λ (f : Fair z s img). f .ours-now) (λ (q : (s .kind ≡ Idle) × (ours z (s .now) ≡ true)). q .1) (t .order .1)
+
+      by : (o : Outcome) → takeAnswer (s .now) (s .kind) (s .absent) img d room ≡ o → Tie w img (handed (has s) (begun o s (tookOut s d)))
+      by Done e =
+          let y : takeOutOf s d img room .outcome ≡ Done = ap (λ (o : Outcome). begun o s (tookOut s d) .outcome) e in
+          let b = out-begins z more img (t .disks) s own d room y in
+          let q = goes (takeAnswer (s .now) (s .kind) (s .absent) img d room) s (tookOut s d) y .1 in
+          let m = ap (λ (x : State). memoryOf z x img) (sym q) ∙ b .1 in
+          let r = rests z more s img (idle-is (s .kind) (take-done (s .now) (s .kind) (s .absent) img d room e .1 .at-rest)) in
+          record {
+            disks = t .disks;
+            reads = t .reads;
+            reached = subst (Reached w) (sym m) (asks img (t .reads) (subst (Reached w) r (t .reached)) _ (take-out d) accepted (out-accepted z img more (t .disks) s own d room e) (λ p a. a));
+            named = t .named;
+            names = subst (λ (x : Memory Sector). Names z (leftIn z x)) (sym m) (out-names z more (ownOf z s (s .now)) d);
+            order = (out-ours z more img (t .disks) s own d, inl (subst (λ (x : State). Fair z x img) q (b .0)));
+          }
+      by (Refused why) e = t
+
+  -- ---- a step
+
+  -- no answer of a step changes the blocks
+  step-same : (r : Reply Sector) (a : Answer) → Same z a r → (q : View Sector) → Answered (z .c) step r (sure blocks) q → q ≡ sure blocks
+  step-same accepted a s q h = absurd s
+  step-same (refused why) a s q h = absurd s
+  step-same (did x) a s q h = h
+  step-same safe a s q h = absurd s
+  step-same (done program.creating) a s q h = h
+  step-same (done program.starting) a s q h = h
+  step-same (done (program.logging x)) a s q h = absurd h
+  step-same (done (program.storing x)) a s q h = absurd h
+  step-same (done program.labelling) a s q h = h
+  step-same (block b) a s q h = absurd s
+  step-same (found x) a s q h = absurd s
+
+  -- what the caller does with the disks is what the protocol's program did
+  heard-is : (w w' : World Sector) (img : List ℕ) (r : Reply Sector) (a : Answer) → Same z a r → effect w r .cur ≡ curOf z img → Heard z w a img w' → effect w r ≡ w'
+  heard-is w w' img accepted a s c h = absurd s
+  heard-is w w' img (refused why) a s c h = absurd s
+  heard-is w w' img (did (put k v)) a s c h =
+      let y = subst (λ (x : Answer). Heard z w x img w') (s .1) h in
+      let same : k ≡ y .0 = sym (place-one z (y .0) k (y .1) (s .0) (y .2) (y .3)) in
+      let is : v ≡ curOf z img (y .0) = sym (update-here (w .cur) k v) ∙ ap (λ (f : Image Sector). f k) c ∙ ap (curOf z img) same in
+      ap₂ (λ (x : Place) (u : Sector). act w (put x u)) same is ∙ sym (y .4)
+  heard-is w w' img (did (flush d)) a s c h = sym (subst (λ (x : Answer). Heard z w x img w') s h)
+  heard-is w w' img safe a s c h = absurd s
+  heard-is w w' img (done k) a s c h = sym (subst (λ (x : Answer). Heard z w x img w') s h)
+  heard-is w w' img (block b) a s c h = absurd s
+  heard-is w w' img (found x) a s c h = absurd s
+
+  -- a step of a request under way
+  goes-kept : (w : World Sector) (img : List ℕ) (s : State) (m : Move) (w' : World Sector) → Tied z more s img m → Tie w img (has s) → Heard z w (m .stepped .answer) (m .image) w' → Tie w' (m .image) (has (m .stepped .state))
+  goes-kept w img s m w' tied t h =
+      let r = tied .reply in
+      let o = off (t .reached) .keeps in
+      let n = subst (λ (y : Memory Sector × Reply Sector). Always (effect w (y .1)) (Named z) × Names z (leftIn z (y .0))) (tied .steps) (step-names z more (memoryOf z s img) (curOf z img) w (o .sane) (t .named) (t .names)) in
+      let next-ours = ap (ours z) (tied .settles) ∙ t .order .0 in
+      subst (λ (x : World Sector). Tie x (m .image) (has (m .stepped .state))) (heard-is w w' (m .image) r (m .stepped .answer) (tied .answers) (tied .acts w (t .reads)) h)
+      (record {
+        disks = ⊎-elim (λ (f : Fair z (m .stepped .state) (m .image)). f .disks) (λ (q : m ≡ finished s img). subst (λ (x : Move). Disks z (x .image)) (sym q) (t .disks)) (tied .goes-on);
+        reads = tied .acts w (t .reads);
+        reached = asks img (t .reads) (t .reached) (memoryOf z (m .stepped .state) (m .image)) step r (tied .steps) (step-same r (m .stepped .answer) (tied .answers));
+        named = n .0;
+        names = n .1;
+        order = (
+          next-ours,
+          ⊎-elim (λ (f : Fair z (m .stepped .state) (m .image)). inl f)
+              (λ (q : m ≡ finished s img). inr (ap (λ (x : Move). x .stepped .state .kind) q, ap (λ (x : Move). ours z (x .stepped .state .now)) q ∙ t .order .0)) (tied .goes-on),
+        );
+      })
+
+  -- a step that is refused
+  refused-kept : (w : World Sector) (img : List ℕ) (s : State) (why : Refusal) (m : Move) (w' : World Sector) → m ≡ refuses s why img → Tie w img (has s) → Heard z w (m .stepped .answer) (m .image) w' → Tie w' (m .image) (has (m .stepped .state))
+  refused-kept w img s why m w' e t =
+      subst (λ (x : Move). Heard z w (x .stepped .answer) (x .image) w' → Tie w' (x .image) (has (x .stepped .state))) (sym e) (λ h. subst (λ (x : World Sector). Tie x img (has s)) (sym h) t)
+
+  -- at rest every step is refused
+  and-none : (a : Bool) → (a && false) ≡ false
+  and-none true = refl
+  and-none false = refl
+
+  step-rests : (s : State) (img : List ℕ) (room : ℕ) → s .kind ≡ Idle → stepWith s img room ≡ refuses s NotNow img
+  unfolding sound stepMove
+  step-rests s img room k =
+      let no : sound s ≡ false = ap (λ (x : Kind). fitsOf (s .now) && (underWay x && (leb (s .cursor .stage) mostStages && ltb (s .cursor .sector) (s .now .c)))) k ∙ and-none (fitsOf (s .now)) in
+      step-unsound s img room no
+      ∙ ap (λ (b : Bool). cond b (cond (fitsImage (geometryOf (s .now)) (length img)) (Step.keeps s (walk mostStages s (geometryOf (s .now)) img)) (refuses s BadImage img)) (refuses s NotNow img)) no
+
+  -- A STEP is the program's, or it is refused and nothing changes
+  pub step-is : (w : World Sector) (img : List ℕ) (s : State) (room : ℕ) → Tie w img (has s) → Tied z more s img (stepWith s img room) ⊎ ((why : Refusal) × (stepWith s img room ≡ refuses s why img))
+  step-is w img s room t =
+      ⊎-elim (λ (f : Fair z s img). busy f (otherWork (s .now) (length img) room) refl) (λ (q : (s .kind ≡ Idle) × (ours z (s .now) ≡ true)). inr (NotNow, step-rests s img room (q .0))) (t .order .1)
+    where
+      busy : Fair z s img → (b : Bool) → otherWork (s .now) (length img) room ≡ b → Tied z more s img (stepWith s img room) ⊎ ((why : Refusal) × (stepWith s img room ≡ refuses s why img))
+      busy f true e = inr (BadBuffer, step-short s img room (f .in-range) e)
+      busy f false e = inl (subst (Tied z more s img) (sym (step-goes s img room (f .in-range) e)) (step-tied z more s img f))
+
+  step-kept : (w : World Sector) (img : List ℕ) (s : State) (room : ℕ) (w' : World Sector) → Tie w img (has s)
+      → Heard z w (stepWith s img room .stepped .answer) (stepWith s img room .image) w' → Tie w' (stepWith s img room .image) (has (stepWith s img room .stepped .state))
+  step-kept w img s room w' t h =
+      ⊎-elim (λ (d : Tied z more s img (stepWith s img room)). goes-kept w img s (stepWith s img room) w' d t h)
+      (λ (d : (why : Refusal) × (stepWith s img room ≡ refuses s why img)). refused-kept w img s (d .0) (stepWith s img room) w' (d .1) t h) (step-is w img s room t)
+
+  -- ---- A CALL KEEPS THE TIE
+
+  cut-kept : (w : World Sector) (img : List ℕ) (h : Hand) (left : List ℕ) → Disks z left → Possible w (curOf z left) → Tie w img h → Tie (after (curOf z left)) left none
+  unfolding after Always
+  cut-kept w img h left d p t =
+      record {
+        disks = d;
+        reads = refl;
+        reached = happens (t .reached) (from-outside (power-cut (curOf z left) p)) tt (λ q e. e);
+        named = always-after (Named z) (curOf z left) (t .named (curOf z left) p);
+        names = tt;
+        order = tt;
+      }
+
+  pub call-kept : {a b : Moment} → Calls z a b → On a → On b
+  call-kept (creates {w} {img} {h} s room) t = create-kept w img h s room t
+  call-kept (starts {w} {img} {h} s absent room) t = start-kept w img h s absent room t
+  call-kept (takes-out {w} {img} {s} d room) t = out-kept w img s d room t
+  call-kept (steps {w} {w'} {img} {s} room heard) t = step-kept w img s room w' t heard
+  call-kept (cut {w} {img} {h} left d p) t = cut-kept w img h left d p t
+  call-kept (dies {w} {img} {h}) t = record { disks = t .disks; reads = t .reads; reached = off (t .reached); named = t .named; names = tt; order = tt }
+
+  pub chain-kept : {a b : Moment} → Chain z a b → On a → On b
+  chain-kept stays t = t
+  chain-kept (goes-on c x) t = call-kept x (chain-kept c t)
+
+  -- and each step can be followed: its answer names a sector of the shelf
+  heard-by : (w : World Sector) (img : List ℕ) (r : Reply Sector) (a : Answer) → Same z a r → effect w r .cur ≡ curOf z img → (w' : World Sector) × Heard z w a img w'
+  heard-by w img accepted a s c = absurd s
+  heard-by w img (refused why) a s c = absurd s
+  heard-by w img (did (put k v)) a s c = (act w (put k (curOf z img k)), subst (λ (x : Answer). Heard z w x img (act w (put k (curOf z img k)))) (sym (s .1)) (k, s .0, refl, refl, refl))
+  heard-by w img (did (flush d)) a s c = (act w (flush d), subst (λ (x : Answer). Heard z w x img (act w (flush d))) (sym s) refl)
+  heard-by w img safe a s c = absurd s
+  heard-by w img (done k) a s c = (w, subst (λ (x : Answer). Heard z w x img w) (sym s) refl)
+  heard-by w img (block b) a s c = absurd s
+  heard-by w img (found x) a s c = absurd s
+
+  pub followed : (w : World Sector) (img : List ℕ) (s : State) (room : ℕ) → On (at w img (has s)) → (w' : World Sector) × Heard z w (stepWith s img room .stepped .answer) (stepWith s img room .image) w'
+  followed w img s room t =
+      ⊎-elim (λ (d : Tied z more s img (stepWith s img room)). heard-by w (stepWith s img room .image) (d .reply) (stepWith s img room .stepped .answer) (d .answers) (d .acts w (t .reads)))
+      (λ (d : (why : Refusal) × (stepWith s img room ≡ refuses s why img)). subst (λ (m : Move). (w' : World Sector) × Heard z w (m .stepped .answer) (m .image) w') (sym (d .1)) (w, refl)) (step-is w img s room t)
+
+  -- step after step
+  pub followed-on : (room n : ℕ) (w : World Sector) (img : List ℕ) (s : State) → On (at w img (has s)) → (w' : World Sector) × Chain z (at w img (has s)) (at w' (nth room n s img .image) (has (nth room n s img .stepped .state)))
+  followed-on room zero w img s t = let y = followed w img s room t in (y .0, goes-on stays (steps room (y .1)))
+  followed-on room (suc n) w img s t =
+      let y = followed w img s room t in
+      let r = followed-on room n (y .0) (stepWith s img room .image) (stepWith s img room .stepped .state) (step-kept w img s room (y .0) t (y .1)) in
+      (r .0, chained-on (goes-on stays (steps room (y .1))) (r .1))
+
+-- ---- THE PROMISE
+
+module _ (z : Shelf) (more : z .m < z .k) (img : List ℕ) (disks : Disks z img) (blank : allZero img ≡ true) where
+  -- the protocol's machine on these disks, with nothing in their caches and no program
+  abbrev pub fresh : Machine Sector
+  fresh = machine.at (after (curOf z img)) nothing
+
+  -- no state is held
+  fresh-tie : Tie z more fresh (after (curOf z img)) img none
+  unfolding after Named
+  fresh-tie =
+      let c = all-zeros z img blank in
+      let bare : ZerosOf z more (curOf z img) = subst (ZerosOf z more) (sym c) (record { labels = λ x b i. refl; logs = λ x j i l. refl; strips = λ x t j i h l. refl }) in
+      record {
+        disks = disks;
+        reads = refl;
+        reached =
+            record {
+              events = [];
+              runs = machine.stays;
+              keeps = zeros-off (size z) (quorum z more) (labels z) (records z) (code z more) stamps (sectors z more) (after (curOf z img)) (sane-after (curOf z img)) (few-none z) (always-after (ZerosOf z more) (curOf z img) bare);
+              tidy = always-after (Shapes (labels z)) (curOf z img) (zeros-shaped (size z) (quorum z more) (labels z) (records z) (code z more) stamps (sectors z more) (curOf z img) bare);
+            };
+        named = always-after (Named z) (curOf z img) (subst (Named z) (sym c) (zeros-named z));
+        names = tt;
+        order = tt;
+      }
+
+  -- FROM AN IMAGE OF ZEROS ON, whatever is called, and however often power is lost or the program dies: the disks and what the
+  -- program remembers beside the state are reached by the protocol's own events, and its invariant holds of them, with the host's
+  -- blocks all zeros
+  pub chained : {b : Moment} → Chain z (at (after (curOf z img)) img none) b → On z more fresh b
+  chained c = chain-kept z more fresh c fresh-tie
