@@ -1,25 +1,21 @@
 -- WHERE TWO SETS OF FEW SLOTS CAN BE ALL SLOTS (k <= m): what has to be asked of the world, and the promise where it is kept. (That something has to be asked: no-telling, in Limits.)
 -- The program is the same one, and its own test of few slots is any test at all: "at most m", say. Of the world is asked that the sets of slots that are left out by accepted start-ups and
 -- take-outs lie in one family of which any two sets leave a slot out (a Quorum): so any two of them have a slot in common that took part in both.
-use Prim.Native.Nat.{ℕ, suc, _<_}
-use mathlib.Core.Path.{_≡_, refl, sym, ap, subst, _∙_}
-use mathlib.Core.Bool.{Bool, true, false, cond, not, _&&_, _||_, true≢false, false≢true}
+use Prim.Native.Nat.{ℕ, suc}
+use mathlib.Core.Path.{_≡_, refl, sym, ap, subst}
+use mathlib.Core.Bool.{Bool, true, false, cond, not, _||_, true≢false, false≢true}
 use mathlib.Core.Logic.{_⊎_, ⊎-elim, inl, inr}
 use mathlib.Core.List.{List, [], _∷_, List·Memᴰ, List·Memᴰ·head, List·Memᴰ·tail, List·Memᴰ·not-nil, List·Memᴰ·append-cases, Memᴰ·append-left, Memᴰ·append-right, _++_}
-use native.Mathlib.Omega.{arith}
 use lib.Dec.{ltb, leb}
-use borrow.Author.Tests.{not-true}
 use Rattle.protocol.specs.World.{Image, World, Sane, Always}
-use Rattle.protocol.specs.Slots.{from, in-from, of-from, every, every-of, every-all}
 use Rattle.protocol.specs.Log.{RecordCodec}
-use Rattle.protocol.specs.Write.{both}
 use Rattle.protocol.specs.Label.{plainly-out, Size, Quorum, LabelCodec}
 use Rattle.protocol.specs.Startup.{labelled, M}
 use Rattle.protocol.specs.Request.{outed}
 use Rattle.protocol.specs.Host.{Code}
-use Rattle.protocol.specs.Program.{Stamps, Medium, Refusal, NO_LABEL, TOO_FEW, BAD_BLOCK, BUSY, NOT_NOW, Verdict, clear, because, first, Own, Kind, Memory, nothing, idle, doing, Input, create, start, read-block, write, take-out, begin, rebuild-on, scrub-stripe, step, Reply, accepted, refused, did, safe, done, block, found, beyond, mask, left-out, may-start, may, generations-left, answer, asked-start, asked-out, from-nothing, from-idle, from-doing, unseen, program}
+use Rattle.protocol.specs.Program.{Stamps, Medium, Refusal, NO_LABEL, TOO_FEW, BAD_BLOCK, BUSY, NOT_NOW, Verdict, clear, because, first, Own, Memory, nothing, idle, doing, Input, create, start, read-block, write, take-out, begin, rebuild-on, scrub-stripe, step, Reply, accepted, refused, did, safe, done, block, found, beyond, mask, left-out, may-start, may, generations-left, answer, asked-start, asked-out, from-nothing, from-idle, from-doing, unseen, program}
 use Rattle.protocol.specs.Machine as Machine
-use Rattle.protocol.specs.Machine.{Machine, at, effect, Event, ask, Outside, Runs, View, sure, Goes, Views, same, next}
+use Rattle.protocol.specs.Machine.{Machine, at, effect, Event, ask, Outside, Runs, View, sure, Views, next}
 use Rattle.protocol.specs.Invariant.{Invariant}
 use Rattle.protocol.specs.Promise.{Zeros}
 use Rattle.protocol.specs.Kept.{promised}
@@ -35,6 +31,10 @@ pub views-alike : {X : Type 0} {c : ℕ} {p q : View X} {l l' : List (Event X)} 
 views-alike none v = v
 views-alike (same-event a) (next g v) = next g (views-alike a v)
 views-alike (both-refused a) (next g v) = next g (views-alike a v)
+
+-- WHAT IS ASKED OF THE WORLD, with the sets of slots that are left out in a run: they are all in the family
+abbrev pub Shared : ((ℕ → Bool) → Bool) → List (ℕ → Bool) → Type 0
+Shared family l = (s : ℕ → Bool) → List·Memᴰ s l → family s ≡ true
 
 -- an answer that is no refusal, a verdict that refuses nothing
 unfoldable pub is-accepted : {X : Type 0} → Reply X → Bool
@@ -141,7 +141,7 @@ module _ {X : Type 0} (z : Size) (W : Quorum (z .n)) (C : LabelCodec X (z .n)) (
   Common family m f i = program-by m f i .1 ≡ accepted → (s : ℕ → Bool) → List·Memᴰ s (leaves m f i) → family s ≡ true
 
   -- a refusal, and nothing comes of it
-  abbrev Refused : Memory X → Memory X × Reply X → Type 0
+  abbrev pub Refused : Memory X → Memory X × Reply X → Type 0
   Refused m r = (why : Refusal) × (r ≡ (m, refused why))
 
   either : (m m' : Memory X) (v v' : Verdict) → (v ≡ clear → v' ≡ clear) → (answer z W C K E S R m v m' accepted ≡ answer z W C K E S R m v' m' accepted) ⊎ Refused m (answer z W C K E S R m v m' accepted)
@@ -220,7 +220,7 @@ module _ {X : Type 0} (z : Size) (W : Quorum (z .n)) (C : LabelCodec X (z .n)) (
   passed (doing k l o o') f i e s m = absurd (List·Memᴰ·not-nil m)
 
   -- WHAT IT ANSWERS IS WHAT THE PROGRAM ANSWERS WHOSE TEST IS THE FAMILY, if the set left out is in the family; or it is a refusal
-  by-step : (m : Memory X) (f : Image X) (i : Input X) → Common (W .few) m f i → (program-by m f i ≡ program z W C K E S R m f i) ⊎ Refused m (program-by m f i)
+  pub by-step : (m : Memory X) (f : Image X) (i : Input X) → Common (W .few) m f i → (program-by m f i ≡ program z W C K E S R m f i) ⊎ Refused m (program-by m f i)
   unfolding program-by program
   by-step nothing f create h = inl refl
   by-step nothing f (start A) h =
@@ -274,17 +274,13 @@ module _ {X : Type 0} (z : Size) (W : Quorum (z .n)) (C : LabelCodec X (z .n)) (
   left-by stays = []
   left-by (goes s r) = left-one s ++ left-by r
 
-  -- WHAT IS ASKED OF THE WORLD: they are all in the family
-  abbrev pub Shared : ((ℕ → Bool) → Bool) → List (ℕ → Bool) → Type 0
-  Shared family l = (s : ℕ → Bool) → List·Memᴰ s l → family s ≡ true
-
   -- a request that is refused in every state: one that asks for a step where nothing is under way, and for a create where something is
-  refusable : Memory X → Input X
+  unfoldable pub refusable : Memory X → Input X
   refusable nothing = step
   refusable (idle o) = step
   refusable (doing k l o o') = create
 
-  refuses : (m : Memory X) (f : Image X) → Refused m (program z W C K E S R m f (refusable m))
+  pub refuses : (m : Memory X) (f : Image X) → Refused m (program z W C K E S R m f (refusable m))
   unfolding program refusable
   refuses nothing f = (NOT_NOW, refl)
   refuses (idle o) f = (NOT_NOW, refl)

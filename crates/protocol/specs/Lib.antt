@@ -39,3 +39,4 @@ pub mod Walk
 pub mod Phases
 pub mod Even
 pub mod Pairs
+pub mod Pool

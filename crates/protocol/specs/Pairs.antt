@@ -3,7 +3,7 @@
 use Prim.Native.Nat.{ℕ, _<_}
 use mathlib.Core.Path.{_≡_, refl, sym, ap, subst, _∙_}
 use mathlib.Core.Bool.{Bool, true, false, cond, not, _&&_, _||_, true≢false, false≢true}
-use mathlib.Core.Logic.{_⊎_, ⊎-elim, inl, inr}
+use mathlib.Core.Logic.{⊎-elim}
 use mathlib.Core.List.{List, [], _∷_, List·Memᴰ, List·Memᴰ·head, List·Memᴰ·tail, List·Memᴰ·not-nil, List·Memᴰ·cases-cons}
 use native.Mathlib.Omega.{arith}
 use borrow.Author.Tests.{not-true}
@@ -148,10 +148,10 @@ code-for test E ok W sub =
 
 module _ {X : Type 0} (z : Size) (C : LabelCodec X (z .n)) (K : RecordCodec X) (E : Code X (z .n) (K .c) (no-sets (z .n))) (S : Stamps) (R : Medium z (no-sets (z .n)) C K E S) (test : (ℕ → Bool) → Bool) (ok : Mends test E) where
   module _ (W : Quorum (z .n)) (sub : (a : ℕ → Bool) → W .few a ≡ true → test a ≡ true) where
-    abbrev code-of : Code X (z .n) (K .c) W
+    abbrev pub code-of : Code X (z .n) (K .c) W
     code-of = code-for test E ok W sub
 
-    abbrev medium-for : Medium z W C K code-of S
+    abbrev pub medium-for : Medium z W C K code-of S
     medium-for =
         record {
           greatest = R .greatest;
@@ -167,7 +167,7 @@ module _ {X : Type 0} (z : Size) (C : LabelCodec X (z .n)) (K : RecordCodec X) (
         }
 
     -- THE FAMILY IS NO PART OF THE PROGRAM
-    same-by : (m : Memory X) (f : Image X) (i : Input X) → program-by z (no-sets (z .n)) C K E S R test m f i ≡ program-by z W C K code-of S medium-for test m f i
+    pub same-by : (m : Memory X) (f : Image X) (i : Input X) → program-by z (no-sets (z .n)) C K E S R test m f i ≡ program-by z W C K code-of S medium-for test m f i
     unfolding program-by mask left-out flushed-first told-to read read-through writeOf rebuilt
     same-by nothing f create = refl
     same-by nothing f (start A) = refl
@@ -197,7 +197,7 @@ module _ {X : Type 0} (z : Size) (C : LabelCodec X (z .n)) (K : RecordCodec X) (
     same-by (doing k l o o') f (scrub-stripe t) = refl
     same-by (doing k l o o') f step = refl
 
-    same-leaves : (m : Memory X) (f : Image X) (i : Input X) → leaves z (no-sets (z .n)) C K E S R test m f i ≡ leaves z W C K code-of S medium-for test m f i
+    pub same-leaves : (m : Memory X) (f : Image X) (i : Input X) → leaves z (no-sets (z .n)) C K E S R test m f i ≡ leaves z W C K code-of S medium-for test m f i
     unfolding mask left-out
     same-leaves nothing f create = refl
     same-leaves nothing f (start A) = refl
@@ -238,11 +238,11 @@ module _ {X : Type 0} (z : Size) (C : LabelCodec X (z .n)) (K : RecordCodec X) (
         let y = same-runs r in
         (Even.goes (x .0) (y .0), rw (x .1, y .1))
 
-    same-zeros-of : (f : Image X) → Zeros z (no-sets (z .n)) C K E S R f → Zeros z W C K code-of S medium-for f
+    pub same-zeros-of : (f : Image X) → Zeros z (no-sets (z .n)) C K E S R f → Zeros z W C K code-of S medium-for f
     same-zeros-of f h = record { labels = h .labels; logs = h .logs; strips = h .strips }
 
   -- THE PROMISE WHERE THE SETS THAT ARE LEFT OUT LIE IN A FAMILY of which any two leave a slot out. (Each of them passes the test: that is the program's own doing.)
-  pub family-promised : (F : Quorum (z .n)) → Parts (z .n) test → test (λ d. false) ≡ true → F .few (λ d. false) ≡ true → (w : World X) → Sane w → Always w (Zeros z (no-sets (z .n)) C K E S R) → {m : Machine X} {l : List (Event X)} (r : RunsBy z (no-sets (z .n)) C K E S R test (at w nothing) l m) → Shared z (no-sets (z .n)) C K E S R test (F .few) (left-by z (no-sets (z .n)) C K E S R test r) → (p : View X) × Views (K .c) (sure (λ t i j. K .zeros)) l p
+  pub family-promised : (F : Quorum (z .n)) → Parts (z .n) test → test (λ d. false) ≡ true → F .few (λ d. false) ≡ true → (w : World X) → Sane w → Always w (Zeros z (no-sets (z .n)) C K E S R) → {m : Machine X} {l : List (Event X)} (r : RunsBy z (no-sets (z .n)) C K E S R test (at w nothing) l m) → Shared (F .few) (left-by z (no-sets (z .n)) C K E S R test r) → (p : View X) × Views (K .c) (sure (λ t i j. K .zeros)) l p
   family-promised F part none-test none-F w sane h r shared =
       let W = within test part F in
       let sub : (a : ℕ → Bool) → W .few a ≡ true → test a ≡ true = λ a e. both (test a) (F .few a) e .0 in
