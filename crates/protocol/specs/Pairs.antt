@@ -1,10 +1,11 @@
 -- FAMILIES OF SETS OF SLOTS of which any two leave a slot out, for shelves with k <= m; and THE PROMISE FOR EVERY RUN in which any two of the sets that are left out leave a slot out: a slot that took part
 -- in both. (Where two such sets are all slots together, no program can tell: no-telling, in Limits.)
-use Prim.Native.Nat.{ℕ, _<_}
+use Prim.Native.Nat.{ℕ, zero, suc, _<_}
 use mathlib.Core.Path.{_≡_, refl, sym, ap, subst, _∙_}
 use mathlib.Core.Bool.{Bool, true, false, cond, not, _&&_, _||_, true≢false, false≢true}
-use mathlib.Core.Logic.{⊎-elim}
+use mathlib.Core.Logic.{_⊎_, ⊎-elim, inl, inr}
 use mathlib.Core.List.{List, [], _∷_, List·Memᴰ, List·Memᴰ·head, List·Memᴰ·tail, List·Memᴰ·not-nil, List·Memᴰ·cases-cons}
+use native.Mathlib.Nat.{eq-or-lt-of-le, le-of-suc-le-suc}
 use native.Mathlib.Omega.{arith}
 use borrow.Author.Tests.{not-true}
 use Rattle.protocol.specs.World.{Image, World, Sane, Always, always-map}
@@ -30,6 +31,19 @@ AnyTwo n l = (s t : ℕ → Bool) → List·Memᴰ s l → List·Memᴰ t l → 
 
 pub and-is : (a b : Bool) → a ≡ true → b ≡ true → (a && b) ≡ true
 and-is a b p q = rw (p, q)
+
+-- Of two sets, either leave a slot out, or they are all slots together: then no-telling (Limits) is about them.
+pub leave-or-cover : (n : ℕ) (s t : ℕ → Bool) → ((d : ℕ) × (d < n) × (s d ≡ false) × (t d ≡ false)) ⊎ ((d : ℕ) → d < n → (s d || t d) ≡ true)
+leave-or-cover zero s t = inr (λ d i. absurd (omega arith))
+leave-or-cover (suc n) s t = ⊎-elim (λ y. inl (y .0, omega (arith, y .1), y .2, y .3)) (λ h. go h (s n) refl (t n) refl) (leave-or-cover n s t)
+  where
+    at-last : ((d : ℕ) → d < n → (s d || t d) ≡ true) → (s n || t n) ≡ true → (d : ℕ) → d < suc n → (s d || t d) ≡ true
+    at-last h e d i = ⊎-elim (λ q. rw q e) (λ q. h d q) (eq-or-lt-of-le (le-of-suc-le-suc i))
+
+    go : ((d : ℕ) → d < n → (s d || t d) ≡ true) → (x : Bool) → s n ≡ x → (y : Bool) → t n ≡ y → ((d : ℕ) × (d < suc n) × (s d ≡ false) × (t d ≡ false)) ⊎ ((d : ℕ) → d < suc n → (s d || t d) ≡ true)
+    go h true p y q = inr (at-last h (rw p))
+    go h false p true q = inr (at-last h (rw (p, q)))
+    go h false p false q = inl (n, omega arith, p, q)
 
 -- ---- families
 

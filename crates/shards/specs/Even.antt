@@ -5,6 +5,8 @@ use mathlib.Core.Bool.{Bool, true, false, false≢true}
 use mathlib.Core.List.{List, List·Memᴰ}
 use Prim.Native.Nat.{ℕ, _<_}
 use native.Mathlib.Omega.{arith}
+use lib.Dec.{lit<}
+use Rattle.disk.specs.Geometry.{stripLength, inRange, splits, inRangeWith}
 use Rattle.protocol.specs.World.{Image, World, Sane, Always}
 use Rattle.protocol.specs.Label.{Quorum}
 use Rattle.protocol.specs.Host.{Code, read, read-through, writeOf, rebuilt}
@@ -26,6 +28,11 @@ use Rattle.codecs.specs.Media.{stamps, medium}
 use Rattle.shards.specs.Quorum.{fewOf, few-count, count-few, few-none, quorum}
 use Rattle.shards.specs.Code.{shardIn, blocksFrom, touchedIn, scrubOf, touched-inside, blocks-back, shard-equal, shard-kept, scrub-right, touched-broad, zeros-in, code}
 use Rattle.shards.specs.Promise.{sectors}
+
+-- there are shelves with k <= m: two data disks and two for parity
+unfoldable pub even : Shelf
+unfolding inRangeWith inRange stripLength splits
+even = record { k = 2; m = 2; c = 1; sectors = 67; number = 0; range = refl; number-fits = lit< tt }
 
 module _ (z : Shelf) where
   -- the code's functions, whatever k and m are; and what they mend
