@@ -1,5 +1,6 @@
 -- FAMILIES OF SETS OF SLOTS of which any two leave a slot out, for shelves with k <= m; and THE PROMISE FOR EVERY RUN in which any two of the sets that are left out leave a slot out: a slot that took part
--- in both. (Where two such sets are all slots together, no program can tell: no-telling, in Limits.)
+-- in both. Some such thing has to be asked: if two sets are all slots, and a write was acknowledged with the first one left out, a start-up that leaves out the second cannot tell (no-telling, in Limits).
+-- It is asked of all sets of a history, also of those before the last label was settled. (Those since then should do; that is not shown.)
 use Prim.Native.Nat.{ℕ, zero, suc, _<_}
 use mathlib.Core.Path.{_≡_, refl, sym, ap, subst, _∙_}
 use mathlib.Core.Bool.{Bool, true, false, cond, not, _&&_, _||_, true≢false, false≢true}
@@ -32,7 +33,7 @@ AnyTwo n l = (s t : ℕ → Bool) → List·Memᴰ s l → List·Memᴰ t l → 
 pub and-is : (a b : Bool) → a ≡ true → b ≡ true → (a && b) ≡ true
 and-is a b p q = rw (p, q)
 
--- Of two sets, either leave a slot out, or they are all slots together: then no-telling (Limits) is about them.
+-- Two sets leave a slot out, or they are all slots: such sets no-telling (Limits) is about.
 pub leave-or-cover : (n : ℕ) (s t : ℕ → Bool) → ((d : ℕ) × (d < n) × (s d ≡ false) × (t d ≡ false)) ⊎ ((d : ℕ) → d < n → (s d || t d) ≡ true)
 leave-or-cover zero s t = inr (λ d i. absurd (omega arith))
 leave-or-cover (suc n) s t = ⊎-elim (λ y. inl (y .0, omega (arith, y .1), y .2, y .3)) (λ h. go h (s n) refl (t n) refl) (leave-or-cover n s t)
