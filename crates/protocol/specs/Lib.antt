@@ -37,3 +37,6 @@ pub mod Back
 pub mod Everywhere
 pub mod Walk
 pub mod Phases
+pub mod Even
+pub mod Pairs
+pub mod Pool

@@ -6,3 +6,4 @@ pub mod Parity
 pub mod Code
 pub mod Exact
 pub mod Promise
+pub mod Even

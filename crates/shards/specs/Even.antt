@@ -1,0 +1,133 @@
+-- THE PROMISE AT REAL SECTORS FOR EVERY SHELF within the limits, k <= m among them (2 + 2, 2 + 3, 3 + 3), if the world does what is then asked of it: any two of the sets of slots that
+-- accepted start-ups and take-outs leave out, leave a slot out in common. The program's own test is "at most m" throughout. For k > m it is the same program, and nothing is asked. Assumes nothing.
+use mathlib.Core.Path.{_≡_, refl}
+use mathlib.Core.Bool.{Bool, true, false, false≢true}
+use mathlib.Core.List.{List, List·Memᴰ}
+use Prim.Native.Nat.{ℕ, _<_}
+use native.Mathlib.Omega.{arith}
+use lib.Dec.{lit<}
+use Rattle.disk.specs.Geometry.{stripLength, inRange, splits, inRangeWith}
+use Rattle.protocol.specs.World.{Image, World, Sane, Always}
+use Rattle.protocol.specs.Label.{Quorum}
+use Rattle.protocol.specs.Host.{Code, read, read-through, writeOf, rebuilt}
+use Rattle.protocol.specs.Count.{count-part}
+use Rattle.protocol.specs.Program.{Medium, Memory, nothing, idle, doing, Input, create, start, read-block, write, take-out, begin, rebuild-on, scrub-stripe, step, Reply, mask, left-out, flushed-first, told-to, program}
+use Rattle.protocol.specs.Machine.{Machine, at, Event, View, sure, Views}
+use Rattle.protocol.specs.Promise.{Zeros}
+use Rattle.protocol.specs.Even.{Shared, program-by, RunsBy, left-by, all-passed}
+use Rattle.protocol.specs.Pairs.{Parts, AnyTwo, no-sets, within, Mends}
+use Rattle.protocol.specs.Pairs as Pairs
+use Rattle.protocol.specs.Exchange.{Disks, Room, room, Strange}
+use Rattle.protocol.specs.Pool.{BefellBy, left-all}
+use Rattle.protocol.specs.Pool as Pool
+use Rattle.codecs.specs.Sector.{Sector, zeros}
+use Rattle.codecs.specs.Shelf.{Shelf, slots, size, some-slots}
+use Rattle.codecs.specs.Labels.{labels}
+use Rattle.codecs.specs.Records.{records}
+use Rattle.codecs.specs.Media.{stamps, medium}
+use Rattle.shards.specs.Quorum.{fewOf, few-count, count-few, few-none, quorum}
+use Rattle.shards.specs.Code.{shardIn, blocksFrom, touchedIn, scrubOf, touched-inside, blocks-back, shard-equal, shard-kept, scrub-right, touched-broad, zeros-in, code}
+use Rattle.shards.specs.Promise.{sectors}
+
+-- there are shelves with k <= m: two data disks and two for parity
+unfoldable pub even : Shelf
+unfolding inRangeWith inRange stripLength splits
+even = record { k = 2; m = 2; c = 1; sectors = 67; number = 0; range = refl; number-fits = lit< tt }
+
+module _ (z : Shelf) where
+  -- the code's functions, whatever k and m are; and what they mend
+  abbrev pub any-code : Code Sector (slots z) (z .c) (no-sets (slots z))
+  any-code =
+      record {
+        k = z .k;
+        shard = shardIn z;
+        blocks = blocksFrom z;
+        touched = touchedIn z;
+        touched-n = touched-inside z;
+        back = λ t bad b g few. absurd (false≢true few);
+        shard-same = shard-equal z;
+        keeps = shard-kept z;
+        scrub = scrubOf z;
+        scrub-sound = scrub-right z;
+        broad = λ t i h a few. absurd (false≢true few);
+      }
+
+  pub mends : Mends (fewOf z) any-code
+  mends = record { back = blocks-back z; broad = touched-broad z }
+
+  unfoldable pub any-sectors : Medium (size z) (no-sets (slots z)) (labels z) (records z) any-code stamps
+  any-sectors = medium z (no-sets (slots z)) any-code (λ t d j h l. zeros-in z t d j)
+
+  pub few-parts : Parts (slots z) (fewOf z)
+  few-parts a b h e = count-few z a (omega (arith, count-part a b (slots z) h, few-count z b e))
+
+  -- the shelf's program: its test is "at most m"
+  abbrev pub shelf-program : Memory Sector → Image Sector → Input Sector → Memory Sector × Reply Sector
+  shelf-program = program-by (size z) (no-sets (slots z)) (labels z) (records z) any-code stamps any-sectors (fewOf z)
+
+  abbrev pub ShelfRuns : Machine Sector → List (Event Sector) → Machine Sector → Type 1
+  ShelfRuns = RunsBy (size z) (no-sets (slots z)) (labels z) (records z) any-code stamps any-sectors (fewOf z)
+
+  abbrev pub ShelfZeros : Image Sector → Type 0
+  ShelfZeros = Zeros (size z) (no-sets (slots z)) (labels z) (records z) any-code stamps any-sectors
+
+  -- the sets of slots that a run's accepted start-ups and take-outs leave out
+  abbrev pub left : {a b : Machine Sector} {l : List (Event Sector)} → ShelfRuns a l b → List (ℕ → Bool)
+  left r = left-by (size z) (no-sets (slots z)) (labels z) (records z) any-code stamps any-sectors (fewOf z) r
+
+  abbrev pub ShelfBefell : Quorum (slots z) → Room Sector → List (Event Sector) → Room Sector → Type 1
+  ShelfBefell F = BefellBy (size z) (no-sets (slots z)) (labels z) (records z) any-code stamps any-sectors (fewOf z) (within (fewOf z) few-parts F .few)
+
+  abbrev pub left-room : (F : Quorum (slots z)) {r r' : Room Sector} {l : List (Event Sector)} → ShelfBefell F r l r' → List (ℕ → Bool)
+  left-room F b = left-all (size z) (no-sets (slots z)) (labels z) (records z) any-code stamps any-sectors (fewOf z) (within (fewOf z) few-parts F .few) b
+
+  -- THE PROMISE, where any two of them leave a slot out
+  pub pairs-promised : (w : World Sector) → Sane w → Always w ShelfZeros → {a : Machine Sector} {l : List (Event Sector)} (r : ShelfRuns (at w nothing) l a) → AnyTwo (slots z) (left r) → (p : View Sector) × Views (z .c) (sure (λ t i j. zeros)) l p
+  pairs-promised w sane h r two = Pairs.pairs-promised (size z) (labels z) (records z) any-code stamps any-sectors (fewOf z) mends few-parts (few-none z) (some-slots z) w sane h r two
+
+  -- so where one slot always takes part
+  pub slot-promised : (v : ℕ) → v < slots z → (w : World Sector) → Sane w → Always w ShelfZeros → {a : Machine Sector} {l : List (Event Sector)} (r : ShelfRuns (at w nothing) l a) → ((s : ℕ → Bool) → List·Memᴰ s (left r) → s v ≡ false) → (p : View Sector) × Views (z .c) (sure (λ t i j. zeros)) l p
+  slot-promised v i w sane h r takes = Pairs.slot-promised (size z) (labels z) (records z) any-code stamps any-sectors (fewOf z) mends few-parts (few-none z) v i w sane h r takes
+
+  -- with exchanged disks: the sets that are left out lie in a family F of which any two leave a slot out, and so do, and are at most m, the slots that are absent or hold another disk than
+  -- their last, at an accepted start-up that may miss the newest label
+  pub exchange-promised : (F : Quorum (slots z)) → F .few (λ d. false) ≡ true → (w : World Sector) (x : Disks Sector) → Sane w → Always w ShelfZeros → x .made ≡ false → Strange (size z) (labels z) x → {r : Room Sector} {l : List (Event Sector)} (b : ShelfBefell F (room w nothing x) l r) → Shared (F .few) (left-room F b) → (p : View Sector) × Views (z .c) (sure (λ t i j. zeros)) l p
+  exchange-promised F none w x sane h made strange b shared = Pool.exchange-family-promised (size z) (labels z) (records z) any-code stamps any-sectors (fewOf z) mends F few-parts (few-none z) none w x sane h made strange b shared
+
+  -- for k > m nothing is asked,
+  pub nothing-asked : z .m < z .k → {a b : Machine Sector} {l : List (Event Sector)} (r : ShelfRuns a l b) → AnyTwo (slots z) (left r)
+  nothing-asked more r s t i j = quorum z more .meet s t (passed s i) (passed t j)
+    where
+      passed : (s : ℕ → Bool) → List·Memᴰ s (left r) → fewOf z s ≡ true
+      passed = all-passed (size z) (no-sets (slots z)) (labels z) (records z) any-code stamps any-sectors (fewOf z) r
+
+  -- and it is the program that Promise is about
+  pub same-program : (more : z .m < z .k) (m : Memory Sector) (f : Image Sector) (i : Input Sector) → shelf-program m f i ≡ program (size z) (quorum z more) (labels z) (records z) (code z more) stamps (sectors z more) m f i
+  unfolding program-by program mask left-out flushed-first told-to read read-through writeOf rebuilt sectors any-sectors medium
+  same-program more nothing f create = refl
+  same-program more nothing f (start A) = refl
+  same-program more nothing f (read-block t i) = refl
+  same-program more nothing f (write t ch) = refl
+  same-program more nothing f (take-out d) = refl
+  same-program more nothing f (begin d) = refl
+  same-program more nothing f (rebuild-on b) = refl
+  same-program more nothing f (scrub-stripe t) = refl
+  same-program more nothing f step = refl
+  same-program more (idle o) f create = refl
+  same-program more (idle o) f (start A) = refl
+  same-program more (idle o) f (read-block t i) = refl
+  same-program more (idle o) f (write t ch) = refl
+  same-program more (idle o) f (take-out d) = refl
+  same-program more (idle o) f (begin d) = refl
+  same-program more (idle o) f (rebuild-on b) = refl
+  same-program more (idle o) f (scrub-stripe t) = refl
+  same-program more (idle o) f step = refl
+  same-program more (doing k l o o') f create = refl
+  same-program more (doing k l o o') f (start A) = refl
+  same-program more (doing k l o o') f (read-block t i) = refl
+  same-program more (doing k l o o') f (write t ch) = refl
+  same-program more (doing k l o o') f (take-out d) = refl
+  same-program more (doing k l o o') f (begin d) = refl
+  same-program more (doing k l o o') f (rebuild-on b) = refl
+  same-program more (doing k l o o') f (scrub-stripe t) = refl
+  same-program more (doing k l o o') f step = refl
