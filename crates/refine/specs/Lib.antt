@@ -22,3 +22,4 @@ pub mod Accepts
 pub mod Named
 pub mod Chain
 pub mod Promise
+pub mod Blind
