@@ -117,7 +117,7 @@ restore-legal s g d t img = by (restoreAnswer (g .c) (s .cursor .sector) (length
     by outcome.Done = on (found (inRange g) (ltb t (stripesOf g)) (stripOf g t))
     by (outcome.Refused why) = refl
 
-act-legal : (s : State) (g : Geometry) (x : Stage) (d : ℕ) (img : List ℕ) → d < g .n → LegalMove s g img (actMove s g x d img)
+act-legal : (s : State) (g : Geometry) (x : Stage) (d : ℕ) (img : List ℕ) → d < g .n → LegalMove s g img (actMove s g x d work img)
 unfolding wipeMove
 act-legal s g (stage.Flush slots) d img l = flush-legal s g d img l
 act-legal s g (stage.Give slots zeroed a) d img l = give-legal s g d zeroed a img
@@ -125,13 +125,13 @@ act-legal s g (stage.Wipe slots) d img l = put-legal s g d (firstLog + g .c) 1 (
 act-legal s g (stage.Restore slots t) d img l = restore-legal s g d t img
 act-legal s g stage.End d img l = refl
 
-walk-legal : (k : ℕ) (s : State) (g : Geometry) (img : List ℕ) → LegalMove s g img (walk k s g img)
+walk-legal : (k : ℕ) (s : State) (g : Geometry) (work img : List ℕ) → LegalMove s g img (walk k s g work img)
 unfolding walk
-walk-legal zero s g img = refl
-walk-legal (suc k) s g img = by (isEnd (stageOf s)) (ltb (nextSlot s g) (g .n)) refl (walk-legal k (onStage s) g img)
+walk-legal zero s g work img = refl
+walk-legal (suc k) s g work img = by (isEnd (stageOf s)) (ltb (nextSlot s g) (g .n)) refl (walk-legal k (onStage s) g work img)
   where
-    by : (e b : Bool) → ltb (nextSlot s g) (g .n) ≡ b → LegalMove s g img (walk k (onStage s) g img)
-        → LegalMove s g img (cond {A = Move} e (finished s img) (cond {A = Move} b (actMove s g (stageOf s) (nextSlot s g) img) (walk k (onStage s) g img)))
+    by : (e b : Bool) → ltb (nextSlot s g) (g .n) ≡ b → LegalMove s g img (walk k (onStage s) g work img)
+        → LegalMove s g img (cond {A = Move} e (finished s img) (cond {A = Move} b (actMove s g (stageOf s) (nextSlot s g) work img) (walk k (onStage s) g work img)))
     by true b h r = refl
     by false true h r = act-legal s g (stageOf s) (nextSlot s g) img (ltb-true (nextSlot s g) (g .n) h)
     by false false h r = r
@@ -152,16 +152,16 @@ kept-state s r why e = ap (λ (a : Answer). byAnswer a s r .state) e
 -- ---- the laws
 
 -- a step changes at most one sector of a present slot: each answer says what
-pub step-one : (s : State) (img : List ℕ)
-    → Legal (stepMove s img .stepped .answer) (s .absent) (geometryOf (s .now)) img (stepMove s img .image)
+pub step-one : (s : State) (work img : List ℕ)
+    → Legal (stepMove s work img .stepped .answer) (s .absent) (geometryOf (s .now)) img (stepMove s work img .image)
 unfolding stepMove
-step-one s img = by (sound s) (fitsImage (geometryOf (s .now)) (length img))
+step-one s work img = by (sound s) (fitsImage (geometryOf (s .now)) (length img))
   where
     by : (b f : Bool)
-        → LegalMove s (geometryOf (s .now)) img (cond {A = Move} b (cond {A = Move} f (keeps s (walk mostStages s (geometryOf (s .now)) img)) (refuses s BadImage img)) (refuses s NotNow img))
+        → LegalMove s (geometryOf (s .now)) img (cond {A = Move} b (cond {A = Move} f (keeps s (walk mostStages s (geometryOf (s .now)) work img)) (refuses s BadImage img)) (refuses s NotNow img))
     by true true =
-        subst (λ (a : Answer). Legal a (s .absent) (geometryOf (s .now)) img (walk mostStages s (geometryOf (s .now)) img .image))
-        (sym (kept-answer s (walk mostStages s (geometryOf (s .now)) img .stepped))) (walk-legal mostStages s (geometryOf (s .now)) img)
+        subst (λ (a : Answer). Legal a (s .absent) (geometryOf (s .now)) img (walk mostStages s (geometryOf (s .now)) work img .image))
+        (sym (kept-answer s (walk mostStages s (geometryOf (s .now)) work img .stepped))) (walk-legal mostStages s (geometryOf (s .now)) work img)
     by true false = refl
     by false f = refl
 
@@ -173,20 +173,20 @@ legal-length Done absent g img after p = ap length p
 legal-length (Refused why) absent g img after p = ap length p
 
 -- the image keeps its length
-pub step-length : (s : State) (img : List ℕ) → length (stepMove s img .image) ≡ length img
-step-length s img = legal-length (stepMove s img .stepped .answer) (s .absent) (geometryOf (s .now)) img (stepMove s img .image) (step-one s img)
+pub step-length : (s : State) (work img : List ℕ) → length (stepMove s work img .image) ≡ length img
+step-length s work img = legal-length (stepMove s work img .stepped .answer) (s .absent) (geometryOf (s .now)) img (stepMove s work img .image) (step-one s work img)
 
-said : (s : State) (img : List ℕ) (a : Answer) → stepMove s img .stepped .answer ≡ a
-    → Legal a (s .absent) (geometryOf (s .now)) img (stepMove s img .image)
-said s img a e = subst (λ (x : Answer). Legal x (s .absent) (geometryOf (s .now)) img (stepMove s img .image)) e (step-one s img)
+said : (s : State) (work img : List ℕ) (a : Answer) → stepMove s work img .stepped .answer ≡ a
+    → Legal a (s .absent) (geometryOf (s .now)) img (stepMove s work img .image)
+said s work img a e = subst (λ (x : Answer). Legal x (s .absent) (geometryOf (s .now)) img (stepMove s work img .image)) e (step-one s work img)
 
-module _ (s : State) (img : List ℕ) (d to : ℕ) (put : stepMove s img .stepped .answer ≡ Put d to) where
-  pub step-put : Puts (s .absent) (geometryOf (s .now)) img (stepMove s img .image) d to
-  step-put = said s img (Put d to) put
+module _ (s : State) (work img : List ℕ) (d to : ℕ) (put : stepMove s work img .stepped .answer ≡ Put d to) where
+  pub step-put : Puts (s .absent) (geometryOf (s .now)) img (stepMove s work img .image) d to
+  step-put = said s work img (Put d to) put
 
   -- every other sector of the shelf reads as before
   pub step-others : (e u : ℕ) → e < s .now .k + s .now .m → u < s .now .sectors → ((e ≡ d) × (u ≡ to) → ⊥)
-      → sector (s .now .sectors) (stepMove s img .image) e u ≡ sector (s .now .sectors) img e u
+      → sector (s .now .sectors) (stepMove s work img .image) e u ≡ sector (s .now .sectors) img e u
   step-others e u he hu ne =
       let g = geometryOf (s .now) in
       let p = step-put in
@@ -195,7 +195,7 @@ module _ (s : State) (img : List ℕ) (d to : ℕ) (put : stepMove s img .steppe
 
   -- and no byte outside the sector changes
   pub step-bytes : (i : ℕ) → (i < place (s .now .sectors) d to) ⊎ (place (s .now .sectors) d to + sectorBytes ≤ i)
-      → getD (stepMove s img .image) i 0 ≡ getD img i 0
+      → getD (stepMove s work img .image) i 0 ≡ getD img i 0
   step-bytes i h =
       let g = geometryOf (s .now) in
       let p = step-put in
@@ -203,29 +203,29 @@ module _ (s : State) (img : List ℕ) (d to : ℕ) (put : stepMove s img .steppe
       ∙ byte-put-other (g .n) (g .sectors) img (p .bytes) (p .shape) (p .whole) d to (p .slot) (p .low) i h
 
 -- a flush names a present slot of the shelf
-pub step-flush : (s : State) (img : List ℕ) (d : ℕ) → stepMove s img .stepped .answer ≡ Flush d
-    → Flushes (s .absent) (geometryOf (s .now)) img (stepMove s img .image) d
-step-flush s img d e = said s img (Flush d) e
+pub step-flush : (s : State) (work img : List ℕ) (d : ℕ) → stepMove s work img .stepped .answer ≡ Flush d
+    → Flushes (s .absent) (geometryOf (s .now)) img (stepMove s work img .image) d
+step-flush s work img d e = said s work img (Flush d) e
 
 -- a step that is done leaves the image as it was
-pub step-done : (s : State) (img : List ℕ) → stepMove s img .stepped .answer ≡ Done → stepMove s img .image ≡ img
-step-done s img e = said s img Done e
+pub step-done : (s : State) (work img : List ℕ) → stepMove s work img .stepped .answer ≡ Done → stepMove s work img .image ≡ img
+step-done s work img e = said s work img Done e
 
-refused-state : (s : State) (img : List ℕ) (why : Refusal) → stepMove s img .stepped .answer ≡ Refused why → stepMove s img .stepped .state ≡ s
+refused-state : (s : State) (work img : List ℕ) (why : Refusal) → stepMove s work img .stepped .answer ≡ Refused why → stepMove s work img .stepped .state ≡ s
 unfolding stepMove
-refused-state s img why = by (sound s) (fitsImage (geometryOf (s .now)) (length img))
+refused-state s work img why = by (sound s) (fitsImage (geometryOf (s .now)) (length img))
   where
     by : (b f : Bool)
-        → cond {A = Move} b (cond {A = Move} f (keeps s (walk mostStages s (geometryOf (s .now)) img)) (refuses s BadImage img)) (refuses s NotNow img) .stepped .answer ≡ Refused why
-        → cond {A = Move} b (cond {A = Move} f (keeps s (walk mostStages s (geometryOf (s .now)) img)) (refuses s BadImage img)) (refuses s NotNow img) .stepped .state ≡ s
-    by true true e = kept-state s (walk mostStages s (geometryOf (s .now)) img .stepped) why (sym (kept-answer s (walk mostStages s (geometryOf (s .now)) img .stepped)) ∙ e)
+        → cond {A = Move} b (cond {A = Move} f (keeps s (walk mostStages s (geometryOf (s .now)) work img)) (refuses s BadImage img)) (refuses s NotNow img) .stepped .answer ≡ Refused why
+        → cond {A = Move} b (cond {A = Move} f (keeps s (walk mostStages s (geometryOf (s .now)) work img)) (refuses s BadImage img)) (refuses s NotNow img) .stepped .state ≡ s
+    by true true e = kept-state s (walk mostStages s (geometryOf (s .now)) work img .stepped) why (sym (kept-answer s (walk mostStages s (geometryOf (s .now)) work img .stepped)) ∙ e)
     by true false e = refl
     by false f e = refl
 
 -- a refusal leaves state and image as they were
-pub step-refused : (s : State) (img : List ℕ) (why : Refusal) → stepMove s img .stepped .answer ≡ Refused why
-    → (stepMove s img .stepped .state ≡ s) × (stepMove s img .image ≡ img)
-step-refused s img why e = (refused-state s img why e, said s img (Refused why) e)
+pub step-refused : (s : State) (work img : List ℕ) (why : Refusal) → stepMove s work img .stepped .answer ≡ Refused why
+    → (stepMove s work img .stepped .state ≡ s) × (stepMove s work img .image ≡ img)
+step-refused s work img why e = (refused-state s work img why e, said s work img (Refused why) e)
 
 -- ---- no byte of any disk decides the answer
 
@@ -301,7 +301,7 @@ restore-blind s g d t img jmg e =
     by (outcome.Refused why) = refl
 
 act-blind : (s : State) (g : Geometry) (x : Stage) (d : ℕ) (img jmg : List ℕ) → length img ≡ length jmg
-    → actMove s g x d img .stepped ≡ actMove s g x d jmg .stepped
+    → actMove s g x d work img .stepped ≡ actMove s g x d work jmg .stepped
 unfolding wipeMove
 act-blind s g (stage.Flush slots) d img jmg e = refl
 act-blind s g (stage.Give slots zeroed a) d img jmg e = give-blind s g d zeroed a img jmg e
@@ -309,32 +309,32 @@ act-blind s g (stage.Wipe slots) d img jmg e = put-blind s g d (firstLog + g .c)
 act-blind s g (stage.Restore slots t) d img jmg e = restore-blind s g d t img jmg e
 act-blind s g stage.End d img jmg e = refl
 
-walk-blind : (k : ℕ) (s : State) (g : Geometry) (img jmg : List ℕ) → length img ≡ length jmg → walk k s g img .stepped ≡ walk k s g jmg .stepped
+walk-blind : (k : ℕ) (s : State) (g : Geometry) (work img jmg : List ℕ) → length img ≡ length jmg → walk k s g work img .stepped ≡ walk k s g work jmg .stepped
 unfolding walk
-walk-blind zero s g img jmg e = refl
-walk-blind (suc k) s g img jmg e = by (isEnd (stageOf s)) (ltb (nextSlot s g) (g .n)) (walk-blind k (onStage s) g img jmg e)
+walk-blind zero s g work img jmg e = refl
+walk-blind (suc k) s g work img jmg e = by (isEnd (stageOf s)) (ltb (nextSlot s g) (g .n)) (walk-blind k (onStage s) g work img jmg e)
   where
     move : Bool → Bool → List ℕ → Move
-    move a b x = cond {A = Move} a (finished s x) (cond {A = Move} b (actMove s g (stageOf s) (nextSlot s g) x) (walk k (onStage s) g x))
+    move a b x = cond {A = Move} a (finished s x) (cond {A = Move} b (actMove s g (stageOf s) (nextSlot s g) work x) (walk k (onStage s) g work x))
 
-    by : (a b : Bool) → walk k (onStage s) g img .stepped ≡ walk k (onStage s) g jmg .stepped → move a b img .stepped ≡ move a b jmg .stepped
+    by : (a b : Bool) → walk k (onStage s) g work img .stepped ≡ walk k (onStage s) g work jmg .stepped → move a b img .stepped ≡ move a b jmg .stepped
     by true b r = refl
     by false true r = act-blind s g (stageOf s) (nextSlot s g) img jmg e
     by false false r = r
 
 -- two images of one length get the same answer and the same state, whatever the disks hold, absent or present
-pub step-blind : (s : State) (img jmg : List ℕ) → length img ≡ length jmg → stepMove s img .stepped ≡ stepMove s jmg .stepped
+pub step-blind : (s : State) (work img jmg : List ℕ) → length img ≡ length jmg → stepMove s work img .stepped ≡ stepMove s work jmg .stepped
 unfolding stepMove
-step-blind s img jmg e =
+step-blind s work img jmg e =
     by (sound s) (fitsImage (geometryOf (s .now)) (length img))
     ∙ ap (λ (k : ℕ). move (sound s) (fitsImage (geometryOf (s .now)) k) jmg .stepped) e
   where
     move : Bool → Bool → List ℕ → Move
     move b f x =
-        cond {A = Move} b (cond {A = Move} f (keeps s (walk mostStages s (geometryOf (s .now)) x)) (refuses s BadImage x)) (refuses s NotNow x)
+        cond {A = Move} b (cond {A = Move} f (keeps s (walk mostStages s (geometryOf (s .now)) work x)) (refuses s BadImage x)) (refuses s NotNow x)
 
     by : (b f : Bool) → move b f img .stepped ≡ move b f jmg .stepped
-    by true true = ap (kept s) (walk-blind mostStages s (geometryOf (s .now)) img jmg e)
+    by true true = ap (kept s) (walk-blind mostStages s (geometryOf (s .now)) work img jmg e)
     by true false = refl
     by false f = refl
 
@@ -470,7 +470,7 @@ module _ (g : Geometry) (img jmg : List ℕ) (same : length img ≡ length jmg) 
       by (outcome.Refused why) = a
 
   act-agree : (s : State) (x : Stage) (d : ℕ) → s .cursor .sector ≤ g .c → Agree (s .absent) g img jmg
-      → Agree (s .absent) g (actMove s g x d img .image) (actMove s g x d jmg .image)
+      → Agree (s .absent) g (actMove s g x d work img .image) (actMove s g x d work jmg .image)
   unfolding wipeMove
   act-agree s (stage.Flush slots) d h a = a
   act-agree s (stage.Give slots zeroed l) d h a = give-agree s d zeroed l a
@@ -478,27 +478,27 @@ module _ (g : Geometry) (img jmg : List ℕ) (same : length img ≡ length jmg) 
   act-agree s (stage.Restore slots t) d h a = restore-agree s d t h a
   act-agree s stage.End d h a = a
 
-walk-agree : (k : ℕ) (s : State) (g : Geometry) (img jmg : List ℕ) → length img ≡ length jmg → s .cursor .sector ≤ g .c → Agree (s .absent) g img jmg
-    → Agree (s .absent) g (walk k s g img .image) (walk k s g jmg .image)
+walk-agree : (k : ℕ) (s : State) (g : Geometry) (work img jmg : List ℕ) → length img ≡ length jmg → s .cursor .sector ≤ g .c → Agree (s .absent) g img jmg
+    → Agree (s .absent) g (walk k s g work img .image) (walk k s g work jmg .image)
 unfolding walk
-walk-agree zero s g img jmg e h a = a
-walk-agree (suc k) s g img jmg e h a =
-    by (isEnd (stageOf s)) (ltb (nextSlot s g) (g .n)) (walk-agree k (onStage s) g img jmg e (omega arith) a)
+walk-agree zero s g work img jmg e h a = a
+walk-agree (suc k) s g work img jmg e h a =
+    by (isEnd (stageOf s)) (ltb (nextSlot s g) (g .n)) (walk-agree k (onStage s) g work img jmg e (omega arith) a)
   where
     move : Bool → Bool → List ℕ → Move
-    move c b x = cond {A = Move} c (finished s x) (cond {A = Move} b (actMove s g (stageOf s) (nextSlot s g) x) (walk k (onStage s) g x))
+    move c b x = cond {A = Move} c (finished s x) (cond {A = Move} b (actMove s g (stageOf s) (nextSlot s g) work x) (walk k (onStage s) g work x))
 
-    by : (c b : Bool) → Agree (s .absent) g (walk k (onStage s) g img .image) (walk k (onStage s) g jmg .image)
+    by : (c b : Bool) → Agree (s .absent) g (walk k (onStage s) g work img .image) (walk k (onStage s) g work jmg .image)
         → Agree (s .absent) g (move c b img .image) (move c b jmg .image)
     by true b r = a
     by false true r = act-agree g img jmg e s (stageOf s) (nextSlot s g) h a
     by false false r = r
 
 -- images that agree on the present slots before a step agree on them after it: what is put is the same
-pub step-agrees : (s : State) (img jmg : List ℕ) → length img ≡ length jmg → Agree (s .absent) (geometryOf (s .now)) img jmg
-    → Agree (s .absent) (geometryOf (s .now)) (stepMove s img .image) (stepMove s jmg .image)
+pub step-agrees : (s : State) (work img jmg : List ℕ) → length img ≡ length jmg → Agree (s .absent) (geometryOf (s .now)) img jmg
+    → Agree (s .absent) (geometryOf (s .now)) (stepMove s work img .image) (stepMove s work jmg .image)
 unfolding stepMove
-step-agrees s img jmg e a =
+step-agrees s work img jmg e a =
     subst (λ (k : ℕ). Agree (s .absent) g (move (sound s) (fitsImage g (length img)) img .image) (move (sound s) (fitsImage g k) jmg .image)) e
     (by (sound s) (fitsImage g (length img)) refl)
   where
@@ -506,9 +506,9 @@ step-agrees s img jmg e a =
     g = geometryOf (s .now)
 
     move : Bool → Bool → List ℕ → Move
-    move b f x = cond {A = Move} b (cond {A = Move} f (keeps s (walk mostStages s g x)) (refuses s BadImage x)) (refuses s NotNow x)
+    move b f x = cond {A = Move} b (cond {A = Move} f (keeps s (walk mostStages s g work x)) (refuses s BadImage x)) (refuses s NotNow x)
 
     by : (b f : Bool) → sound s ≡ b → Agree (s .absent) g (move b f img .image) (move b f jmg .image)
-    by true true q = walk-agree mostStages s g img jmg e (omega (arith, sound-says s q .within)) a
+    by true true q = walk-agree mostStages s g work img jmg e (omega (arith, sound-says s q .within)) a
     by true false q = a
     by false f q = a
