@@ -1,3 +1,4 @@
+pub mod Family
 pub mod Places
 pub mod Disks
 pub mod Labels
@@ -21,5 +22,6 @@ pub mod StartBegins
 pub mod Accepts
 pub mod Named
 pub mod Chain
+pub mod Holds
 pub mod Promise
 pub mod Blind
