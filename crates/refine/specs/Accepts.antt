@@ -79,6 +79,12 @@ eqb-swap a b = go (eqb b a) refl
     go true e = eq-eqb a b (sym (eqb-true b a e))
     go false e = ne-eqb a b (λ q. eqb-false b a e (sym q))
 
+-- out and not being rebuilt: the two tests
+pub plain-is : (z : Shelf) (l : bytes.Label) (d : ℕ) → d < slots z → plainly-out (labelOf z l) d ≡ plainlyOut l d
+unfolding plainlyOut
+plain-is z l d there =
+    ap (λ (b : Bool). inMask (l .out) d && not b) (slot-test z (l .rebuilding) d there ∙ eqb-swap d (l .rebuilding)) ∙ and-swap (inMask (l .out) d) (not (eqb (l .rebuilding) d))
+
 -- ---- create
 
 -- every byte of an image of zeros is 0
@@ -245,7 +251,7 @@ module _ (z : Shelf) (img : List ℕ) where
     fits : fitsOf now ≡ true
     fits = take-done now (s .kind) (s .absent) img d room e .0
 
-    can : Goes now (isIdle (s .kind)) d
+    can : Goes now (isIdle (s .kind)) (s .absent) d
     can = take-done now (s .kind) (s .absent) img d room e .1
 
     there : d < slots z
@@ -270,10 +276,7 @@ module _ (z : Shelf) (img : List ℕ) where
         ∙ le-leb (ones (withSlot (now .out) d)) (z .m) (omega (arith, m, ap ones w, can .few))
 
     not-plain : plainly-out (labelOf z now) d ≡ false
-    unfolding plainlyOut
-    not-plain =
-        ap (λ (b : Bool). inMask (now .out) d && not b) (slot-test z (now .rebuilding) d there ∙ eqb-swap d (now .rebuilding))
-        ∙ and-swap (inMask (now .out) d) (not (eqb (now .rebuilding) d)) ∙ can .not-plain
+    not-plain = plain-is z now d there ∙ can .not-plain
 
     left : leb (suc (now .generation)) (any-sectors z .greatest) ≡ true
     unfolding any-sectors medium

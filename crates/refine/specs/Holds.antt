@@ -1,14 +1,14 @@
 -- WHAT EVERY CHAIN OF CALLS KEEPS for a family of sets of slots in which those lie that it leaves out, in the words of the bytes. (Promise says it for every shelf, and for k > m. The protocol's theorems
 -- that this follows from: `honest`, `sound`, `untouched` of its Kept, `shaped`.) And there are such chains. Assumes nothing.
-use mathlib.Core.Path.{_≡_, refl, sym, ap, subst, _∙_}
+use mathlib.Core.Path.{_≡_, refl, sym, ap, ap₂, subst, _∙_}
 use mathlib.Core.Logic.{_⊎_, ⊎-elim, inl, inr}
-use mathlib.Core.Bool.{Bool, true, false, cond, not, _||_, true≢false}
+use mathlib.Core.Bool.{Bool, true, false, cond, not, _&&_, _||_, true≢false}
 use mathlib.Core.List.{List, [], _++_, List·Memᴰ, List·Memᴰ·not-nil}
 use Prim.Native.Nat.{ℕ, zero, suc, _+_, _*_, _≤_, _<_}
 use native.Mathlib.Omega.{arith}
 use lib.ListN.{length, length-replicate, replicate}
 use lib.Dec.{ltb, leb}
-use borrow.Author.Tests.{le-leb, eq-eqb}
+use borrow.Author.Tests.{le-leb, eq-eqb, lt-ltb}
 use Rattle.disk.specs.Limits.{leastK, mostK, leastM, mostM, sectorBytes}
 use Rattle.disk.specs.Tests.{both}
 use Rattle.disk.specs.declared.refusal.Refusal.the-variants.{BadImage, NotNow, BadBuffer}
@@ -30,7 +30,7 @@ use Rattle.label.proofs.Counts.{copy-says}
 use Rattle.redo.specs.Decide.{believed}
 use Rattle.redo.specs.Laws.{looked-below, believed-looked, believed-below}
 use Rattle.protocol.specs.World.{label, strip, Image, Action, put, flush, World, after, Possible, Sane, Always}
-use Rattle.protocol.specs.Label.{Label, copy, Aged}
+use Rattle.protocol.specs.Label.{Label, copy, Aged, plainly-out}
 use Rattle.protocol.specs.Label as Label
 use Rattle.protocol.specs.Host.{table}
 use Rattle.protocol.specs.Shape.{Shape}
@@ -58,6 +58,7 @@ use Rattle.shelf.specs.declared.state.Answer.the-variants as answer
 use Rattle.requests.specs.Begun.{workBytes, begun}
 use Rattle.requests.specs.Create.{shardsFit, shelfFits, createAnswer, created, createOf}
 use Rattle.requests.specs.Step.{stepWith}
+use Rattle.requests.specs.TakeOut.{plainlyOut, outNow}
 use Rattle.refine.specs.Family.{Family, codeIn, sectorsIn, KeepsIn, program-in, sound-in, parts-few}
 use Rattle.refine.specs.Places.{label-inside, strip-is-inside}
 use Rattle.refine.specs.Places as places
@@ -66,6 +67,8 @@ use Rattle.refine.specs.Redo.{believe-is}
 use Rattle.refine.specs.ToDo.{toDo}
 use Rattle.refine.specs.Tied.{ownOf, memoryOf, memoryBy, Same, programOf, Tied}
 use Rattle.refine.specs.Steps.{Fair}
+use Rattle.refine.specs.Rounds.{beyond-below}
+use Rattle.refine.specs.Accepts.{plain-is}
 use Rattle.refine.specs.Ends.{nth, EndsAfter, request-ends}
 use Rattle.refine.specs.Named.{Named, side, copy-ours}
 use Rattle.refine.specs.Chain.{Hand, none, has, Moment, at, handed, Heard, creates, Chain, stays, goes-on, sets, chained-on, sets-on, Allowed, blocks, memoryIn, Tie, rests, off, step-is, followed, followed-on, fresh, chained-in}
@@ -241,6 +244,24 @@ module _ (z : Shelf) (F : Family z) where
       rests-true e left here possible d t j b l =
           let k = subst (λ (x : Memory Sector). KeepsIn z F (machine.at w x) (sure blocks)) (rests z s img e) (held .reached .keeps) in
           blank-of left here (s .now) d t j b l (sound-in z F blocks w (ownOf z s (s .now)) k (curOf z left) possible d t j (believe-is z (s .now) d t ∙ b) l)
+
+      -- AT REST every absent slot is plainly out, so what take out asks of a slot is what the protocol's program asks
+      pub absent-out : s .kind ≡ Idle → (d : ℕ) → d < slots z → inMask (s .absent) d ≡ true → plainlyOut (s .now) d ≡ true
+      absent-out e d i a = sym (plain-is z (s .now) d i) ∙ by (plainly-out (labelOf z (s .now)) d) refl
+        where
+          by : (b : Bool) → plainly-out (labelOf z (s .now)) d ≡ b → plainly-out (labelOf z (s .now)) d ≡ true
+          by true q = q
+          by false q =
+              let k = subst (λ (x : Memory Sector). KeepsIn z F (machine.at w x) (sure blocks)) (rests z s img e) (held .reached .keeps) in
+              absurd (k .1 .dark d (beyond-below (slots z) (s .absent) d i ∙ a) (ap₂ (λ (x y : Bool). x && not y) (lt-ltb d (slots z) i) q))
+
+      pub same-out : s .kind ≡ Idle → (d : ℕ) → d < slots z → outNow (s .now) (s .absent) d ≡ plainly-out (labelOf z (s .now)) d
+      unfolding outNow
+      same-out e d i = by (inMask (s .absent) d) refl ∙ sym (plain-is z (s .now) d i)
+        where
+          by : (b : Bool) → inMask (s .absent) d ≡ b → (b || plainlyOut (s .now) d) ≡ plainlyOut (s .now) d
+          by true q = sym (absent-out e d i q)
+          by false q = refl
 
       -- NO STEP TOUCHES AN ABSENT SLOT
       pub absent-untouched : (room e : ℕ) → Touches (stepWith s img room .stepped .answer) e → inMask (s .absent) e ≡ false

@@ -11,15 +11,17 @@ use Rattle.label.specs.Bytes.{allZero}
 use Rattle.label.specs.declared.fields.Label as bytes
 use Rattle.label.specs.declared.codec.Decoded.the-variants.{Valid}
 use Rattle.protocol.specs.World.{World, Possible}
+use Rattle.protocol.specs.Label.{plainly-out}
 use Rattle.protocol.specs.Pairs.{AnyTwo}
 use Rattle.codecs.specs.Sector.{Sector}
 use Rattle.codecs.specs.Shelf.{Shelf, slots, geometry}
-use Rattle.codecs.specs.Labels.{ours}
+use Rattle.codecs.specs.Labels.{ours, labelOf}
 use Rattle.shelf.specs.declared.state.State.{State}
 use Rattle.shelf.specs.declared.state.Kind.the-variants.{Idle}
 use Rattle.shelf.specs.State.{rested}
 use Rattle.requests.specs.Begun.{workBytes}
 use Rattle.requests.specs.Step.{stepWith}
+use Rattle.requests.specs.TakeOut.{plainlyOut, outNow}
 use Rattle.refine.specs.Family.{every-few, parts-few, in-parts}
 use Rattle.refine.specs.Disks.{Disks, curOf}
 use Rattle.refine.specs.Ends.{EndsAfter}
@@ -50,6 +52,13 @@ module _ (z : Shelf) (first : List ℕ) (disks : Disks z first) (blank : allZero
     -- AT REST the state's own label is true, whatever a cut leaves
     pub any-rests-true : s .kind ≡ Idle → (left : List ℕ) → Disks z left → Possible w (curOf z left) → Truthful z left (s .now)
     any-rests-true = holds.rests-true z (parts-few z (sets chain) two) first disks blank chain (in-parts z (sets chain) two)
+
+    -- AT REST every absent slot is plainly out, so what take out asks of a slot is what the protocol's program asks
+    pub any-absent-out : s .kind ≡ Idle → (d : ℕ) → d < slots z → inMask (s .absent) d ≡ true → plainlyOut (s .now) d ≡ true
+    any-absent-out = holds.absent-out z (parts-few z (sets chain) two) first disks blank chain (in-parts z (sets chain) two)
+
+    pub any-same-out : s .kind ≡ Idle → (d : ℕ) → d < slots z → outNow (s .now) (s .absent) d ≡ plainly-out (labelOf z (s .now)) d
+    any-same-out = holds.same-out z (parts-few z (sets chain) two) first disks blank chain (in-parts z (sets chain) two)
 
     -- NO STEP TOUCHES AN ABSENT SLOT
     pub any-absent-untouched : (room e : ℕ) → Touches (stepWith s img room .stepped .answer) e → inMask (s .absent) e ≡ false
@@ -90,6 +99,13 @@ module _ (z : Shelf) (more : z .m < z .k) (first : List ℕ) (disks : Disks z fi
     -- AT REST the state's own label is true, whatever a cut leaves
     pub rests-true : s .kind ≡ Idle → (left : List ℕ) → Disks z left → Possible w (curOf z left) → Truthful z left (s .now)
     rests-true = holds.rests-true z (every-few z more) first disks blank chain (λ s m e. e)
+
+    -- AT REST every absent slot is plainly out, so what take out asks of a slot is what the protocol's program asks
+    pub absent-out : s .kind ≡ Idle → (d : ℕ) → d < slots z → inMask (s .absent) d ≡ true → plainlyOut (s .now) d ≡ true
+    absent-out = holds.absent-out z (every-few z more) first disks blank chain (λ s m e. e)
+
+    pub same-out : s .kind ≡ Idle → (d : ℕ) → d < slots z → outNow (s .now) (s .absent) d ≡ plainly-out (labelOf z (s .now)) d
+    same-out = holds.same-out z (every-few z more) first disks blank chain (λ s m e. e)
 
     -- NO STEP TOUCHES AN ABSENT SLOT
     pub absent-untouched : (room e : ℕ) → Touches (stepWith s img room .stepped .answer) e → inMask (s .absent) e ≡ false
