@@ -1,7 +1,9 @@
 -- THE PROMISE OF THE CODE, over chains of calls of the public functions create, start, take_out and step, on disks with caches, with
 -- power cuts and deaths of the caller in between. What the functions return and leave is said in the words of their contracts
--- (`createOf`, `startOf`, `takeOutOf`, `stepWith`). Nothing is asked of the caller but that it calls them for this shelf, that it
--- hands back to take_out and to step the state that it was handed last, and that it does with the disks what a step's answer says.
+-- (`createOf`, `startOf`, `takeOutOf`, `stepWith`). Nothing is asked of the caller but that it creates this shelf, that it hands back
+-- to take_out and to step the state that it was handed last, that it does with the disks what a step's answer says, and that it does
+-- not start with another S and slot 0 called absent (Other says why). Of the world is asked, where k <= m, that any two of the sets of
+-- slots that accepted start-ups and take-outs leave out leave a slot out in common.
 -- Each call is an event of the protocol's machine or changes nothing, and the disks are that machine's; so what the protocol
 -- promises holds of them. Assumes nothing.
 --
@@ -16,13 +18,15 @@ use lib.Dec.{eqb, leb, ltb}
 use lib.ListN.{length}
 use Rattle.disk.specs.Mask.{inMask}
 use Rattle.disk.specs.Image.{fitsImage}
+use Rattle.disk.specs.declared.geometry.Geometry.{Geometry}
 use Rattle.disk.specs.declared.refusal.Refusal.{Refusal}
 use Rattle.disk.specs.declared.refusal.Refusal.the-variants.{BadImage, BadBuffer, NotNow}
 use Rattle.disk.specs.declared.refusal.Outcome.{Outcome}
 use Rattle.disk.specs.declared.refusal.Outcome.the-variants.{Done, Refused}
 use Rattle.label.specs.Fields.{geometryOf, fitsOf}
 use Rattle.label.specs.Bytes.{allZero}
-use Rattle.label.specs.Newest.{sameShelf}
+use Rattle.label.specs.Newest.{sameShelf, copyOf}
+use Rattle.label.specs.declared.codec.Decoded.the-variants.{Valid}
 use Rattle.label.specs.declared.fields.Label as bytes
 use Rattle.rounds.specs.Survey.{nextOf, planOf, surveyOf}
 use Rattle.rounds.specs.declared.plan.Plan.{Plan}
@@ -77,7 +81,8 @@ use Rattle.refine.specs.Requests.{goes, first-ours, create-begins, out-o
 use Rattle.refine.specs.Ends.{nth}
 use Rattle.refine.specs.StartBegins.{start-begins}
 use Rattle.refine.specs.Accepts.{all-zeros, create-accepted, start-leaves, start-few, start-accepted, start-real, out-leaves, out-few, out-accepted}
-use Rattle.refine.specs.Named.{Named, zeros-named, Names, leftIn, create-names, start-names, out-names, step-names, lead-ours}
+use Rattle.refine.specs.Other.{Sits, same-numbers, start-other, create-late}
+use Rattle.refine.specs.Named.{Named, zeros-named, Names, leftIn, create-names, start-names, out-names, step-names, copy-ours, lead-ours}
 
 -- ---- THE CALLS
 
@@ -107,9 +112,11 @@ Heard z w answer.Done img w' = w' ≡ w
 Heard z w (answer.Refused why) img w' = w' ≡ w
 
 pub data Calls (z : Shelf) : Moment → Moment → Type 1 where
-  -- create and start begin anew, in any state, whatever state they are handed (its bytes may be anything)
+  -- create and start begin anew, in any state, whatever state they are handed (its bytes may be anything). On an image of zeros create is called for this shelf, later with any numbers; start with any
+  -- numbers, but if it is told another S it is not told that slot 0 is absent
   creates : {w : World Sector} {img : List ℕ} {h : Hand} (s : State) (room : ℕ) → Calls z (at w img h) (at w img (handed h (createOf s (z .k) (z .m) (z .c) (z .sectors) (z .number) img room)))
-  starts : {w : World Sector} {img : List ℕ} {h : Hand} (s : State) (absent room : ℕ) → Calls z (at w img h) (at w img (handed h (startOf s (geometry z) absent img room)))
+  starts : {w : World Sector} {img : List ℕ} {h : Hand} (s : State) (g : Geometry) (absent room : ℕ) → Sits z g absent → Calls z (at w img h) (at w img (handed h (startOf s g absent img room)))
+  creates-late : {w : World Sector} {img : List ℕ} {h : Hand} (s : State) (k m c S number room : ℕ) → allZero img ≡ false → Calls z (at w img h) (at w img (handed h (createOf s k m c S number img room)))
   -- the state that was handed out last is handed back
   takes-out : {w : World Sector} {img : List ℕ} {s : State} (d room : ℕ) → Calls z (at w img (has s)) (at w img (handed (has s) (takeOutOf s d img room)))
   steps : {w w' : World Sector} {img : List ℕ} {s : State} (room : ℕ) → Heard z w (stepWith s img room .stepped .answer) (stepWith s img room .image) w'
@@ -134,7 +141,8 @@ outs b = outs-by (b .outcome) (b .state)
 
 abbrev pub sets-call : {z : Shelf} {a b : Moment} → Calls z a b → List (ℕ → Bool)
 sets-call (creates s room) = []
-sets-call {z} (starts {img = img} s absent room) = outs (startOf s (geometry z) absent img room)
+sets-call (creates-late s k m c S number room e) = []
+sets-call (starts {img = img} s g absent room sits) = outs (startOf s g absent img room)
 sets-call (takes-out {img = img} {s = s} d room) = outs (takeOutOf s d img room)
 sets-call (steps room heard) = []
 sets-call (cut left d p) = []
@@ -319,6 +327,20 @@ module _ (z : Shelf) (F : Family z) (first : Machine Sector) where
           fits true q = begins p e q
           fits false q = t
 
+  -- with any numbers
+  late-kept : (w : World Sector) (img : List ℕ) (h : Hand) (s : State) (k m c S number room : ℕ) → allZero img ≡ false → Tie w img h → Tie w img (handed h (createOf s k m c S number img room))
+  late-kept w img h s k m c S number room e t = subst (λ (o : Outcome). Tie w img (handed h (begun o s (created k m c S number)))) (sym (create-late k m c S img room e)) t
+
+  start-any : (w : World Sector) (img : List ℕ) (h : Hand) (s : State) (g : Geometry) (absent room : ℕ) → Sits z g absent → Allowed z F (outs (startOf s g absent img room))
+      → Tie w img h → Tie w img (handed h (startOf s g absent img room))
+  start-any w img h s g absent room sits ok t =
+      ⊎-elim
+      (λ (e : g ≡ geometry z). subst (λ (x : Geometry). Allowed z F (outs (startOf s x absent img room)) → Tie w img (handed h (startOf s x absent img room))) (sym e) (λ y. start-kept w img h s absent room y t) ok)
+      (λ (other : g ≡ geometry z → ⊥). subst (λ (x : Survey). Tie w img (handed h (bySurvey x s g absent img room))) (sym (start-other z img (t .disks) own g absent other sits)) t) (same-numbers z g)
+    where
+      own : (d s : ℕ) (a : bytes.Label) → d < slots z → s < 2 → copyOf (geometry z) img d s ≡ Valid a → ours z a ≡ true
+      own = copy-ours z img (t .disks) (subst (Named z) (t .reads) (always-cur (Named z) w (off (t .reached) .keeps .sane) (t .named)))
+
   -- taking a slot out
   idle-is : (k : Kind) → isIdle k ≡ true → k ≡ Idle
   idle-is Nothing e = absurd (false≢true e)
@@ -457,7 +479,8 @@ module _ (z : Shelf) (F : Family z) (first : Machine Sector) where
 
   pub call-kept : {a b : Moment} (x : Calls z a b) → Allowed z F (sets-call x) → On a → On b
   call-kept (creates {w} {img} {h} s room) ok t = create-kept w img h s room t
-  call-kept (starts {w} {img} {h} s absent room) ok t = start-kept w img h s absent room ok t
+  call-kept (creates-late {w} {img} {h} s k m c S number room e) ok t = late-kept w img h s k m c S number room e t
+  call-kept (starts {w} {img} {h} s g absent room sits) ok t = start-any w img h s g absent room sits ok t
   call-kept (takes-out {w} {img} {s} d room) ok t = out-kept w img s d room ok t
   call-kept (steps {w} {w'} {img} {s} room heard) ok t = step-kept w img s room w' t heard
   call-kept (cut {w} {img} {h} left d p) ok t = cut-kept w img h left d p t

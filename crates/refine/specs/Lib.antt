@@ -20,6 +20,7 @@ pub mod Requests
 pub mod Ends
 pub mod StartBegins
 pub mod Accepts
+pub mod Other
 pub mod Named
 pub mod Chain
 pub mod Holds

@@ -285,7 +285,7 @@ module _ (z : Shelf) (img : List ℕ) (absent : ℕ) (A : ℕ → Bool) (l : byt
 
 -- ---- FROM A PLAN: the shelf that its label names, and all that is said above of it
 
-geometry-path : (g : Geometry) (l : bytes.Label) → fitsShelf g l ≡ true → geometryOf l ≡ g
+pub geometry-path : (g : Geometry) (l : bytes.Label) → fitsShelf g l ≡ true → geometryOf l ≡ g
 unfolding fitsShelf
 geometry-path g l e =
     let e1 = and-right (eqb (l .k + l .m) (g .n)) _ e in
