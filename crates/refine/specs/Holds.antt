@@ -12,6 +12,7 @@ use borrow.Author.Tests.{le-leb, eq-eqb, lt-ltb}
 use Rattle.disk.specs.Limits.{leastK, mostK, leastM, mostM, sectorBytes}
 use Rattle.disk.specs.Tests.{both}
 use Rattle.disk.specs.declared.refusal.Refusal.the-variants.{BadImage, NotNow, BadBuffer}
+use Rattle.disk.specs.declared.geometry.Geometry.{Geometry}
 use Rattle.disk.specs.declared.refusal.Outcome.{Outcome}
 use Rattle.disk.specs.declared.refusal.Outcome.the-variants.{Done, Refused}
 use Rattle.disk.specs.Geometry.{stripOf}
@@ -27,15 +28,17 @@ use Rattle.label.specs.declared.codec.Decoded.{Decoded}
 use Rattle.label.specs.declared.codec.Decoded.the-variants.{Valid, Nothing}
 use Rattle.label.proofs.Fits.{fits-says}
 use Rattle.label.proofs.Counts.{copy-says}
+use Rattle.rounds.specs.declared.plan.Survey.{Survey}
 use Rattle.redo.specs.Decide.{believed}
 use Rattle.redo.specs.Laws.{looked-below, believed-looked, believed-below}
-use Rattle.protocol.specs.World.{label, strip, Image, Action, put, flush, World, after, Possible, Sane, Always}
+use Rattle.protocol.specs.World.{label, strip, Image, Action, put, flush, World, after, Possible, Sane, Always, always-cur}
 use Rattle.protocol.specs.Label.{Label, copy, Aged, plainly-out}
 use Rattle.protocol.specs.Label as Label
 use Rattle.protocol.specs.Host.{table}
 use Rattle.protocol.specs.Shape.{Shape}
 use Rattle.protocol.specs.Shaped.{shaped-off}
-use Rattle.protocol.specs.Program.{Memory, Reply, accepted, refused, did, safe, done, block, found, step}
+use Rattle.protocol.specs.Decide.{Rest}
+use Rattle.protocol.specs.Program.{Memory, idle, Reply, accepted, refused, did, safe, done, block, found, step}
 use Rattle.protocol.specs.Machine.{sure}
 use Rattle.protocol.specs.Machine as machine
 use Rattle.protocol.specs.Kept.{Honest, slot-of, away, honest, untouched}
@@ -57,6 +60,7 @@ use Rattle.shelf.specs.declared.state.Answer.{Answer}
 use Rattle.shelf.specs.declared.state.Answer.the-variants as answer
 use Rattle.requests.specs.Begun.{workBytes, begun}
 use Rattle.requests.specs.Create.{shardsFit, shelfFits, createAnswer, created, createOf}
+use Rattle.requests.specs.Start.{bySurvey, startOf}
 use Rattle.requests.specs.Step.{stepWith}
 use Rattle.requests.specs.TakeOut.{plainlyOut, outNow}
 use Rattle.refine.specs.Family.{Family, codeIn, sectorsIn, KeepsIn, program-in, sound-in, parts-few}
@@ -68,8 +72,9 @@ use Rattle.refine.specs.ToDo.{toDo}
 use Rattle.refine.specs.Tied.{ownOf, memoryOf, memoryBy, Same, programOf, Tied}
 use Rattle.refine.specs.Steps.{Fair}
 use Rattle.refine.specs.Rounds.{beyond-below}
-use Rattle.refine.specs.Accepts.{plain-is}
+use Rattle.refine.specs.Accepts.{plain-is, all-zeros}
 use Rattle.refine.specs.Ends.{nth, EndsAfter, request-ends}
+use Rattle.refine.specs.Other.{Sits, otherCode, start-other, create-late}
 use Rattle.refine.specs.Named.{Named, side, copy-ours}
 use Rattle.refine.specs.Chain.{Hand, none, has, Moment, at, handed, Heard, creates, Chain, stays, goes-on, sets, chained-on, sets-on, Allowed, blocks, memoryIn, Tie, rests, off, step-is, followed, followed-on, fresh, chained-in}
 
@@ -213,6 +218,13 @@ module _ (z : Shelf) (F : Family z) where
       unfolding Sane
       read-possible = subst (Possible w) (tie .reads) (off z F (fresh z first disks blank) (tie .reached) .keeps .sane)
 
+      -- START WITH ANOTHER n, c OR S is refused, with this code, and changes nothing
+      pub start-elsewhere : (s : State) (g : Geometry) (absent room : ℕ) → (g ≡ geometry z → ⊥) → Sits z g absent
+          → startOf s g absent img room ≡ record { state = s; outcome = Refused (otherCode g (length img) absent) }
+      unfolding Always
+      start-elsewhere s g absent room other sits =
+          ap (λ (x : Survey). bySurvey x s g absent img room) (start-other z img (tie .disks) (copy-ours z img (tie .disks) (tie .named (curOf z img) read-possible)) g absent other sits)
+
       module _ (left : List ℕ) (here : Disks z left) (possible : Possible w (curOf z left)) where
         own : Named z (curOf z left)
         unfolding Always
@@ -262,6 +274,31 @@ module _ (z : Shelf) (F : Family z) where
           by : (b : Bool) → inMask (s .absent) d ≡ b → (b || plainlyOut (s .now) d) ≡ plainlyOut (s .now) d
           by true q = sym (absent-out e d i q)
           by false q = refl
+
+      -- AT REST the image is not zeros, so create is refused, whatever its numbers, and changes nothing
+      pub rests-labelled : s .kind ≡ Idle → allZero img ≡ false
+      unfolding Aged copy
+      rests-labelled e = by (allZero img) refl
+        where
+          k : KeepsIn z F (machine.at w (idle (ownOf z s (s .now)))) (sure blocks)
+          k = subst (λ (x : Memory Sector). KeepsIn z F (machine.at w x) (sure blocks)) (rests z s img e) (held .reached .keeps)
+
+          by : (b : Bool) → allZero img ≡ b → b ≡ false
+          by true q =
+              let P = Rest (size z) (F .sets) (labels z) (records z) (k .1 .history) (k .1 .u) (labelOf z (s .now)) (table (size z) (F .sets) (records z) (codeIn z F) blocks) in
+              let r = subst P (held .reads ∙ all-zeros z img q) (always-cur P w (k .0) (k .1 .rest)) in
+              let d = F .sets .meet (labelOf z (s .now) .out) (labelOf z (s .now) .out) (r .labels .few-Q) (r .labels .few-Q) in
+              let a = r .labels .low (d .0) (d .1) (d .2) in
+              let none : copy (labels z) (λ k. zeros) (d .0) (a .0) .generation ≡ 0 = labels z .decode-zeros (d .0) (a .0) in
+              let some : s .now .generation ≤ copy (labels z) (λ k. zeros) (d .0) (a .0) .generation = a .1 in
+              let born : 0 < s .epoch = k .1 .born in
+              let since : s .epoch ≤ s .now .generation = k .1 .epoch-now in
+              absurd (omega (arith, none, some, born, since))
+          by false q = refl
+
+      pub create-again : s .kind ≡ Idle → (t : State) (k m c S number room : ℕ)
+          → createOf t k m c S number img room ≡ record { state = t; outcome = Refused (cond (shelfFits k m c S (length img)) NotNow BadImage) }
+      create-again e t k m c S number room = ap (λ (o : Outcome). begun o t (created k m c S number)) (create-late k m c S img room (rests-labelled e))
 
       -- NO STEP TOUCHES AN ABSENT SLOT
       pub absent-untouched : (room e : ℕ) → Touches (stepWith s img room .stepped .answer) e → inMask (s .absent) e ≡ false

@@ -2,10 +2,14 @@
 -- whatever a cut leaves; no step touches an absent slot; what was accepted is carried out. For every shelf, where any two of the sets of slots that the labels call out which accepted start-ups and
 -- take-outs settle leave a slot out in common; for k > m nothing is asked. (Where they leave none, no start-up can tell what was written: the protocol's Limits.) Assumes nothing.
 use mathlib.Core.Path.{_≡_}
-use mathlib.Core.Bool.{true, false}
+use mathlib.Core.Bool.{true, false, cond}
 use mathlib.Core.List.{List}
 use Prim.Native.Nat.{ℕ, _<_}
+use lib.ListN.{length}
 use Rattle.disk.specs.Mask.{inMask}
+use Rattle.disk.specs.declared.geometry.Geometry.{Geometry}
+use Rattle.disk.specs.declared.refusal.Refusal.the-variants.{BadImage, NotNow}
+use Rattle.disk.specs.declared.refusal.Outcome.the-variants.{Refused}
 use Rattle.label.specs.Newest.{copyOf}
 use Rattle.label.specs.Bytes.{allZero}
 use Rattle.label.specs.declared.fields.Label as bytes
@@ -20,11 +24,14 @@ use Rattle.shelf.specs.declared.state.State.{State}
 use Rattle.shelf.specs.declared.state.Kind.the-variants.{Idle}
 use Rattle.shelf.specs.State.{rested}
 use Rattle.requests.specs.Begun.{workBytes}
+use Rattle.requests.specs.Create.{shelfFits, createOf}
+use Rattle.requests.specs.Start.{startOf}
 use Rattle.requests.specs.Step.{stepWith}
 use Rattle.requests.specs.TakeOut.{plainlyOut, outNow}
 use Rattle.refine.specs.Family.{every-few, parts-few, in-parts}
 use Rattle.refine.specs.Disks.{Disks, curOf}
 use Rattle.refine.specs.Ends.{EndsAfter}
+use Rattle.refine.specs.Other.{Sits, otherCode}
 use Rattle.refine.specs.Chain.{Hand, has, at, Heard, sets}
 use Rattle.refine.specs.Holds.{Truthful, NoLies, Follows, Touches, ComesTo}
 use Rattle.refine.specs.Holds as holds
@@ -35,6 +42,11 @@ module _ (z : Shelf) (first : List ℕ) (disks : Disks z first) (blank : allZero
     -- what is read is one of the things that a cut may leave
     pub any-read-possible : Possible w (curOf z img)
     any-read-possible = holds.read-possible z (parts-few z (sets chain) two) first disks blank chain (in-parts z (sets chain) two)
+
+    -- START WITH ANOTHER n, c OR S is refused, with this code, and changes nothing
+    pub any-start-elsewhere : (s : State) (g : Geometry) (absent room : ℕ) → (g ≡ geometry z → ⊥) → Sits z g absent
+        → startOf s g absent img room ≡ record { state = s; outcome = Refused (otherCode g (length img) absent) }
+    any-start-elsewhere = holds.start-elsewhere z (parts-few z (sets chain) two) first disks blank chain (in-parts z (sets chain) two)
 
     -- NO LABEL ON ANY DISK LIES, whatever a cut leaves
     pub any-honest-labels : (left : List ℕ) → Disks z left → Possible w (curOf z left) → NoLies z left
@@ -60,6 +72,14 @@ module _ (z : Shelf) (first : List ℕ) (disks : Disks z first) (blank : allZero
     pub any-same-out : s .kind ≡ Idle → (d : ℕ) → d < slots z → outNow (s .now) (s .absent) d ≡ plainly-out (labelOf z (s .now)) d
     any-same-out = holds.same-out z (parts-few z (sets chain) two) first disks blank chain (in-parts z (sets chain) two)
 
+    -- AT REST the image is not zeros, so create is refused, whatever its numbers, and changes nothing
+    pub any-rests-labelled : s .kind ≡ Idle → allZero img ≡ false
+    any-rests-labelled = holds.rests-labelled z (parts-few z (sets chain) two) first disks blank chain (in-parts z (sets chain) two)
+
+    pub any-create-again : s .kind ≡ Idle → (t : State) (k m c S number room : ℕ)
+        → createOf t k m c S number img room ≡ record { state = t; outcome = Refused (cond (shelfFits k m c S (length img)) NotNow BadImage) }
+    any-create-again = holds.create-again z (parts-few z (sets chain) two) first disks blank chain (in-parts z (sets chain) two)
+
     -- NO STEP TOUCHES AN ABSENT SLOT
     pub any-absent-untouched : (room e : ℕ) → Touches (stepWith s img room .stepped .answer) e → inMask (s .absent) e ≡ false
     any-absent-untouched = holds.absent-untouched z (parts-few z (sets chain) two) first disks blank chain (in-parts z (sets chain) two)
@@ -82,6 +102,11 @@ module _ (z : Shelf) (more : z .m < z .k) (first : List ℕ) (disks : Disks z fi
     -- what is read is one of the things that a cut may leave
     pub read-possible : Possible w (curOf z img)
     read-possible = holds.read-possible z (every-few z more) first disks blank chain (λ s m e. e)
+
+    -- START WITH ANOTHER n, c OR S is refused, with this code, and changes nothing
+    pub start-elsewhere : (s : State) (g : Geometry) (absent room : ℕ) → (g ≡ geometry z → ⊥) → Sits z g absent
+        → startOf s g absent img room ≡ record { state = s; outcome = Refused (otherCode g (length img) absent) }
+    start-elsewhere = holds.start-elsewhere z (every-few z more) first disks blank chain (λ s m e. e)
 
     -- NO LABEL ON ANY DISK LIES, whatever a cut leaves
     pub honest-labels : (left : List ℕ) → Disks z left → Possible w (curOf z left) → NoLies z left
@@ -106,6 +131,14 @@ module _ (z : Shelf) (more : z .m < z .k) (first : List ℕ) (disks : Disks z fi
 
     pub same-out : s .kind ≡ Idle → (d : ℕ) → d < slots z → outNow (s .now) (s .absent) d ≡ plainly-out (labelOf z (s .now)) d
     same-out = holds.same-out z (every-few z more) first disks blank chain (λ s m e. e)
+
+    -- AT REST the image is not zeros, so create is refused, whatever its numbers, and changes nothing
+    pub rests-labelled : s .kind ≡ Idle → allZero img ≡ false
+    rests-labelled = holds.rests-labelled z (every-few z more) first disks blank chain (λ s m e. e)
+
+    pub create-again : s .kind ≡ Idle → (t : State) (k m c S number room : ℕ)
+        → createOf t k m c S number img room ≡ record { state = t; outcome = Refused (cond (shelfFits k m c S (length img)) NotNow BadImage) }
+    create-again = holds.create-again z (every-few z more) first disks blank chain (λ s m e. e)
 
     -- NO STEP TOUCHES AN ABSENT SLOT
     pub absent-untouched : (room e : ℕ) → Touches (stepWith s img room .stepped .answer) e → inMask (s .absent) e ≡ false
