@@ -12,7 +12,7 @@
 use mathlib.Core.Path.{_≡_, refl, sym, ap, ap₂, subst, _∙_}
 use mathlib.Core.Logic.{_⊎_, ⊎-elim, inl, inr}
 use mathlib.Core.Bool.{Bool, true, false, cond, _&&_, true≢false, false≢true}
-use mathlib.Core.List.{List, [], _∷_, _++_, append-assoc, List·Memᴰ, List·Memᴰ·head, List·Memᴰ·not-nil, List·Memᴰ·cases-cons, Memᴰ·append-left, Memᴰ·append-right}
+use mathlib.Core.List.{List, [], _∷_, _++_, append-assoc, List·Memᴰ, List·Memᴰ·head, List·Memᴰ·not-nil, List·Memᴰ·cases-cons, List·Memᴰ·append-cases, Memᴰ·append-left, Memᴰ·append-right}
 use Prim.Native.Nat.{ℕ, zero, suc, _<_}
 use lib.Dec.{eqb, leb, ltb}
 use lib.ListN.{length}
@@ -50,7 +50,7 @@ use Rattle.codecs.specs.Shelf.{Shelf, slots, geometry, size}
 use Rattle.codecs.specs.Labels.{ours, labels}
 use Rattle.codecs.specs.Records.{records}
 use Rattle.codecs.specs.Media.{stamps}
-use Rattle.shards.specs.Quorum.{fewOf}
+use Rattle.shards.specs.Quorum.{fewOf, quorum}
 use Rattle.shards.specs.Even.{any-code, any-sectors, ShelfRuns}
 use Rattle.shelf.specs.Act.{Move, refuses}
 use Rattle.shelf.specs.Step.{underWay, sound, walk, stepMove, finished}
@@ -282,6 +282,18 @@ module _ (z : Shelf) (F : Family z) (first : Machine Sector) where
   unfolding planOf nextOf sameShelf
   settled-ours img absent l e = e
 
+  -- the survey goes by a label of this shelf
+  led-by : (w : World Sector) (img : List ℕ) (h : Hand) (absent : ℕ) → Tie w img h → (p : Plan) → surveyOf (geometry z) img absent ≡ survey.Plan p → Led z img absent (beyond (slots z) (inMask absent)) (p .lead)
+  led-by w img h absent t p e =
+      let r = survey-grounds (geometry z) img absent p e in
+      record {
+        disks = t .disks;
+        are = beyond-below (slots z) absent;
+        own = lead-ours z img (t .disks) (subst (Named z) (t .reads) (always-cur (Named z) w (off (t .reached) .keeps .sane) (t .named))) absent (p .lead) (r .leads);
+        leads = r .leads;
+        agree = r .agree;
+      }
+
   start-kept : (w : World Sector) (img : List ℕ) (h : Hand) (s : State) (absent room : ℕ) → Allowed z F (outs (startOf s (geometry z) absent img room)) → Tie w img h → Tie w img (handed h (startOf s (geometry z) absent img room))
   start-kept w img h s absent room ok t = by (surveyOf (geometry z) img absent) refl
     where
@@ -291,20 +303,9 @@ module _ (z : Shelf) (F : Family z) (first : Machine Sector) where
       off-w : Reached w nothing
       off-w = off (t .reached)
 
-      led-by : (p : Plan) → surveyOf (geometry z) img absent ≡ survey.Plan p → Led z img absent A (p .lead)
-      led-by p e =
-          let r = survey-grounds (geometry z) img absent p e in
-          record {
-            disks = t .disks;
-            are = beyond-below (slots z) absent;
-            own = lead-ours z img (t .disks) (subst (Named z) (t .reads) (always-cur (Named z) w (off-w .keeps .sane) (t .named))) absent (p .lead) (r .leads);
-            leads = r .leads;
-            agree = r .agree;
-          }
-
       begins : (p : Plan) → surveyOf (geometry z) img absent ≡ survey.Plan p → eqb room (workBytes (slots z) (z .c)) ≡ true → Tie w img (has (started (geometry z) absent p img))
       begins p e q =
-          let led = led-by p e in
+          let led = led-by w img h absent t p e in
           let is : startOf s (geometry z) absent img room ≡ record { state = started (geometry z) absent p img; outcome = Done } =
           ap (λ (x : Survey). bySurvey x s (geometry z) absent img room) e ∙ ap (λ (b : Bool). cond b (record { state = started (geometry z) absent p img; outcome = Done }) (record { state = s; outcome = Refused BadBuffer })) q in
           let in-family = subst (λ (x : Begun). Allowed z F (outs x)) is ok (inMask (p .next .out)) (List·Memᴰ·head refl) (start-few z img absent p e led) in
@@ -331,15 +332,15 @@ module _ (z : Shelf) (F : Family z) (first : Machine Sector) where
   late-kept : (w : World Sector) (img : List ℕ) (h : Hand) (s : State) (k m c S number room : ℕ) → allZero img ≡ false → Tie w img h → Tie w img (handed h (createOf s k m c S number img room))
   late-kept w img h s k m c S number room e t = subst (λ (o : Outcome). Tie w img (handed h (begun o s (created k m c S number)))) (sym (create-late k m c S img room e)) t
 
+  ours-in : (w : World Sector) (img : List ℕ) (h : Hand) → Tie w img h → (d s : ℕ) (a : bytes.Label) → d < slots z → s < 2 → copyOf (geometry z) img d s ≡ Valid a → ours z a ≡ true
+  ours-in w img h t = copy-ours z img (t .disks) (subst (Named z) (t .reads) (always-cur (Named z) w (off (t .reached) .keeps .sane) (t .named)))
+
   start-any : (w : World Sector) (img : List ℕ) (h : Hand) (s : State) (g : Geometry) (absent room : ℕ) → Sits z g absent → Allowed z F (outs (startOf s g absent img room))
       → Tie w img h → Tie w img (handed h (startOf s g absent img room))
   start-any w img h s g absent room sits ok t =
       ⊎-elim
       (λ (e : g ≡ geometry z). subst (λ (x : Geometry). Allowed z F (outs (startOf s x absent img room)) → Tie w img (handed h (startOf s x absent img room))) (sym e) (λ y. start-kept w img h s absent room y t) ok)
-      (λ (other : g ≡ geometry z → ⊥). subst (λ (x : Survey). Tie w img (handed h (bySurvey x s g absent img room))) (sym (start-other z img (t .disks) own g absent other sits)) t) (same-numbers z g)
-    where
-      own : (d s : ℕ) (a : bytes.Label) → d < slots z → s < 2 → copyOf (geometry z) img d s ≡ Valid a → ours z a ≡ true
-      own = copy-ours z img (t .disks) (subst (Named z) (t .reads) (always-cur (Named z) w (off (t .reached) .keeps .sane) (t .named)))
+      (λ (other : g ≡ geometry z → ⊥). subst (λ (x : Survey). Tie w img (handed h (bySurvey x s g absent img room))) (sym (start-other z img (t .disks) (ours-in w img h t) g absent other sits)) t) (same-numbers z g)
 
   -- taking a slot out
   idle-is : (k : Kind) → isIdle k ≡ true → k ≡ Idle
@@ -490,6 +491,46 @@ module _ (z : Shelf) (F : Family z) (first : Machine Sector) where
   chain-kept stays ok t = t
   chain-kept (goes-on c x) ok t = call-kept x (λ s m. ok s (Memᴰ·append-left (sets c) m)) (chain-kept c (λ s m. ok s (Memᴰ·append-right (sets-call x) m)) t)
 
+  -- THE SETS THAT A CHAIN LEAVES OUT are of at most m slots each
+  start-passed : (w : World Sector) (img : List ℕ) (h : Hand) (s : State) (absent room : ℕ) → Tie w img h → (a : ℕ → Bool) → List·Memᴰ a (outs (startOf s (geometry z) absent img room)) → fewOf z a ≡ true
+  start-passed w img h s absent room t a = by (surveyOf (geometry z) img absent) refl
+    where
+      by : (x : Survey) → surveyOf (geometry z) img absent ≡ x → List·Memᴰ a (outs (bySurvey x s (geometry z) absent img room)) → fewOf z a ≡ true
+      by (survey.Refused why) e m = absurd (List·Memᴰ·not-nil m)
+      by (survey.Plan p) e m = fits (eqb room (workBytes (slots z) (z .c))) m
+        where
+          fits : (b : Bool) → List·Memᴰ a (outs (cond b (record { state = started (geometry z) absent p img; outcome = Done }) (record { state = s; outcome = Refused BadBuffer }))) → fewOf z a ≡ true
+          fits true m = ⊎-elim (λ q. ap (fewOf z) q ∙ start-few z img absent p e (led-by w img h absent t p e)) (λ n. absurd (List·Memᴰ·not-nil n)) (List·Memᴰ·cases-cons m)
+          fits false m = absurd (List·Memᴰ·not-nil m)
+
+  out-passed : (w : World Sector) (img : List ℕ) (s : State) (d room : ℕ) → Tie w img (has s) → (a : ℕ → Bool) → List·Memᴰ a (outs (takeOutOf s d img room)) → fewOf z a ≡ true
+  out-passed w img s d room t a = by (takeAnswer (s .now) (s .kind) (s .absent) img d room) refl
+    where
+      own : ours z (s .now) ≡ true
+      own = ⊎-elim (λ (f : Fair z s img). f .ours-now) (λ (q : (s .kind ≡ Idle) × (ours z (s .now) ≡ true)). q .1) (t .order .1)
+
+      by : (o : Outcome) → takeAnswer (s .now) (s .kind) (s .absent) img d room ≡ o → List·Memᴰ a (outs (begun o s (tookOut s d))) → fewOf z a ≡ true
+      by Done e m = ⊎-elim (λ q. ap (fewOf z) q ∙ out-few z img (t .disks) s own d room e) (λ n. absurd (List·Memᴰ·not-nil n)) (List·Memᴰ·cases-cons m)
+      by (Refused why) e m = absurd (List·Memᴰ·not-nil m)
+
+  pub call-passed : {a b : Moment} (x : Calls z a b) → On a → (s : ℕ → Bool) → List·Memᴰ s (sets-call x) → fewOf z s ≡ true
+  call-passed (creates s room) t a m = absurd (List·Memᴰ·not-nil m)
+  call-passed (creates-late s k m c S number room e) t a n = absurd (List·Memᴰ·not-nil n)
+  call-passed (starts {w} {img} {h} s g absent room sits) t a m =
+      ⊎-elim (λ (e : g ≡ geometry z). subst (λ (x : Geometry). List·Memᴰ a (outs (startOf s x absent img room)) → fewOf z a ≡ true) (sym e) (start-passed w img h s absent room t a))
+      (λ (other : g ≡ geometry z → ⊥). subst (λ (x : Survey). List·Memᴰ a (outs (bySurvey x s g absent img room)) → fewOf z a ≡ true) (sym (start-other z img (t .disks) (ours-in w img h t) g absent other sits)) (λ n. absurd (List·Memᴰ·not-nil n))) (same-numbers z g) m
+  call-passed (takes-out {w} {img} {s} d room) t a m = out-passed w img s d room t a m
+  call-passed (steps room heard) t a m = absurd (List·Memᴰ·not-nil m)
+  call-passed (cut left d p) t a m = absurd (List·Memᴰ·not-nil m)
+  call-passed dies t a m = absurd (List·Memᴰ·not-nil m)
+
+  pub chain-passed : {a b : Moment} (c : Chain z a b) → Allowed z F (sets c) → On a → (s : ℕ → Bool) → List·Memᴰ s (sets c) → fewOf z s ≡ true
+  chain-passed stays ok t s m = absurd (List·Memᴰ·not-nil m)
+  chain-passed (goes-on c x) ok t s m =
+      let before : Allowed z F (sets c) = λ a n. ok a (Memᴰ·append-right (sets-call x) n) in
+      let there = chain-kept c before t in
+      ⊎-elim (λ n. call-passed x there s n) (λ n. chain-passed c before t s n) (List·Memᴰ·append-cases (sets-call x) m)
+
   -- and each step can be followed: its answer names a sector of the shelf
   heard-by : (w : World Sector) (img : List ℕ) (r : Reply Sector) (a : Answer) → Same z a r → effect w r .cur ≡ curOf z img → (w' : World Sector) × Heard z w a img w'
   heard-by w img accepted a s c = absurd s
@@ -553,6 +594,11 @@ module _ (z : Shelf) (img : List ℕ) (disks : Disks z img) (blank : allZero img
   pub chained-any : {b : Moment} (c : Chain z (at (after (curOf z img)) img none) b) (two : AnyTwo (slots z) (sets c)) → On z (parts-few z (sets c) two) fresh b
   chained-any c two = chained-in (parts-few z (sets c) two) c (in-parts z (sets c) two)
 
-  -- FOR k > m nothing is asked
+  -- FOR k > m nothing is asked: any two sets of at most m slots leave a slot out
+  pub nothing-asked : (more : z .m < z .k) {b : Moment} (c : Chain z (at (after (curOf z img)) img none) b) → AnyTwo (slots z) (sets c)
+  nothing-asked more c s t i j =
+      let passed = chain-passed z (every-few z more) fresh c (λ a m e. e) (fresh-tie (every-few z more)) in
+      quorum z more .meet s t (passed s i) (passed t j)
+
   pub chained : (more : z .m < z .k) {b : Moment} → Chain z (at (after (curOf z img)) img none) b → On z (every-few z more) fresh b
   chained more c = chained-in (every-few z more) c (λ s m e. e)
