@@ -34,6 +34,10 @@ pub record Family (z : Shelf) : Type 0 where
 abbrev pub every-few : (z : Shelf) → z .m < z .k → Family z
 every-few z more = record { sets = quorum z more; few = λ a e. e; none = few-none z }
 
+-- any two sets leave a slot out in common where one slot takes part in all of them
+pub one-takes-part : (n v : ℕ) → v < n → (l : List (ℕ → Bool)) → ((s : ℕ → Bool) → List·Memᴰ s l → s v ≡ false) → AnyTwo n l
+one-takes-part n v i l takes s t a b = (v, i, takes s a, takes t b)
+
 -- for every shelf: the parts of the sets of a list, where any two of them leave a slot out
 module _ (z : Shelf) (l : List (ℕ → Bool)) (two : AnyTwo (slots z) l) where
   abbrev parts : Quorum (slots z)
