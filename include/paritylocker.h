@@ -100,8 +100,8 @@ uint32_t pl_start(uint8_t n, uint8_t c, uint32_t sectors, uint64_t absent, uint8
                   size_t state_len, uint8_t *work, size_t work_len);
 
 /* Begins to take a slot out. 0; PL_NOT_NOW where no shelf is started; PL_BAD_IMAGE; PL_NO_LABEL where a present disk's label isn't
- * the state's; PL_TOO_FEW where more than m would be out; PL_BAD_BLOCK; PL_BUSY; PL_NOT_NOW where it is out already or no generation
- * is left; PL_BAD_BUFFER. */
+ * the state's; PL_TOO_FEW where more than m would be out; PL_BAD_BLOCK; PL_BUSY; PL_NOT_NOW where it is absent, or out already, or no
+ * generation is left; PL_BAD_BUFFER. */
 uint32_t pl_take_out(uint32_t slot, uint8_t *image, size_t image_len, uint8_t *state, size_t state_len, uint8_t *work, size_t work_len);
 
 /* Does the next action of the request under way and answers kind + 256 * slot + 65536 * sector. Kind 1: that sector was put, write it

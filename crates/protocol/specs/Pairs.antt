@@ -135,7 +135,7 @@ parts-of n l two =
     outside false y h e = refl
 
 -- with the empty set too
-with-none : (n : ℕ) → 0 < n → (l : List (ℕ → Bool)) → AnyTwo n l → AnyTwo n ((λ d. false) ∷ l)
+pub with-none : (n : ℕ) → 0 < n → (l : List (ℕ → Bool)) → AnyTwo n l → AnyTwo n ((λ d. false) ∷ l)
 with-none n some l two s t i j = ⊎-elim (λ e. ⊎-elim (λ e'. (0, some, ap (λ (a : ℕ → Bool). a 0) e, ap (λ (a : ℕ → Bool). a 0) e')) (λ m. let y = two t t m m in (y .0, y .1, ap (λ (a : ℕ → Bool). a (y .0)) e, y .3)) (List·Memᴰ·cases-cons j)) (λ m. ⊎-elim (λ e'. let y = two s s m m in (y .0, y .1, y .2, ap (λ (a : ℕ → Bool). a (y .0)) e')) (λ m'. two s t m m') (List·Memᴰ·cases-cons j)) (List·Memᴰ·cases-cons i)
 
 -- ---- a code, and a medium, for a family whose sets pass the test

@@ -1,11 +1,12 @@
 // Which slots a label lets start-up look at, and what it believes of them.
 use disk::geometry::Found;
 use disk::geometry::Geometry;
+use disk::geometry::in_range;
 use disk::geometry::stripes;
 use disk::mask::has;
 use label::fields::Label;
 ghost use mathlib.Core.Path.{_≡_};
-ghost use mathlib.Core.Bool.{true};
+ghost use mathlib.Core.Bool.{true, _&&_};
 ghost use Rattle.disk.specs.Geometry.{inRange, stripesOf};
 ghost use Rattle.redo.specs.Decide.{plainlyOut, looked, believed};
 
@@ -56,4 +57,14 @@ pub(crate) fn is_believed(g: Geometry, l: Label, d: usize, t: usize) -> bool
         return true;
     }
     t < l.mark
+}
+
+// The same of any geometry: where it is out of range, nothing is believed.
+pub fn believes(g: Geometry, l: Label, d: usize, t: usize) -> bool
+    ensures { λ r. ⌜ r ≡ (inRange g && believed g l d t) ⌝ }
+{
+    if !in_range(g) {
+        return false;
+    }
+    is_believed(g, l, d, t)
 }

@@ -207,7 +207,7 @@ ready-alike s x y h =
 
 -- TAKING A SLOT OUT answers the same and hands out the same state
 pub out-blind : (s : State) (d room : ℕ) (x y : List ℕ) → Seen (geometryOf (s .now)) x y (s .absent) → takeOutOf s d x room ≡ takeOutOf s d y room
-out-blind s d room x y h = ap (λ (o : Outcome). begun (first o (outAnswer (s .now) (isIdle (s .kind)) d room)) s (tookOut s d)) (ready-alike s x y h)
+out-blind s d room x y h = ap (λ (o : Outcome). begun (first o (outAnswer (s .now) (isIdle (s .kind)) (s .absent) d room)) s (tookOut s d)) (ready-alike s x y h)
 
 -- ---- start-up
 

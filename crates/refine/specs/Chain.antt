@@ -1,7 +1,9 @@
 -- THE PROMISE OF THE CODE, over chains of calls of the public functions create, start, take_out and step, on disks with caches, with
 -- power cuts and deaths of the caller in between. What the functions return and leave is said in the words of their contracts
--- (`createOf`, `startOf`, `takeOutOf`, `stepWith`). Nothing is asked of the caller but that it calls them for this shelf, that it
--- hands back to take_out and to step the state that it was handed last, and that it does with the disks what a step's answer says.
+-- (`createOf`, `startOf`, `takeOutOf`, `stepWith`). Nothing is asked of the caller but that it creates this shelf, that it hands back
+-- to take_out and to step the state that it was handed last, that it does with the disks what a step's answer says, and that it does
+-- not start with another S and slot 0 called absent (Other says why). Of the world is asked, where k <= m, that any two of the sets of
+-- slots that accepted start-ups and take-outs leave out leave a slot out in common.
 -- Each call is an event of the protocol's machine or changes nothing, and the disks are that machine's; so what the protocol
 -- promises holds of them. Assumes nothing.
 --
@@ -9,20 +11,22 @@
 -- a disk whose newest label is another shelf's.
 use mathlib.Core.Path.{_≡_, refl, sym, ap, ap₂, subst, _∙_}
 use mathlib.Core.Logic.{_⊎_, ⊎-elim, inl, inr}
-use mathlib.Core.Bool.{Bool, true, false, cond, _&&_, false≢true}
-use mathlib.Core.List.{List, [], _∷_, _++_}
+use mathlib.Core.Bool.{Bool, true, false, cond, _&&_, true≢false, false≢true}
+use mathlib.Core.List.{List, [], _∷_, _++_, append-assoc, List·Memᴰ, List·Memᴰ·head, List·Memᴰ·not-nil, List·Memᴰ·cases-cons, List·Memᴰ·append-cases, Memᴰ·append-left, Memᴰ·append-right}
 use Prim.Native.Nat.{ℕ, zero, suc, _<_}
 use lib.Dec.{eqb, leb, ltb}
 use lib.ListN.{length}
 use Rattle.disk.specs.Mask.{inMask}
 use Rattle.disk.specs.Image.{fitsImage}
+use Rattle.disk.specs.declared.geometry.Geometry.{Geometry}
 use Rattle.disk.specs.declared.refusal.Refusal.{Refusal}
 use Rattle.disk.specs.declared.refusal.Refusal.the-variants.{BadImage, BadBuffer, NotNow}
 use Rattle.disk.specs.declared.refusal.Outcome.{Outcome}
 use Rattle.disk.specs.declared.refusal.Outcome.the-variants.{Done, Refused}
 use Rattle.label.specs.Fields.{geometryOf, fitsOf}
 use Rattle.label.specs.Bytes.{allZero}
-use Rattle.label.specs.Newest.{sameShelf}
+use Rattle.label.specs.Newest.{sameShelf, copyOf}
+use Rattle.label.specs.declared.codec.Decoded.the-variants.{Valid}
 use Rattle.label.specs.declared.fields.Label as bytes
 use Rattle.rounds.specs.Survey.{nextOf, planOf, surveyOf}
 use Rattle.rounds.specs.declared.plan.Plan.{Plan}
@@ -33,19 +37,21 @@ use Rattle.protocol.specs.World.{Place, slot, Image, update-here, World, put, f
 use Rattle.protocol.specs.Program.{Memory, nothing, idle, Input, create, start, take-out, step, Reply, accepted, refused, did, safe, done, block, found, beyond}
 use Rattle.protocol.specs.Program as program
 use Rattle.protocol.specs.Host.{Host}
-use Rattle.protocol.specs.Machine.{Machine, Event, effect, from-outside, from-host, power-cut, program-dies, View, sure, Answered, Goes}
+use Rattle.protocol.specs.Machine.{Machine, Event, ask, effect, from-outside, from-host, power-cut, program-dies, View, sure, Answered, Goes}
 use Rattle.protocol.specs.Machine as machine
 use Rattle.protocol.specs.Shape.{Shapes}
 use Rattle.protocol.specs.Shaped.{Shaped, AllShaped, shaped, zeros-shaped}
-use Rattle.protocol.specs.Promise.{zeros-off}
+use Rattle.protocol.specs.Promise.{zeros-off, simulate}
+use Rattle.protocol.specs.Even.{is-accepted}
+use Rattle.protocol.specs.Even as even
+use Rattle.protocol.specs.Pairs.{AnyTwo, no-sets}
 use Rattle.codecs.specs.Sector.{Sector, zeros}
 use Rattle.codecs.specs.Shelf.{Shelf, slots, geometry, size}
 use Rattle.codecs.specs.Labels.{ours, labels}
 use Rattle.codecs.specs.Records.{records}
 use Rattle.codecs.specs.Media.{stamps}
-use Rattle.shards.specs.Quorum.{few-none, quorum}
-use Rattle.shards.specs.Code.{code}
-use Rattle.shards.specs.Promise.{sectors, ZerosOf, HappensTo, RunsOf, Keeps, simulate}
+use Rattle.shards.specs.Quorum.{fewOf, quorum}
+use Rattle.shards.specs.Even.{any-code, any-sectors, ShelfRuns}
 use Rattle.shelf.specs.Act.{Move, refuses}
 use Rattle.shelf.specs.Step.{underWay, sound, walk, stepMove, finished}
 use Rattle.shelf.specs.Step as Step
@@ -58,11 +64,12 @@ use Rattle.shelf.specs.declared.state.Answer.the-variants as answer
 use Rattle.requests.specs.Begun.{workBytes, begun}
 use Rattle.requests.specs.Create.{createAnswer, created, createOf}
 use Rattle.requests.specs.Start.{started, bySurvey, startOf}
-use Rattle.requests.specs.TakeOut.{takeAnswer, tookOut, takeOutOf}
+use Rattle.requests.specs.TakeOut.{outed, takeAnswer, tookOut, takeOutOf}
 use Rattle.requests.specs.Step.{otherWork, stepWith, step-short, step-goes, step-unsound}
 use Rattle.requests.specs.Accepted.{create-done, take-done}
 use Rattle.requests.specs.Ready.{isIdle}
 use Rattle.requests.specs.declared.begun.Begun.{Begun}
+use Rattle.refine.specs.Family.{Family, codeIn, sectorsIn, ZerosIn, HappensIn, KeepsIn, leavesOf, program-in, every-few, parts-few, in-parts}
 use Rattle.refine.specs.Places.{sectorOf, inside, place-one}
 use Rattle.refine.specs.Disks.{Disks, curOf}
 use Rattle.refine.specs.Labels.{Led}
@@ -73,8 +80,9 @@ use Rattle.refine.specs.Tied.{ownOf, memoryOf, memoryBy, Same, programOf
 use Rattle.refine.specs.Requests.{goes, first-ours, create-begins, out-ours, out-begins}
 use Rattle.refine.specs.Ends.{nth}
 use Rattle.refine.specs.StartBegins.{start-begins}
-use Rattle.refine.specs.Accepts.{all-zeros, create-accepted, start-accepted, start-real, out-accepted}
-use Rattle.refine.specs.Named.{Named, zeros-named, Names, leftIn, create-names, start-names, out-names, step-names, lead-ours}
+use Rattle.refine.specs.Accepts.{all-zeros, create-accepted, start-leaves, start-few, start-accepted, start-real, out-leaves, out-few, out-accepted}
+use Rattle.refine.specs.Other.{Sits, same-numbers, start-other, create-late}
+use Rattle.refine.specs.Named.{Named, zeros-named, Names, leftIn, create-names, start-names, out-names, step-names, copy-ours, lead-ours}
 
 -- ---- THE CALLS
 
@@ -104,9 +112,11 @@ Heard z w answer.Done img w' = w' ≡ w
 Heard z w (answer.Refused why) img w' = w' ≡ w
 
 pub data Calls (z : Shelf) : Moment → Moment → Type 1 where
-  -- create and start begin anew, in any state, whatever state they are handed (its bytes may be anything)
+  -- create and start begin anew, in any state, whatever state they are handed (its bytes may be anything). On an image of zeros create is called for this shelf, later with any numbers; start with any
+  -- numbers, but if it is told another S it is not told that slot 0 is absent
   creates : {w : World Sector} {img : List ℕ} {h : Hand} (s : State) (room : ℕ) → Calls z (at w img h) (at w img (handed h (createOf s (z .k) (z .m) (z .c) (z .sectors) (z .number) img room)))
-  starts : {w : World Sector} {img : List ℕ} {h : Hand} (s : State) (absent room : ℕ) → Calls z (at w img h) (at w img (handed h (startOf s (geometry z) absent img room)))
+  starts : {w : World Sector} {img : List ℕ} {h : Hand} (s : State) (g : Geometry) (absent room : ℕ) → Sits z g absent → Calls z (at w img h) (at w img (handed h (startOf s g absent img room)))
+  creates-late : {w : World Sector} {img : List ℕ} {h : Hand} (s : State) (k m c S number room : ℕ) → allZero img ≡ false → Calls z (at w img h) (at w img (handed h (createOf s k m c S number img room)))
   -- the state that was handed out last is handed back
   takes-out : {w : World Sector} {img : List ℕ} {s : State} (d room : ℕ) → Calls z (at w img (has s)) (at w img (handed (has s) (takeOutOf s d img room)))
   steps : {w w' : World Sector} {img : List ℕ} {s : State} (room : ℕ) → Heard z w (stepWith s img room .stepped .answer) (stepWith s img room .image) w'
@@ -121,9 +131,35 @@ pub data Chain (z : Shelf) : Moment → Moment → Type 1 where
   stays : {a : Moment} → Chain z a a
   goes-on : {a b c : Moment} → Chain z a b → Calls z b c → Chain z a c
 
+-- THE SETS OF SLOTS THAT A CHAIN LEAVES OUT: those that the labels call out which its accepted start-ups and take-outs settle
+abbrev outs-by : Outcome → State → List (ℕ → Bool)
+outs-by Done s = inMask (s .next .out) ∷ []
+outs-by (Refused why) s = []
+
+abbrev pub outs : Begun → List (ℕ → Bool)
+outs b = outs-by (b .outcome) (b .state)
+
+abbrev pub sets-call : {z : Shelf} {a b : Moment} → Calls z a b → List (ℕ → Bool)
+sets-call (creates s room) = []
+sets-call (creates-late s k m c S number room e) = []
+sets-call (starts {img = img} s g absent room sits) = outs (startOf s g absent img room)
+sets-call (takes-out {img = img} {s = s} d room) = outs (takeOutOf s d img room)
+sets-call (steps room heard) = []
+sets-call (cut left d p) = []
+sets-call dies = []
+
+abbrev pub sets : {z : Shelf} {a b : Moment} → Chain z a b → List (ℕ → Bool)
+sets stays = []
+sets (goes-on c x) = sets-call x ++ sets c
+
 pub chained-on : {z : Shelf} {a b c : Moment} → Chain z a b → Chain z b c → Chain z a c
 chained-on p stays = p
 chained-on p (goes-on q x) = goes-on (chained-on p q) x
+
+pub sets-on : {z : Shelf} {a b c : Moment} (p : Chain z a b) (q : Chain z b c) → sets (chained-on p q) ≡ sets q ++ sets p
+unfolding chained-on
+sets-on p stays = refl
+sets-on p (goes-on q x) = ap (λ (l : List (ℕ → Bool)). sets-call x ++ l) (sets-on p q) ∙ sym (append-assoc (sets-call x) (sets q) (sets p))
 
 -- ---- THE TIE between a moment and the protocol's machine
 
@@ -141,24 +177,32 @@ abbrev InOrder : Shelf → Hand → List ℕ → Type 0
 InOrder z none img = Unit {0}
 InOrder z (has s) img = (ours z (s .next) ≡ true) × (Fair z s img ⊎ ((s .kind ≡ Idle) × (ours z (s .now) ≡ true)))
 
-module _ (z : Shelf) (more : z .m < z .k) where
-  run-on : {a b c : Machine Sector} {e : Event Sector} (l : List (Event Sector)) → RunsOf z more a l b → HappensTo z more b e c → RunsOf z more a (l ++ (e ∷ [])) c
-  run-on l machine.stays h = machine.goes h machine.stays
-  run-on l (machine.goes {l = r} y x) h = machine.goes y (run-on r x h)
+-- what is asked of the sets that are left out: those of at most m slots are in the family
+abbrev pub Allowed : (z : Shelf) → Family z → List (ℕ → Bool) → Type 0
+Allowed z F l = (s : ℕ → Bool) → List·Memᴰ s l → fewOf z s ≡ true → F .sets .few s ≡ true
+
+module _ (z : Shelf) where
+  -- what happens to the machine with the shelf's program
+  abbrev HappensTo : Machine Sector → Event Sector → Machine Sector → Type 1
+  HappensTo = even.HappensBy (size z) (no-sets (slots z)) (labels z) (records z) (any-code z) stamps (any-sectors z) (fewOf z)
+
+  run-on : {a b c : Machine Sector} {e : Event Sector} (l : List (Event Sector)) → ShelfRuns z a l b → HappensTo b e c → ShelfRuns z a (l ++ (e ∷ [])) c
+  run-on l even.stays h = even.goes h even.stays
+  run-on l (even.goes {l = r} y x) h = even.goes y (run-on r x h)
 
   -- at rest the program remembers its own
   pub rests : (s : State) (img : List ℕ) → s .kind ≡ Idle → memoryOf z s img ≡ idle (ownOf z s (s .now))
   unfolding memoryOf
   rests s img e = ap (λ (k : Kind). memoryBy k z s (toDo z s img)) e
 
-module _ (z : Shelf) (more : z .m < z .k) (first : Machine Sector) where
-  -- the protocol's machine comes here from the first one by its own events, and its invariant holds, with the host's blocks all zeros;
+module _ (z : Shelf) (F : Family z) (first : Machine Sector) where
+  -- the protocol's machine comes here from the first one by its own events, and its invariant holds for the family, with the host's blocks all zeros;
   -- and the disks' labels have their shape (document 02, C6)
   pub record Reached (w : World Sector) (m : Memory Sector) : Type 1 where
     pub events : List (Event Sector)
-    pub runs : RunsOf z more first events (machine.at w m)
-    pub keeps : Keeps z more (machine.at w m) (sure blocks)
-    pub tidy : Shaped (size z) (quorum z more) (labels z) (records z) (code z more) stamps (sectors z more) (machine.at w m)
+    pub runs : ShelfRuns z first events (machine.at w m)
+    pub keeps : KeepsIn z F (machine.at w m) (sure blocks)
+    pub tidy : Shaped (size z) (F .sets) (labels z) (records z) (codeIn z F) stamps (sectorsIn z F) (machine.at w m)
 
   -- the image is that of the disks as they are read, no label on them names another shelf or is about to, and what the caller holds is in order
   pub record Tie (w : World Sector) (img : List ℕ) (h : Hand) : Type 1 where
@@ -173,28 +217,38 @@ module _ (z : Shelf) (more : z .m < z .k) (first : Machine Sector) where
   On (at w img h) = Tie w img h
 
   -- one event more, that leaves the blocks
-  happens : {w w' : World Sector} {m m' : Memory Sector} {e : Event Sector} → Reached w m → (h : HappensTo z more (machine.at w m) e (machine.at w' m')) → AllShaped (size z) (quorum z more) (labels z) (records z) (code z more) stamps (sectors z more) h
-      → ((q : View Sector) → Goes (z .c) e (sure blocks) q → q ≡ sure blocks) → Reached w' m'
-  happens {w} {w'} {m} {m'} {e} t h new same =
-      let r = simulate z more h (sure blocks) (t .keeps) in
+  happens : {w w' : World Sector} {m m' : Memory Sector} {e : Event Sector} → Reached w m → HappensTo z (machine.at w m) e (machine.at w' m') → (h : HappensIn z F (machine.at w m) e (machine.at w' m'))
+      → AllShaped (size z) (F .sets) (labels z) (records z) (codeIn z F) stamps (sectorsIn z F) h → ((q : View Sector) → Goes (z .c) e (sure blocks) q → q ≡ sure blocks) → Reached w' m'
+  happens {w} {w'} {m} {m'} {e} t x h new same =
+      let r = simulate (size z) (F .sets) (labels z) (records z) (codeIn z F) stamps (sectorsIn z F) h (sure blocks) (t .keeps) in
       record {
         events = t .events ++ (e ∷ []);
-        runs = run-on z more (t .events) (t .runs) h;
-        keeps = subst (Keeps z more (machine.at w' m')) (same (r .0) (r .1)) (r .2);
-        tidy = shaped (size z) (quorum z more) (labels z) (records z) (code z more) stamps (sectors z more) h new (sure blocks) (t .keeps) (t .tidy);
+        runs = run-on z (t .events) (t .runs) x;
+        keeps = subst (KeepsIn z F (machine.at w' m')) (same (r .0) (r .1)) (r .2);
+        tidy = shaped (size z) (F .sets) (labels z) (records z) (codeIn z F) stamps (sectorsIn z F) h new (sure blocks) (t .keeps) (t .tidy);
       }
 
   -- the program dies
   pub off : {w : World Sector} {m : Memory Sector} → Reached w m → Reached w nothing
-  off t = happens t (from-outside program-dies) tt (λ q e. e)
+  off t = happens t (even.from-outside program-dies) (from-outside program-dies) tt (λ q e. e)
 
-  -- something is asked, and answered
+  -- something is asked, and answered by no refusal; the set that is left out is in the family
   asks : {w : World Sector} {m : Memory Sector} (img : List ℕ) → w .cur ≡ curOf z img → Reached w m → (m' : Memory Sector) (i : Input Sector) (r : Reply Sector)
-      → programOf z more m (curOf z img) i ≡ (m', r) → ((q : View Sector) → Answered (z .c) i r (sure blocks) q → q ≡ sure blocks) → Reached (effect w r) m'
-  asks {w} {m} img reads t m' i r e same =
-      let y : programOf z more m (w .cur) i ≡ (m', r) = ap (λ (f : Image Sector). programOf z more m f i) reads ∙ e in
-      subst (λ (x : Memory Sector × Reply Sector). Reached (effect w (x .1)) (x .0)) y
-      (happens t (from-host i) tt (subst (λ (x : Memory Sector × Reply Sector). (q : View Sector) → Answered (z .c) i (x .1) (sure blocks) q → q ≡ sure blocks) (sym y) same))
+      → programOf z m (curOf z img) i ≡ (m', r) → ((why : program.Refusal) → r ≡ refused why → ⊥) → (r ≡ accepted → (s : ℕ → Bool) → List·Memᴰ s (leavesOf z m (curOf z img) i) → F .sets .few s ≡ true)
+      → ((q : View Sector) → Answered (z .c) i r (sure blocks) q → q ≡ sure blocks) → Reached (effect w r) m'
+  asks {w} {m} img reads t m' i r e some shared same =
+      let y : programOf z m (w .cur) i ≡ (m', r) = ap (λ (f : Image Sector). programOf z m f i) reads ∙ e in
+      let x = program-in z F m (w .cur) i m' r y some (λ a s j. shared a s (subst (λ (f : Image Sector). List·Memᴰ s (leavesOf z m f i)) reads j)) in
+      let h = subst (λ (b : Memory Sector × Reply Sector). (h : HappensIn z F (machine.at w m) (ask i (b .1)) (machine.at (effect w (b .1)) (b .0))) × AllShaped (size z) (F .sets) (labels z) (records z) (codeIn z F) stamps (sectorsIn z F) h) x (from-host i, tt) in
+      happens t (subst (λ (b : Memory Sector × Reply Sector). HappensTo z (machine.at w m) (ask i (b .1)) (machine.at (effect w (b .1)) (b .0))) y (even.from-host i)) (h .0) (h .1) same
+
+  -- a request that is accepted, and leaves out one set, or none
+  accepted-none : (why : program.Refusal) → _≡_ {A = Reply Sector} accepted (refused why) → ⊥
+  unfolding is-accepted
+  accepted-none why e = absurd (true≢false (ap is-accepted e))
+
+  one-allowed : (s : ℕ → Bool) (l : List (ℕ → Bool)) → l ≡ s ∷ [] → F .sets .few s ≡ true → (t : ℕ → Bool) → List·Memᴰ t l → F .sets .few t ≡ true
+  one-allowed s l e ok t m = ⊎-elim (λ q. ap (F .sets .few) q ∙ ok) (λ n. absurd (List·Memᴰ·not-nil n)) (List·Memᴰ·cases-cons (subst (λ (l : List (ℕ → Bool)). List·Memᴰ t l) e m))
 
   -- ---- each call
 
@@ -208,7 +262,7 @@ module _ (z : Shelf) (more : z .m < z .k) (first : Machine Sector) where
       by : (o : Outcome) → createAnswer (z .k) (z .m) (z .c) (z .sectors) img room ≡ o → Tie w img (handed h (begun o s fresh))
       by Done e =
           let y : createOf s (z .k) (z .m) (z .c) (z .sectors) (z .number) img room .outcome ≡ Done = ap (λ (o : Outcome). begun o s fresh .outcome) e in
-          let b = create-begins z more img (t .disks) s room y in
+          let b = create-begins z img (t .disks) s room y in
           let q = goes (createAnswer (z .k) (z .m) (z .c) (z .sectors) img room) s fresh y .1 in
           let m = ap (λ (x : State). memoryOf z x img) (sym q) ∙ b .1 in
           record {
@@ -216,10 +270,10 @@ module _ (z : Shelf) (more : z .m < z .k) (first : Machine Sector) where
             reads = t .reads;
             reached =
                 subst (Reached w) (sym m)
-                (asks img (t .reads) (off (t .reached)) _ create accepted (create-accepted z img more (create-done (z .k) (z .m) (z .c) (z .sectors) img room e .1)) (λ p a. a));
+                (asks img (t .reads) (off (t .reached)) _ create accepted (create-accepted z img (create-done (z .k) (z .m) (z .c) (z .sectors) img room e .1)) accepted-none (λ q x n. absurd (List·Memᴰ·not-nil n)) (λ p a. a));
             named = t .named;
-            names = subst (λ (x : Memory Sector). Names z (leftIn z x)) (sym m) (create-names z more);
-            order = (first-ours z more img (t .disks), inl (subst (λ (x : State). Fair z x img) q (b .0)));
+            names = subst (λ (x : Memory Sector). Names z (leftIn z x)) (sym m) (create-names z);
+            order = (first-ours z img (t .disks), inl (subst (λ (x : State). Fair z x img) q (b .0)));
           }
       by (Refused why) e = t
 
@@ -228,8 +282,20 @@ module _ (z : Shelf) (more : z .m < z .k) (first : Machine Sector) where
   unfolding planOf nextOf sameShelf
   settled-ours img absent l e = e
 
-  start-kept : (w : World Sector) (img : List ℕ) (h : Hand) (s : State) (absent room : ℕ) → Tie w img h → Tie w img (handed h (startOf s (geometry z) absent img room))
-  start-kept w img h s absent room t = by (surveyOf (geometry z) img absent) refl
+  -- the survey goes by a label of this shelf
+  led-by : (w : World Sector) (img : List ℕ) (h : Hand) (absent : ℕ) → Tie w img h → (p : Plan) → surveyOf (geometry z) img absent ≡ survey.Plan p → Led z img absent (beyond (slots z) (inMask absent)) (p .lead)
+  led-by w img h absent t p e =
+      let r = survey-grounds (geometry z) img absent p e in
+      record {
+        disks = t .disks;
+        are = beyond-below (slots z) absent;
+        own = lead-ours z img (t .disks) (subst (Named z) (t .reads) (always-cur (Named z) w (off (t .reached) .keeps .sane) (t .named))) absent (p .lead) (r .leads);
+        leads = r .leads;
+        agree = r .agree;
+      }
+
+  start-kept : (w : World Sector) (img : List ℕ) (h : Hand) (s : State) (absent room : ℕ) → Allowed z F (outs (startOf s (geometry z) absent img room)) → Tie w img h → Tie w img (handed h (startOf s (geometry z) absent img room))
+  start-kept w img h s absent room ok t = by (surveyOf (geometry z) img absent) refl
     where
       A : ℕ → Bool
       A = beyond (slots z) (inMask absent)
@@ -237,30 +303,20 @@ module _ (z : Shelf) (more : z .m < z .k) (first : Machine Sector) where
       off-w : Reached w nothing
       off-w = off (t .reached)
 
-      led-by : (p : Plan) → surveyOf (geometry z) img absent ≡ survey.Plan p → Led z img absent A (p .lead)
-      led-by p e =
-          let r = survey-grounds (geometry z) img absent p e in
-          record {
-            disks = t .disks;
-            are = beyond-below (slots z) absent;
-            own = lead-ours z img (t .disks) (subst (Named z) (t .reads) (always-cur (Named z) w (off-w .keeps .sane) (t .named))) absent (p .lead) (r .leads);
-            leads = r .leads;
-            agree = r .agree;
-          }
-
       begins : (p : Plan) → surveyOf (geometry z) img absent ≡ survey.Plan p → eqb room (workBytes (slots z) (z .c)) ≡ true → Tie w img (has (started (geometry z) absent p img))
       begins p e q =
-          let led = led-by p e in
+          let led = led-by w img h absent t p e in
           let is : startOf s (geometry z) absent img room ≡ record { state = started (geometry z) absent p img; outcome = Done } =
           ap (λ (x : Survey). bySurvey x s (geometry z) absent img room) e ∙ ap (λ (b : Bool). cond b (record { state = started (geometry z) absent p img; outcome = Done }) (record { state = s; outcome = Refused BadBuffer })) q in
-          let b = start-begins z more img absent p led e (start-real z img more absent p e led w (t .reads) blocks (off-w .keeps)) s room (ap (λ (x : Begun). x .outcome) is) in
+          let in-family = subst (λ (x : Begun). Allowed z F (outs x)) is ok (inMask (p .next .out)) (List·Memᴰ·head refl) (start-few z img absent p e led) in
+          let b = start-begins z img absent p led e (start-real z img absent p e led F in-family w (t .reads) blocks (off-w .keeps)) s room (ap (λ (x : Begun). x .outcome) is) in
           let m = ap (λ (x : Begun). memoryOf z (x .state) img) (sym is) ∙ b .1 in
           record {
             disks = t .disks;
             reads = t .reads;
-            reached = subst (Reached w) (sym m) (asks img (t .reads) off-w _ (start (inMask absent)) accepted (start-accepted z img more absent p e led) (λ y a. a));
+            reached = subst (Reached w) (sym m) (asks img (t .reads) off-w _ (start (inMask absent)) accepted (start-accepted z img absent p e led) accepted-none (λ y. one-allowed (inMask (p .next .out)) _ (start-leaves z img absent p e led) in-family) (λ y a. a));
             named = t .named;
-            names = subst (λ (x : Memory Sector). Names z (leftIn z x)) (sym m) (start-names z more A _);
+            names = subst (λ (x : Memory Sector). Names z (leftIn z x)) (sym m) (start-names z A _);
             order = (ap (λ (x : Plan). ours z (x .next)) (survey-grounds (geometry z) img absent p e .is) ∙ settled-ours img absent (p .lead) (led .own), inl (subst (λ (x : Begun). Fair z (x .state) img) is (b .0)));
           }
 
@@ -272,6 +328,20 @@ module _ (z : Shelf) (more : z .m < z .k) (first : Machine Sector) where
           fits true q = begins p e q
           fits false q = t
 
+  -- with any numbers
+  late-kept : (w : World Sector) (img : List ℕ) (h : Hand) (s : State) (k m c S number room : ℕ) → allZero img ≡ false → Tie w img h → Tie w img (handed h (createOf s k m c S number img room))
+  late-kept w img h s k m c S number room e t = subst (λ (o : Outcome). Tie w img (handed h (begun o s (created k m c S number)))) (sym (create-late k m c S img room e)) t
+
+  ours-in : (w : World Sector) (img : List ℕ) (h : Hand) → Tie w img h → (d s : ℕ) (a : bytes.Label) → d < slots z → s < 2 → copyOf (geometry z) img d s ≡ Valid a → ours z a ≡ true
+  ours-in w img h t = copy-ours z img (t .disks) (subst (Named z) (t .reads) (always-cur (Named z) w (off (t .reached) .keeps .sane) (t .named)))
+
+  start-any : (w : World Sector) (img : List ℕ) (h : Hand) (s : State) (g : Geometry) (absent room : ℕ) → Sits z g absent → Allowed z F (outs (startOf s g absent img room))
+      → Tie w img h → Tie w img (handed h (startOf s g absent img room))
+  start-any w img h s g absent room sits ok t =
+      ⊎-elim
+      (λ (e : g ≡ geometry z). subst (λ (x : Geometry). Allowed z F (outs (startOf s x absent img room)) → Tie w img (handed h (startOf s x absent img room))) (sym e) (λ y. start-kept w img h s absent room y t) ok)
+      (λ (other : g ≡ geometry z → ⊥). subst (λ (x : Survey). Tie w img (handed h (bySurvey x s g absent img room))) (sym (start-other z img (t .disks) (ours-in w img h t) g absent other sits)) t) (same-numbers z g)
+
   -- taking a slot out
   idle-is : (k : Kind) → isIdle k ≡ true → k ≡ Idle
   idle-is Nothing e = absurd (false≢true e)
@@ -280,8 +350,8 @@ module _ (z : Shelf) (more : z .m < z .k) (first : Machine Sector) where
   idle-is Starting e = absurd (false≢true e)
   idle-is Labelling e = absurd (false≢true e)
 
-  out-kept : (w : World Sector) (img : List ℕ) (s : State) (d room : ℕ) → Tie w img (has s) → Tie w img (handed (has s) (takeOutOf s d img room))
-  out-kept w img s d room t = by (takeAnswer (s .now) (s .kind) (s .absent) img d room) refl
+  out-kept : (w : World Sector) (img : List ℕ) (s : State) (d room : ℕ) → Allowed z F (outs (takeOutOf s d img room)) → Tie w img (has s) → Tie w img (handed (has s) (takeOutOf s d img room))
+  out-kept w img s d room ok t = by (takeAnswer (s .now) (s .kind) (s .absent) img d room) refl
     where
       own : ours z (s .now) ≡ true
       own = ⊎-elim (λ (f : Fair z s img). f .ours-now) (λ (q : (s .kind ≡ Idle) × (ours z (s .now) ≡ true)). q .1) (t .order .1)
@@ -289,17 +359,18 @@ module _ (z : Shelf) (more : z .m < z .k) (first : Machine Sector) where
       by : (o : Outcome) → takeAnswer (s .now) (s .kind) (s .absent) img d room ≡ o → Tie w img (handed (has s) (begun o s (tookOut s d)))
       by Done e =
           let y : takeOutOf s d img room .outcome ≡ Done = ap (λ (o : Outcome). begun o s (tookOut s d) .outcome) e in
-          let b = out-begins z more img (t .disks) s own d room y in
+          let in-family = subst (λ (o : Outcome). Allowed z F (outs (begun o s (tookOut s d)))) e ok (inMask (outed (s .now) d .out)) (List·Memᴰ·head refl) (out-few z img (t .disks) s own d room e) in
+          let b = out-begins z img (t .disks) s own d room y in
           let q = goes (takeAnswer (s .now) (s .kind) (s .absent) img d room) s (tookOut s d) y .1 in
           let m = ap (λ (x : State). memoryOf z x img) (sym q) ∙ b .1 in
-          let r = rests z more s img (idle-is (s .kind) (take-done (s .now) (s .kind) (s .absent) img d room e .1 .at-rest)) in
+          let r = rests z s img (idle-is (s .kind) (take-done (s .now) (s .kind) (s .absent) img d room e .1 .at-rest)) in
           record {
             disks = t .disks;
             reads = t .reads;
-            reached = subst (Reached w) (sym m) (asks img (t .reads) (subst (Reached w) r (t .reached)) _ (take-out d) accepted (out-accepted z img more (t .disks) s own d room e) (λ p a. a));
+            reached = subst (Reached w) (sym m) (asks img (t .reads) (subst (Reached w) r (t .reached)) _ (take-out d) accepted (out-accepted z img (t .disks) s own d room e) accepted-none (λ p. one-allowed (inMask (outed (s .now) d .out)) _ (out-leaves z img (t .disks) s own d room e) in-family) (λ p a. a));
             named = t .named;
-            names = subst (λ (x : Memory Sector). Names z (leftIn z x)) (sym m) (out-names z more (ownOf z s (s .now)) d);
-            order = (out-ours z more img (t .disks) s own d, inl (subst (λ (x : State). Fair z x img) q (b .0)));
+            names = subst (λ (x : Memory Sector). Names z (leftIn z x)) (sym m) (out-names z (ownOf z s (s .now)) d);
+            order = (out-ours z img (t .disks) s own d, inl (subst (λ (x : State). Fair z x img) q (b .0)));
           }
       by (Refused why) e = t
 
@@ -319,6 +390,12 @@ module _ (z : Shelf) (more : z .m < z .k) (first : Machine Sector) where
   step-same (block b) a s q h = absurd s
   step-same (found x) a s q h = absurd s
 
+  step-some : (r : Reply Sector) (a : Answer) → Same z a r → (why : program.Refusal) → r ≡ refused why → ⊥
+  step-some r a s why e = subst (Same z a) e s
+
+  step-leaves : (r : Reply Sector) (a : Answer) → Same z a r → r ≡ accepted → (s : ℕ → Bool) (l : List (ℕ → Bool)) → List·Memᴰ s l → F .sets .few s ≡ true
+  step-leaves r a s e t l m = absurd (subst (Same z a) e s)
+
   -- what the caller does with the disks is what the protocol's program did
   heard-is : (w w' : World Sector) (img : List ℕ) (r : Reply Sector) (a : Answer) → Same z a r → effect w r .cur ≡ curOf z img → Heard z w a img w' → effect w r ≡ w'
   heard-is w w' img accepted a s c h = absurd s
@@ -335,17 +412,17 @@ module _ (z : Shelf) (more : z .m < z .k) (first : Machine Sector) where
   heard-is w w' img (found x) a s c h = absurd s
 
   -- a step of a request under way
-  goes-kept : (w : World Sector) (img : List ℕ) (s : State) (m : Move) (w' : World Sector) → Tied z more s img m → Tie w img (has s) → Heard z w (m .stepped .answer) (m .image) w' → Tie w' (m .image) (has (m .stepped .state))
+  goes-kept : (w : World Sector) (img : List ℕ) (s : State) (m : Move) (w' : World Sector) → Tied z s img m → Tie w img (has s) → Heard z w (m .stepped .answer) (m .image) w' → Tie w' (m .image) (has (m .stepped .state))
   goes-kept w img s m w' tied t h =
       let r = tied .reply in
       let o = off (t .reached) .keeps in
-      let n = subst (λ (y : Memory Sector × Reply Sector). Always (effect w (y .1)) (Named z) × Names z (leftIn z (y .0))) (tied .steps) (step-names z more (memoryOf z s img) (curOf z img) w (o .sane) (t .named) (t .names)) in
+      let n = subst (λ (y : Memory Sector × Reply Sector). Always (effect w (y .1)) (Named z) × Names z (leftIn z (y .0))) (tied .steps) (step-names z (memoryOf z s img) (curOf z img) w (o .sane) (t .named) (t .names)) in
       let next-ours = ap (ours z) (tied .settles) ∙ t .order .0 in
       subst (λ (x : World Sector). Tie x (m .image) (has (m .stepped .state))) (heard-is w w' (m .image) r (m .stepped .answer) (tied .answers) (tied .acts w (t .reads)) h)
       (record {
         disks = ⊎-elim (λ (f : Fair z (m .stepped .state) (m .image)). f .disks) (λ (q : m ≡ finished s img). subst (λ (x : Move). Disks z (x .image)) (sym q) (t .disks)) (tied .goes-on);
         reads = tied .acts w (t .reads);
-        reached = asks img (t .reads) (t .reached) (memoryOf z (m .stepped .state) (m .image)) step r (tied .steps) (step-same r (m .stepped .answer) (tied .answers));
+        reached = asks img (t .reads) (t .reached) (memoryOf z (m .stepped .state) (m .image)) step r (tied .steps) (step-some r (m .stepped .answer) (tied .answers)) (λ e x n. step-leaves r (m .stepped .answer) (tied .answers) e x _ n) (step-same r (m .stepped .answer) (tied .answers));
         named = n .0;
         names = n .1;
         order = (
@@ -373,18 +450,18 @@ module _ (z : Shelf) (more : z .m < z .k) (first : Machine Sector) where
       ∙ ap (λ (b : Bool). cond b (cond (fitsImage (geometryOf (s .now)) (length img)) (Step.keeps s (walk mostStages s (geometryOf (s .now)) img)) (refuses s BadImage img)) (refuses s NotNow img)) no
 
   -- A STEP is the program's, or it is refused and nothing changes
-  pub step-is : (w : World Sector) (img : List ℕ) (s : State) (room : ℕ) → Tie w img (has s) → Tied z more s img (stepWith s img room) ⊎ ((why : Refusal) × (stepWith s img room ≡ refuses s why img))
+  pub step-is : (w : World Sector) (img : List ℕ) (s : State) (room : ℕ) → Tie w img (has s) → Tied z s img (stepWith s img room) ⊎ ((why : Refusal) × (stepWith s img room ≡ refuses s why img))
   step-is w img s room t =
       ⊎-elim (λ (f : Fair z s img). busy f (otherWork (s .now) (length img) room) refl) (λ (q : (s .kind ≡ Idle) × (ours z (s .now) ≡ true)). inr (NotNow, step-rests s img room (q .0))) (t .order .1)
     where
-      busy : Fair z s img → (b : Bool) → otherWork (s .now) (length img) room ≡ b → Tied z more s img (stepWith s img room) ⊎ ((why : Refusal) × (stepWith s img room ≡ refuses s why img))
+      busy : Fair z s img → (b : Bool) → otherWork (s .now) (length img) room ≡ b → Tied z s img (stepWith s img room) ⊎ ((why : Refusal) × (stepWith s img room ≡ refuses s why img))
       busy f true e = inr (BadBuffer, step-short s img room (f .in-range) e)
-      busy f false e = inl (subst (Tied z more s img) (sym (step-goes s img room (f .in-range) e)) (step-tied z more s img f))
+      busy f false e = inl (subst (Tied z s img) (sym (step-goes s img room (f .in-range) e)) (step-tied z s img f))
 
   step-kept : (w : World Sector) (img : List ℕ) (s : State) (room : ℕ) (w' : World Sector) → Tie w img (has s)
       → Heard z w (stepWith s img room .stepped .answer) (stepWith s img room .image) w' → Tie w' (stepWith s img room .image) (has (stepWith s img room .stepped .state))
   step-kept w img s room w' t h =
-      ⊎-elim (λ (d : Tied z more s img (stepWith s img room)). goes-kept w img s (stepWith s img room) w' d t h)
+      ⊎-elim (λ (d : Tied z s img (stepWith s img room)). goes-kept w img s (stepWith s img room) w' d t h)
       (λ (d : (why : Refusal) × (stepWith s img room ≡ refuses s why img)). refused-kept w img s (d .0) (stepWith s img room) w' (d .1) t h) (step-is w img s room t)
 
   -- ---- A CALL KEEPS THE TIE
@@ -395,23 +472,64 @@ module _ (z : Shelf) (more : z .m < z .k) (first : Machine Sector) where
       record {
         disks = d;
         reads = refl;
-        reached = happens (t .reached) (from-outside (power-cut (curOf z left) p)) tt (λ q e. e);
+        reached = happens (t .reached) (even.from-outside (power-cut (curOf z left) p)) (from-outside (power-cut (curOf z left) p)) tt (λ q e. e);
         named = always-after (Named z) (curOf z left) (t .named (curOf z left) p);
         names = tt;
         order = tt;
       }
 
-  pub call-kept : {a b : Moment} → Calls z a b → On a → On b
-  call-kept (creates {w} {img} {h} s room) t = create-kept w img h s room t
-  call-kept (starts {w} {img} {h} s absent room) t = start-kept w img h s absent room t
-  call-kept (takes-out {w} {img} {s} d room) t = out-kept w img s d room t
-  call-kept (steps {w} {w'} {img} {s} room heard) t = step-kept w img s room w' t heard
-  call-kept (cut {w} {img} {h} left d p) t = cut-kept w img h left d p t
-  call-kept (dies {w} {img} {h}) t = record { disks = t .disks; reads = t .reads; reached = off (t .reached); named = t .named; names = tt; order = tt }
+  pub call-kept : {a b : Moment} (x : Calls z a b) → Allowed z F (sets-call x) → On a → On b
+  call-kept (creates {w} {img} {h} s room) ok t = create-kept w img h s room t
+  call-kept (creates-late {w} {img} {h} s k m c S number room e) ok t = late-kept w img h s k m c S number room e t
+  call-kept (starts {w} {img} {h} s g absent room sits) ok t = start-any w img h s g absent room sits ok t
+  call-kept (takes-out {w} {img} {s} d room) ok t = out-kept w img s d room ok t
+  call-kept (steps {w} {w'} {img} {s} room heard) ok t = step-kept w img s room w' t heard
+  call-kept (cut {w} {img} {h} left d p) ok t = cut-kept w img h left d p t
+  call-kept (dies {w} {img} {h}) ok t = record { disks = t .disks; reads = t .reads; reached = off (t .reached); named = t .named; names = tt; order = tt }
 
-  pub chain-kept : {a b : Moment} → Chain z a b → On a → On b
-  chain-kept stays t = t
-  chain-kept (goes-on c x) t = call-kept x (chain-kept c t)
+  pub chain-kept : {a b : Moment} (c : Chain z a b) → Allowed z F (sets c) → On a → On b
+  chain-kept stays ok t = t
+  chain-kept (goes-on c x) ok t = call-kept x (λ s m. ok s (Memᴰ·append-left (sets c) m)) (chain-kept c (λ s m. ok s (Memᴰ·append-right (sets-call x) m)) t)
+
+  -- THE SETS THAT A CHAIN LEAVES OUT are of at most m slots each
+  start-passed : (w : World Sector) (img : List ℕ) (h : Hand) (s : State) (absent room : ℕ) → Tie w img h → (a : ℕ → Bool) → List·Memᴰ a (outs (startOf s (geometry z) absent img room)) → fewOf z a ≡ true
+  start-passed w img h s absent room t a = by (surveyOf (geometry z) img absent) refl
+    where
+      by : (x : Survey) → surveyOf (geometry z) img absent ≡ x → List·Memᴰ a (outs (bySurvey x s (geometry z) absent img room)) → fewOf z a ≡ true
+      by (survey.Refused why) e m = absurd (List·Memᴰ·not-nil m)
+      by (survey.Plan p) e m = fits (eqb room (workBytes (slots z) (z .c))) m
+        where
+          fits : (b : Bool) → List·Memᴰ a (outs (cond b (record { state = started (geometry z) absent p img; outcome = Done }) (record { state = s; outcome = Refused BadBuffer }))) → fewOf z a ≡ true
+          fits true m = ⊎-elim (λ q. ap (fewOf z) q ∙ start-few z img absent p e (led-by w img h absent t p e)) (λ n. absurd (List·Memᴰ·not-nil n)) (List·Memᴰ·cases-cons m)
+          fits false m = absurd (List·Memᴰ·not-nil m)
+
+  out-passed : (w : World Sector) (img : List ℕ) (s : State) (d room : ℕ) → Tie w img (has s) → (a : ℕ → Bool) → List·Memᴰ a (outs (takeOutOf s d img room)) → fewOf z a ≡ true
+  out-passed w img s d room t a = by (takeAnswer (s .now) (s .kind) (s .absent) img d room) refl
+    where
+      own : ours z (s .now) ≡ true
+      own = ⊎-elim (λ (f : Fair z s img). f .ours-now) (λ (q : (s .kind ≡ Idle) × (ours z (s .now) ≡ true)). q .1) (t .order .1)
+
+      by : (o : Outcome) → takeAnswer (s .now) (s .kind) (s .absent) img d room ≡ o → List·Memᴰ a (outs (begun o s (tookOut s d))) → fewOf z a ≡ true
+      by Done e m = ⊎-elim (λ q. ap (fewOf z) q ∙ out-few z img (t .disks) s own d room e) (λ n. absurd (List·Memᴰ·not-nil n)) (List·Memᴰ·cases-cons m)
+      by (Refused why) e m = absurd (List·Memᴰ·not-nil m)
+
+  pub call-passed : {a b : Moment} (x : Calls z a b) → On a → (s : ℕ → Bool) → List·Memᴰ s (sets-call x) → fewOf z s ≡ true
+  call-passed (creates s room) t a m = absurd (List·Memᴰ·not-nil m)
+  call-passed (creates-late s k m c S number room e) t a n = absurd (List·Memᴰ·not-nil n)
+  call-passed (starts {w} {img} {h} s g absent room sits) t a m =
+      ⊎-elim (λ (e : g ≡ geometry z). subst (λ (x : Geometry). List·Memᴰ a (outs (startOf s x absent img room)) → fewOf z a ≡ true) (sym e) (start-passed w img h s absent room t a))
+      (λ (other : g ≡ geometry z → ⊥). subst (λ (x : Survey). List·Memᴰ a (outs (bySurvey x s g absent img room)) → fewOf z a ≡ true) (sym (start-other z img (t .disks) (ours-in w img h t) g absent other sits)) (λ n. absurd (List·Memᴰ·not-nil n))) (same-numbers z g) m
+  call-passed (takes-out {w} {img} {s} d room) t a m = out-passed w img s d room t a m
+  call-passed (steps room heard) t a m = absurd (List·Memᴰ·not-nil m)
+  call-passed (cut left d p) t a m = absurd (List·Memᴰ·not-nil m)
+  call-passed dies t a m = absurd (List·Memᴰ·not-nil m)
+
+  pub chain-passed : {a b : Moment} (c : Chain z a b) → Allowed z F (sets c) → On a → (s : ℕ → Bool) → List·Memᴰ s (sets c) → fewOf z s ≡ true
+  chain-passed stays ok t s m = absurd (List·Memᴰ·not-nil m)
+  chain-passed (goes-on c x) ok t s m =
+      let before : Allowed z F (sets c) = λ a n. ok a (Memᴰ·append-right (sets-call x) n) in
+      let there = chain-kept c before t in
+      ⊎-elim (λ n. call-passed x there s n) (λ n. chain-passed c before t s n) (List·Memᴰ·append-cases (sets-call x) m)
 
   -- and each step can be followed: its answer names a sector of the shelf
   heard-by : (w : World Sector) (img : List ℕ) (r : Reply Sector) (a : Answer) → Same z a r → effect w r .cur ≡ curOf z img → (w' : World Sector) × Heard z w a img w'
@@ -426,39 +544,40 @@ module _ (z : Shelf) (more : z .m < z .k) (first : Machine Sector) where
 
   pub followed : (w : World Sector) (img : List ℕ) (s : State) (room : ℕ) → On (at w img (has s)) → (w' : World Sector) × Heard z w (stepWith s img room .stepped .answer) (stepWith s img room .image) w'
   followed w img s room t =
-      ⊎-elim (λ (d : Tied z more s img (stepWith s img room)). heard-by w (stepWith s img room .image) (d .reply) (stepWith s img room .stepped .answer) (d .answers) (d .acts w (t .reads)))
+      ⊎-elim (λ (d : Tied z s img (stepWith s img room)). heard-by w (stepWith s img room .image) (d .reply) (stepWith s img room .stepped .answer) (d .answers) (d .acts w (t .reads)))
       (λ (d : (why : Refusal) × (stepWith s img room ≡ refuses s why img)). subst (λ (m : Move). (w' : World Sector) × Heard z w (m .stepped .answer) (m .image) w') (sym (d .1)) (w, refl)) (step-is w img s room t)
 
-  -- step after step
-  pub followed-on : (room n : ℕ) (w : World Sector) (img : List ℕ) (s : State) → On (at w img (has s)) → (w' : World Sector) × Chain z (at w img (has s)) (at w' (nth room n s img .image) (has (nth room n s img .stepped .state)))
-  followed-on room zero w img s t = let y = followed w img s room t in (y .0, goes-on stays (steps room (y .1)))
+  -- step after step; they leave nothing out
+  pub followed-on : (room n : ℕ) (w : World Sector) (img : List ℕ) (s : State) → On (at w img (has s))
+      → (w' : World Sector) × (c : Chain z (at w img (has s)) (at w' (nth room n s img .image) (has (nth room n s img .stepped .state)))) × (sets c ≡ [])
+  followed-on room zero w img s t = let y = followed w img s room t in (y .0, goes-on stays (steps room (y .1)), refl)
   followed-on room (suc n) w img s t =
       let y = followed w img s room t in
       let r = followed-on room n (y .0) (stepWith s img room .image) (stepWith s img room .stepped .state) (step-kept w img s room (y .0) t (y .1)) in
-      (r .0, chained-on (goes-on stays (steps room (y .1))) (r .1))
+      (r .0, chained-on (goes-on stays (steps room (y .1))) (r .1), sets-on (goes-on stays (steps room (y .1))) (r .1) ∙ ap (λ (l : List (ℕ → Bool)). l ++ []) (r .2))
 
 -- ---- THE PROMISE
 
-module _ (z : Shelf) (more : z .m < z .k) (img : List ℕ) (disks : Disks z img) (blank : allZero img ≡ true) where
+module _ (z : Shelf) (img : List ℕ) (disks : Disks z img) (blank : allZero img ≡ true) where
   -- the protocol's machine on these disks, with nothing in their caches and no program
   abbrev pub fresh : Machine Sector
   fresh = machine.at (after (curOf z img)) nothing
 
   -- no state is held
-  fresh-tie : Tie z more fresh (after (curOf z img)) img none
+  fresh-tie : (F : Family z) → Tie z F fresh (after (curOf z img)) img none
   unfolding after Named
-  fresh-tie =
+  fresh-tie F =
       let c = all-zeros z img blank in
-      let bare : ZerosOf z more (curOf z img) = subst (ZerosOf z more) (sym c) (record { labels = λ x b i. refl; logs = λ x j i l. refl; strips = λ x t j i h l. refl }) in
+      let bare : ZerosIn z F (curOf z img) = subst (ZerosIn z F) (sym c) (record { labels = λ x b i. refl; logs = λ x j i l. refl; strips = λ x t j i h l. refl }) in
       record {
         disks = disks;
         reads = refl;
         reached =
             record {
               events = [];
-              runs = machine.stays;
-              keeps = zeros-off (size z) (quorum z more) (labels z) (records z) (code z more) stamps (sectors z more) (after (curOf z img)) (sane-after (curOf z img)) (few-none z) (always-after (ZerosOf z more) (curOf z img) bare);
-              tidy = always-after (Shapes (labels z)) (curOf z img) (zeros-shaped (size z) (quorum z more) (labels z) (records z) (code z more) stamps (sectors z more) (curOf z img) bare);
+              runs = even.stays;
+              keeps = zeros-off (size z) (F .sets) (labels z) (records z) (codeIn z F) stamps (sectorsIn z F) (after (curOf z img)) (sane-after (curOf z img)) (F .none) (always-after (ZerosIn z F) (curOf z img) bare);
+              tidy = always-after (Shapes (labels z)) (curOf z img) (zeros-shaped (size z) (F .sets) (labels z) (records z) (codeIn z F) stamps (sectorsIn z F) (curOf z img) bare);
             };
         named = always-after (Named z) (curOf z img) (subst (Named z) (sym c) (zeros-named z));
         names = tt;
@@ -467,6 +586,19 @@ module _ (z : Shelf) (more : z .m < z .k) (img : List ℕ) (disks : Disks z img)
 
   -- FROM AN IMAGE OF ZEROS ON, whatever is called, and however often power is lost or the program dies: the disks and what the
   -- program remembers beside the state are reached by the protocol's own events, and its invariant holds of them, with the host's
-  -- blocks all zeros
-  pub chained : {b : Moment} → Chain z (at (after (curOf z img)) img none) b → On z more fresh b
-  chained c = chain-kept z more fresh c fresh-tie
+  -- blocks all zeros; for any family that the sets are in which the chain leaves out
+  pub chained-in : (F : Family z) {b : Moment} (c : Chain z (at (after (curOf z img)) img none) b) → Allowed z F (sets c) → On z F fresh b
+  chained-in F c ok = chain-kept z F fresh c ok (fresh-tie F)
+
+  -- FOR EVERY SHELF, where any two of these sets leave a slot out in common
+  pub chained-any : {b : Moment} (c : Chain z (at (after (curOf z img)) img none) b) (two : AnyTwo (slots z) (sets c)) → On z (parts-few z (sets c) two) fresh b
+  chained-any c two = chained-in (parts-few z (sets c) two) c (in-parts z (sets c) two)
+
+  -- FOR k > m nothing is asked: any two sets of at most m slots leave a slot out
+  pub nothing-asked : (more : z .m < z .k) {b : Moment} (c : Chain z (at (after (curOf z img)) img none) b) → AnyTwo (slots z) (sets c)
+  nothing-asked more c s t i j =
+      let passed = chain-passed z (every-few z more) fresh c (λ a m e. e) (fresh-tie (every-few z more)) in
+      quorum z more .meet s t (passed s i) (passed t j)
+
+  pub chained : (more : z .m < z .k) {b : Moment} → Chain z (at (after (curOf z img)) img none) b → On z (every-few z more) fresh b
+  chained more c = chained-in (every-few z more) c (λ s m e. e)

@@ -17,16 +17,15 @@ use Rattle.disk.specs.Geometry.{inRange, imageBytes}
 use Rattle.disk.specs.Image.{place, sector, putSector, Shape, fitsImage, onShelf, readOf, length-sector, shape-put, sector-put, sector-put-other}
 use Rattle.protocol.specs.World.{Place, slot, same, same-true, Image, update, update-here, update-other, same-or-not}
 use Rattle.protocol.specs.Program.{mask}
+use Rattle.protocol.specs.Pairs.{no-sets}
 use Rattle.codecs.specs.Sector.{Sector, Bytes, zeros, sector-path, bytes-append, bytes-take, bytes-drop}
 use Rattle.codecs.specs.Shelf.{Shelf, slots, geometry, size, in-limits}
 use Rattle.codecs.specs.Labels.{labels}
 use Rattle.codecs.specs.Records.{records}
 use Rattle.codecs.specs.Media.{stamps}
-use Rattle.shards.specs.Quorum.{quorum}
 use Rattle.shards.specs.Parity.{byte-of}
 use Rattle.shards.specs.Parity as Parity
-use Rattle.shards.specs.Code.{code}
-use Rattle.shards.specs.Promise.{sectors}
+use Rattle.shards.specs.Even.{any-code, any-sectors}
 use Rattle.refine.specs.Places.{sectorOf, inside, slot-below, sector-below, place-one}
 
 -- an image of this shelf: the bytes of its n disks of S sectors
@@ -125,9 +124,9 @@ module _ (z : Shelf) where
   -- ---- with some slots absent
 
   -- what is seen is what the protocol's program sees
-  pub seen-mask : (more : z .m < z .k) (A : ℕ → Bool) (img : List ℕ) → mask (size z) (quorum z more) (labels z) (records z) (code z more) stamps (sectors z more) A (curOf z img) ≡ seenOf z A img
+  pub seen-mask : (A : ℕ → Bool) (img : List ℕ) → mask (size z) (no-sets (slots z)) (labels z) (records z) (any-code z) stamps (any-sectors z) A (curOf z img) ≡ seenOf z A img
   unfolding mask seenOf
-  seen-mask more A img = refl
+  seen-mask A img = refl
 
   module _ (A : ℕ → Bool) where
     pub seen-present : (img : List ℕ) (k : Place) → A (slot k) ≡ false → seenOf z A img k ≡ curOf z img k

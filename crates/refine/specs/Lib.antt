@@ -1,3 +1,4 @@
+pub mod Family
 pub mod Places
 pub mod Disks
 pub mod Labels
@@ -19,7 +20,9 @@ pub mod Requests
 pub mod Ends
 pub mod StartBegins
 pub mod Accepts
+pub mod Other
 pub mod Named
 pub mod Chain
+pub mod Holds
 pub mod Promise
 pub mod Blind

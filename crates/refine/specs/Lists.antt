@@ -16,14 +16,13 @@ use Rattle.protocol.specs.Label.{Label, there, told, round}
 use Rattle.protocol.specs.Program.{new-label, beyond, flushed-first, told-to}
 use Rattle.protocol.specs.Walk.{append-assoc, batch-of}
 use Rattle.protocol.specs.Phases.{label-phase, flush-phase, change-phases, create-phases}
+use Rattle.protocol.specs.Pairs.{no-sets}
 use Rattle.codecs.specs.Sector.{Sector, zeros}
 use Rattle.codecs.specs.Shelf.{Shelf, slots, size}
 use Rattle.codecs.specs.Labels.{labelOf, encodeLabel, labels}
 use Rattle.codecs.specs.Records.{records}
 use Rattle.codecs.specs.Media.{stamps}
-use Rattle.shards.specs.Quorum.{quorum}
-use Rattle.shards.specs.Code.{code}
-use Rattle.shards.specs.Promise.{sectors}
+use Rattle.shards.specs.Even.{any-code, any-sectors}
 use Rattle.shelf.specs.Limits.{mostStages}
 use Rattle.shelf.specs.State.{moved}
 use Rattle.shelf.specs.Stage.{roundStage, createStage, stageAt, stageOf}
@@ -96,10 +95,10 @@ module _ (z : Shelf) (s : State) (img : List ℕ) where
         staged i (Give mask 0 l) a refl ∙ ap (λ (r : List (Action Sector)). actsOf z F (Give mask 0 l) 0 0 ++ r) (staged (i + 1) (Flush mask) b refl)
         ∙ round-is l L e (from-stage (i + 1 + 1))
 
-  module _ (more : z .m < z .k) (zero-cursor : s .cursor ≡ record { stage = 0; slot = 0; sector = 0 }) where
+  module _ (zero-cursor : s .cursor ≡ record { stage = 0; slot = 0; sector = 0 }) where
     -- CREATE: all slots are flushed, and the first label goes to all
     pub create-list : s .kind ≡ Creating → Says z (s .marks .present) (λ d. true) → labelOf z (s .next) ≡ new-label (slots z) 1
-        → toDo z s img ≡ flushes (flushed-first (size z) (quorum z more) (labels z) (records z) (code z more) stamps (sectors z more) (beyond (slots z) (λ d. false))) ++ round (labels z) (new-label (slots z) 1) (from 0 (slots z))
+        → toDo z s img ≡ flushes (flushed-first (size z) (no-sets (slots z)) (labels z) (records z) (any-code z) stamps (any-sectors z) (beyond (slots z) (λ d. false))) ++ round (labels z) (new-label (slots z) 1) (from 0 (slots z))
     unfolding createStage roundStage
     create-list kind says label-is =
         let m = s .marks .present in
@@ -109,11 +108,11 @@ module _ (z : Shelf) (s : State) (img : List ℕ) where
         ∙ staged 0 (Flush m) (at 0) refl
         ∙ ap₂ (λ (a l : List (Action Sector)). a ++ l) (flush-is m (λ d. not (beyond (slots z) (λ e. false) d)) present)
         (round-staged m (λ d. true) says 1 (s .next) (new-label (slots z) 1) label-is (at 1) (at 2) ∙ ap (λ (l : List (Action Sector)). actions (batch-of (label-phase (labels z) (records z) (new-label (slots z) 1) (slots z) (λ d. true))) ++ l) (over 3 (ap isEnd (at 3))))
-        ∙ sym (create-phases (size z) (quorum z more) (labels z) (records z) (code z more) stamps (sectors z more) (new-label (slots z) 1) (beyond (slots z) (λ d. false)))
+        ∙ sym (create-phases (size z) (no-sets (slots z)) (labels z) (records z) (any-code z) stamps (any-sectors z) (new-label (slots z) 1) (beyond (slots z) (λ d. false)))
 
     -- A LABEL CHANGE (taking a slot out): the new label to all present slots
     pub change-list : (A : ℕ → Bool) (N : Label) → s .kind ≡ Labelling → Says z (s .marks .present) (λ d. not (A d)) → labelOf z (s .next) ≡ N
-        → toDo z s img ≡ round (labels z) N (told-to (size z) (quorum z more) (labels z) (records z) (code z more) stamps (sectors z more) A)
+        → toDo z s img ≡ round (labels z) N (told-to (size z) (no-sets (slots z)) (labels z) (records z) (any-code z) stamps (any-sectors z) A)
     unfolding roundStage
     change-list A N kind says label-is =
         let m = s .marks .present in
@@ -121,4 +120,4 @@ module _ (z : Shelf) (s : State) (img : List ℕ) where
         begun zero-cursor
         ∙ round-staged m (λ d. not (A d)) says 0 (s .next) N label-is (at 0) (at 1)
         ∙ ap (λ (l : List (Action Sector)). actions (batch-of (label-phase (labels z) (records z) N (slots z) (λ d. not (A d)))) ++ l) (over 2 (ap isEnd (at 2)))
-        ∙ sym (change-phases (size z) (quorum z more) (labels z) (records z) (code z more) stamps (sectors z more) N A)
+        ∙ sym (change-phases (size z) (no-sets (slots z)) (labels z) (records z) (any-code z) stamps (any-sectors z) N A)

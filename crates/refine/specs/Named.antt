@@ -28,17 +28,16 @@ use Rattle.protocol.specs.Decide.{data-place, Touch, Looked, strips-each, redo-
 use Rattle.protocol.specs.Log.{Write}
 use Rattle.protocol.specs.Write.{store}
 use Rattle.protocol.specs.Request.{outed}
-use Rattle.protocol.specs.Program as program
 use Rattle.protocol.specs.Program.{Own, creating, starting, logging, storing, labelling, Memory, nothing, idle, doing, step, new-label, beyond, flushed-first, told-to, asked-create, asked-start, asked-out}
 use Rattle.protocol.specs.Machine.{effect}
+use Rattle.protocol.specs.Even.{program-by}
+use Rattle.protocol.specs.Pairs.{no-sets}
 use Rattle.codecs.specs.Sector.{Sector, zeros}
 use Rattle.codecs.specs.Shelf.{Shelf, slots, geometry, size, few-data, few-parity, short-strip, limits}
 use Rattle.codecs.specs.Labels.{sectorOf, fieldsOf, encodeLabel, ours, labels}
 use Rattle.codecs.specs.Records.{records}
 use Rattle.codecs.specs.Media.{stamps}
-use Rattle.shards.specs.Quorum.{quorum}
-use Rattle.shards.specs.Code.{code}
-use Rattle.shards.specs.Promise.{sectors}
+use Rattle.shards.specs.Even.{any-code, any-sectors}
 use Rattle.refine.specs.Places.{label-inside}
 use Rattle.refine.specs.Places as places
 use Rattle.refine.specs.Disks.{Disks, curOf, cur-read}
@@ -177,37 +176,36 @@ module _ (z : Shelf) where
   leftIn (idle o) = []
   leftIn (doing k l o o') = l
 
-  module _ (more : z .m < z .k) where
-    pub create-names : Names (leftIn (asked-create (size z) (quorum z more) (labels z) (records z) (code z more) stamps (sectors z more)))
-    create-names =
-        let ds = flushed-first (size z) (quorum z more) (labels z) (records z) (code z more) stamps (sectors z more) (beyond (slots z) (λ d. false)) in
-        names-append (flushes ds) (round (labels z) (new-label (slots z) 1) (from 0 (slots z))) (names-flushes ds) (names-round (new-label (slots z) 1) (from 0 (slots z)))
+  pub create-names : Names (leftIn (asked-create (size z) (no-sets (slots z)) (labels z) (records z) (any-code z) stamps (any-sectors z)))
+  create-names =
+      let ds = flushed-first (size z) (no-sets (slots z)) (labels z) (records z) (any-code z) stamps (any-sectors z) (beyond (slots z) (λ d. false)) in
+      names-append (flushes ds) (round (labels z) (new-label (slots z) 1) (from 0 (slots z))) (names-flushes ds) (names-round (new-label (slots z) 1) (from 0 (slots z)))
 
-    pub start-names : (A : ℕ → Bool) (f0 : Image Sector) → Names (leftIn (asked-start (size z) (quorum z more) (labels z) (records z) (code z more) stamps (sectors z more) A f0))
-    start-names A f0 = names-append (flushes (flushed-first (size z) (quorum z more) (labels z) (records z) (code z more) stamps (sectors z more) A)) (startup (size z) (labels z) (records z) A f0) (names-flushes (flushed-first (size z) (quorum z more) (labels z) (records z) (code z more) stamps (sectors z more) A)) (names-startup A f0)
+  pub start-names : (A : ℕ → Bool) (f0 : Image Sector) → Names (leftIn (asked-start (size z) (no-sets (slots z)) (labels z) (records z) (any-code z) stamps (any-sectors z) A f0))
+  start-names A f0 = names-append (flushes (flushed-first (size z) (no-sets (slots z)) (labels z) (records z) (any-code z) stamps (any-sectors z) A)) (startup (size z) (labels z) (records z) A f0) (names-flushes (flushed-first (size z) (no-sets (slots z)) (labels z) (records z) (any-code z) stamps (any-sectors z) A)) (names-startup A f0)
 
-    pub out-names : (o : Own) (d : ℕ) → Names (leftIn (asked-out (size z) (quorum z more) (labels z) (records z) (code z more) stamps (sectors z more) o d))
-    out-names o d = names-round (outed (slots z) (o .now) d) (told-to (size z) (quorum z more) (labels z) (records z) (code z more) stamps (sectors z more) (o .absent))
+  pub out-names : (o : Own) (d : ℕ) → Names (leftIn (asked-out (size z) (no-sets (slots z)) (labels z) (records z) (any-code z) stamps (any-sectors z) o d))
+  out-names o d = names-round (outed (slots z) (o .now) d) (told-to (size z) (no-sets (slots z)) (labels z) (records z) (any-code z) stamps (any-sectors z) (o .absent))
 
-    names-store : (x : Write Sector) (o : Own) → Names (store (records z) (belief (size z) (o .now)) (x .stripe) (x .changes) (x .new))
-    unfolding Touch
-    names-store x o =
-        let B = belief (size z) (o .now) in
-        names-data (Touch B) (Looked B) (λ k t. t .0) (store (records z) B (x .stripe) (x .changes) (x .new)) (strips-each (records z) B (x .stripe) (x .changes) (x .new))
+  names-store : (x : Write Sector) (o : Own) → Names (store (records z) (belief (size z) (o .now)) (x .stripe) (x .changes) (x .new))
+  unfolding Touch
+  names-store x o =
+      let B = belief (size z) (o .now) in
+      names-data (Touch B) (Looked B) (λ k t. t .0) (store (records z) B (x .stripe) (x .changes) (x .new)) (strips-each (records z) B (x .stripe) (x .changes) (x .new))
 
-    -- A STEP
-    pub step-names : (m : Memory Sector) (f : Image Sector) (w : World Sector) → Sane w → Always w (Named z) → Names (leftIn m)
-        → Always (effect w (programOf z more m f step .1)) (Named z) × Names (leftIn (programOf z more m f step .0))
-    unfolding program.program
-    step-names nothing f w sane h n = (h, tt)
-    step-names (idle o) f w sane h n = (h, tt)
-    step-names (doing k (put x v ∷ l) o o') f w sane h n = (always-put (Named z) w x v sane h (λ g. named-put g x v (n .0)), n .1)
-    step-names (doing k (flush d ∷ l) o o') f w sane h n = (always-flush (Named z) w d h, n)
-    step-names (doing creating [] o o') f w sane h n = (h, tt)
-    step-names (doing starting [] o o') f w sane h n = (h, tt)
-    step-names (doing (logging x) [] o o') f w sane h n = (h, names-store x o)
-    step-names (doing (storing x) [] o o') f w sane h n = (h, tt)
-    step-names (doing labelling [] o o') f w sane h n = (h, tt)
+  -- A STEP
+  pub step-names : (m : Memory Sector) (f : Image Sector) (w : World Sector) → Sane w → Always w (Named z) → Names (leftIn m)
+      → Always (effect w (programOf z m f step .1)) (Named z) × Names (leftIn (programOf z m f step .0))
+  unfolding program-by
+  step-names nothing f w sane h n = (h, tt)
+  step-names (idle o) f w sane h n = (h, tt)
+  step-names (doing k (put x v ∷ l) o o') f w sane h n = (always-put (Named z) w x v sane h (λ g. named-put g x v (n .0)), n .1)
+  step-names (doing k (flush d ∷ l) o o') f w sane h n = (always-flush (Named z) w d h, n)
+  step-names (doing creating [] o o') f w sane h n = (h, tt)
+  step-names (doing starting [] o o') f w sane h n = (h, tt)
+  step-names (doing (logging x) [] o o') f w sane h n = (h, names-store x o)
+  step-names (doing (storing x) [] o o') f w sane h n = (h, tt)
+  step-names (doing labelling [] o o') f w sane h n = (h, tt)
 
 -- ---- so the label that a survey goes by is this shelf's
 

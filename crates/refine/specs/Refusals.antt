@@ -2,9 +2,9 @@
 -- other refusals: `start-is` in Rounds.) One refusal is the code's alone, and changes nothing: a disk whose newest label is of
 -- another shelf, which the protocol, to which such a copy is no label, may take for the older copy beside it. Assumes nothing.
 use mathlib.Core.Path.{_≡_, refl, sym, ap, ap₂, _∙_}
-use mathlib.Core.Bool.{Bool, true, false, cond, _&&_, _||_, true≢false, or-true}
+use mathlib.Core.Bool.{Bool, true, false, cond, _&&_, _||_, or-true}
 use mathlib.Core.List.{List}
-use Prim.Native.Nat.{ℕ, _<_}
+use Prim.Native.Nat.{ℕ, zero, suc, _<_}
 use native.Mathlib.Omega.{arith}
 use lib.Dec.{ltb}
 use borrow.Author.Tests.{lt-ltb}
@@ -17,18 +17,25 @@ use Rattle.protocol.specs.World.{Image}
 use Rattle.protocol.specs.Slots.{from, in-from, of-from, every-of, every-all}
 use Rattle.protocol.specs.Label.{Label, copy}
 use Rattle.protocol.specs.Startup.{newest, seen, L, stale, gone, labelled}
-use Rattle.protocol.specs.Program.{NO_LABEL, TOO_FEW, because, left-out, may-start}
+use Rattle.protocol.specs.Program.{NO_LABEL, TOO_FEW, because, left-out}
+use Rattle.protocol.specs.Count.{count}
+use Rattle.protocol.specs.Even.{may-start-by}
+use Rattle.protocol.specs.Pairs.{no-sets}
 use Rattle.codecs.specs.Sector.{Sector}
-use Rattle.codecs.specs.Shelf.{Shelf, slots, geometry, size}
+use Rattle.codecs.specs.Shelf.{Shelf, slots, geometry, size, limits}
 use Rattle.codecs.specs.Labels.{meant, labels}
 use Rattle.codecs.specs.Labels as Labels
 use Rattle.codecs.specs.Records.{records}
 use Rattle.codecs.specs.Media.{stamps}
-use Rattle.shards.specs.Quorum.{fewOf, quorum}
-use Rattle.shards.specs.Code.{code}
-use Rattle.shards.specs.Promise.{sectors}
+use Rattle.shards.specs.Quorum.{fewOf, few-count}
+use Rattle.shards.specs.Even.{any-code, any-sectors}
 use Rattle.refine.specs.Disks.{Disks, image-fits, seenOf}
 use Rattle.refine.specs.Labels.{copy-is}
+
+-- where all pass, all count
+count-all : (p : ℕ → Bool) (n : ℕ) → ((i : ℕ) → i < n → p i ≡ true) → count p n ≡ n
+count-all p zero h = refl
+count-all p (suc n) h = rw (h n (omega arith)) (omega (arith, count-all p n (λ i l. h i (omega arith))))
 
 module _ (z : Shelf) (img : List ℕ) (disks : Disks z img) (absent : ℕ) (A : ℕ → Bool) (are : (d : ℕ) → d < slots z → A d ≡ inMask absent d) where
   abbrev f0 : Image Sector
@@ -69,9 +76,9 @@ module _ (z : Shelf) (img : List ℕ) (disks : Disks z img) (absent : ℕ) (A : 
           ∙ ap₂ (λ (x : Bool) (n : ℕ). x || ltb 0 n) (are d h ∙ e) (seen-none d h e q)
       by false p = refl
 
-  pub no-label : (more : z .m < z .k) (d : ℕ) → d < slots z → inMask absent d ≡ false → diskLabel (geometry z) img d ≡ Nothing
-      → may-start (size z) (quorum z more) (labels z) (records z) (code z more) stamps (sectors z more) A f0 ≡ because NO_LABEL
-  no-label more d h e q = rw (unlabelled d h e q)
+  pub no-label : (d : ℕ) → d < slots z → inMask absent d ≡ false → diskLabel (geometry z) img d ≡ Nothing
+      → may-start-by (size z) (no-sets (slots z)) (labels z) (records z) (any-code z) stamps (any-sectors z) (fewOf z) A f0 ≡ because NO_LABEL
+  no-label d h e q = rw (unlabelled d h e q)
 
   -- where the shelf has no label, no present disk has one
   pub none-at-all : shelfLabel (geometry z) img absent ≡ Nothing → (d : ℕ) → d < slots z → inMask absent d ≡ false → diskLabel (geometry z) img d ≡ Nothing
@@ -87,13 +94,13 @@ module _ (z : Shelf) (img : List ℕ) (disks : Disks z img) (absent : ℕ) (A : 
 
   -- ---- no disk at all
 
-  pub all-absent : (more : z .m < z .k) → ((d : ℕ) → d < slots z → inMask absent d ≡ true)
-      → may-start (size z) (quorum z more) (labels z) (records z) (code z more) stamps (sectors z more) A f0 ≡ because TOO_FEW
+  pub all-absent : ((d : ℕ) → d < slots z → inMask absent d ≡ true)
+      → may-start-by (size z) (no-sets (slots z)) (labels z) (records z) (any-code z) stamps (any-sectors z) (fewOf z) A f0 ≡ because TOO_FEW
   unfolding left-out gone
-  all-absent more h = rw (there, few (fewOf z out) refl)
+  all-absent h = rw (there, few (fewOf z out) refl)
     where
       out : ℕ → Bool
-      out = left-out (size z) (quorum z more) (labels z) (records z) (code z more) stamps (sectors z more) A f0
+      out = left-out (size z) (no-sets (slots z)) (labels z) (records z) (any-code z) stamps (any-sectors z) A f0
 
       there : labelled (size z) (labels z) A f0 ≡ true
       there =
@@ -108,5 +115,5 @@ module _ (z : Shelf) (img : List ℕ) (disks : Disks z img) (absent : ℕ) (A : 
           ∙ or-true (L (size z) (labels z) A f0 .out d)
 
       few : (b : Bool) → fewOf z out ≡ b → fewOf z out ≡ false
-      few true p = let y = quorum z more .meet out out p p in absurd (true≢false (sym (every-out (y .0) (y .1)) ∙ y .2))
+      few true p = absurd (omega (arith, few-count z out p, count-all out (slots z) every-out, limits z .1 .least))
       few false p = p

@@ -21,13 +21,12 @@ use Rattle.label.specs.declared.fields.Label as bytes
 use Rattle.protocol.specs.Label.{Label}
 use Rattle.protocol.specs.Request as protocol
 use Rattle.protocol.specs.Program.{new-label, asked-create, asked-out}
+use Rattle.protocol.specs.Pairs.{no-sets}
 use Rattle.codecs.specs.Shelf.{Shelf, slots, size, few-slots}
 use Rattle.codecs.specs.Labels.{slotMeant, ours, labelOf, labels}
 use Rattle.codecs.specs.Records.{records}
 use Rattle.codecs.specs.Media.{stamps}
-use Rattle.shards.specs.Quorum.{quorum}
-use Rattle.shards.specs.Code.{code}
-use Rattle.shards.specs.Promise.{sectors}
+use Rattle.shards.specs.Even.{any-code, any-sectors}
 use Rattle.shelf.specs.Step.{stepMove}
 use Rattle.shelf.specs.declared.state.State.{State}
 use Rattle.requests.specs.Begun.{workBytes, begun, slotsBut}
@@ -54,7 +53,7 @@ goes (Refused why) s t e = absurd (let z : _≡_ {A = ℕ} 0 1 = cc in omega ari
 pub slots-say : (z : Shelf) (absent : ℕ) → Says z (slotsBut absent (slots z)) (λ d. not (inMask absent d))
 slots-say z absent d l = Slots.slots-are absent (slots z) d ∙ ap (λ (b : Bool). b && not (inMask absent d)) (lt-ltb d (slots z) l)
 
-module _ (z : Shelf) (more : z .m < z .k) (img : List ℕ) (disks : Disks z img) where
+module _ (z : Shelf) (img : List ℕ) (disks : Disks z img) where
   -- ---- create
 
   abbrev first-state : State
@@ -80,13 +79,13 @@ module _ (z : Shelf) (more : z .m < z .k) (img : List ℕ) (disks : Disks z img)
   -- CREATE, accepted on an image of this shelf
   pub create-begins : (s : State) (room : ℕ) → createOf s (z .k) (z .m) (z .c) (z .sectors) (z .number) img room .outcome ≡ Done
       → Fair z (createOf s (z .k) (z .m) (z .c) (z .sectors) (z .number) img room .state) img
-      × (memoryOf z (createOf s (z .k) (z .m) (z .c) (z .sectors) (z .number) img room .state) img ≡ asked-create (size z) (quorum z more) (labels z) (records z) (code z more) stamps (sectors z more))
+      × (memoryOf z (createOf s (z .k) (z .m) (z .c) (z .sectors) (z .number) img room .state) img ≡ asked-create (size z) (no-sets (slots z)) (labels z) (records z) (any-code z) stamps (any-sectors z))
   create-begins s room e =
       let t = createOf s (z .k) (z .m) (z .c) (z .sectors) (z .number) img room .state in
       let q = goes (createAnswer (z .k) (z .m) (z .c) (z .sectors) img room) s first-state e .1 in
       let h = subst Steps q (create-steps s (z .k) (z .m) (z .c) (z .sectors) (z .number) img room e) in
-      subst (λ (x : State). Fair z x img × (memoryOf z x img ≡ asked-create (size z) (quorum z more) (labels z) (records z) (code z more) stamps (sectors z more))) (sym q)
-      (create-fair z first-state img (h .taken) first-ours disks refl (λ d l i. none-in d) (record { same = first-ours; fit = h .next-fits }), create-asked z more first-state img refl refl all-say first-label refl refl refl)
+      subst (λ (x : State). Fair z x img × (memoryOf z x img ≡ asked-create (size z) (no-sets (slots z)) (labels z) (records z) (any-code z) stamps (any-sectors z))) (sym q)
+      (create-fair z first-state img (h .taken) first-ours disks refl (λ d l i. none-in d) (record { same = first-ours; fit = h .next-fits }), create-asked z first-state img refl refl all-say first-label refl refl refl)
 
   -- ---- taking a slot out
 
@@ -142,14 +141,14 @@ module _ (z : Shelf) (more : z .m < z .k) (img : List ℕ) (disks : Disks z img)
     -- TAKING SLOT d OUT, accepted in a state of this shelf
     pub out-begins : (room : ℕ) → takeOutOf s d img room .outcome ≡ Done
         → Fair z (takeOutOf s d img room .state) img
-        × (memoryOf z (takeOutOf s d img room .state) img ≡ asked-out (size z) (quorum z more) (labels z) (records z) (code z more) stamps (sectors z more) (ownOf z s (s .now)) d)
+        × (memoryOf z (takeOutOf s d img room .state) img ≡ asked-out (size z) (no-sets (slots z)) (labels z) (records z) (any-code z) stamps (any-sectors z) (ownOf z s (s .now)) d)
     out-begins room e =
         let p = goes (takeAnswer l (s .kind) (s .absent) img d room) s (tookOut s d) e in
         let h = subst Steps (p .1) (out-steps s d img room e) in
         let there : d < slots z = omega (arith, n-is, take-done l (s .kind) (s .absent) img d room (p .0) .1 .there) in
-        subst (λ (x : State). Fair z x img × (memoryOf z x img ≡ asked-out (size z) (quorum z more) (labels z) (records z) (code z more) stamps (sectors z more) (ownOf z s (s .now)) d)) (sym (p .1)) (
+        subst (λ (x : State). Fair z x img × (memoryOf z x img ≡ asked-out (size z) (no-sets (slots z)) (labels z) (records z) (any-code z) stamps (any-sectors z) (ownOf z s (s .now)) d)) (sym (p .1)) (
           change-fair z (tookOut s d) img (h .taken) own disks refl (λ x i q. not-true (inMask (s .absent) x) (sym (rest-say x i) ∙ q)) (record { same = out-ours; fit = λ x i. h .next-fits x (omega (arith, n-is)) }),
-          out-asked z more (tookOut s d) img refl d refl (λ x i. rest-say x i ∙ sym (ap not (beyond-below (slots z) (s .absent) x i))) (out-label there),
+          out-asked z (tookOut s d) img refl d refl (λ x i. rest-say x i ∙ sym (ap not (beyond-below (slots z) (s .absent) x i))) (out-label there),
         )
 
 -- ---- A STEP, with a work area of the right size, is the program's
@@ -163,5 +162,5 @@ room-fits z s img room fair e =
     let f : fitsImage (geometryOf (s .now)) (length img) ≡ true = ap (λ (x : Geometry). fitsImage x (length img)) g ∙ image-fits z img (fair .disks) in
     step-goes s img room (fair .in-range) (ap₂ (λ (a b : Bool). a && not b) f w)
 
-pub step-with : (z : Shelf) (more : z .m < z .k) (s : State) (img : List ℕ) (room : ℕ) → Fair z s img → room ≡ workBytes (slots z) (z .c) → Tied z more s img (stepWith s img room)
-step-with z more s img room fair e = subst (Tied z more s img) (sym (room-fits z s img room fair e)) (step-tied z more s img fair)
+pub step-with : (z : Shelf) (s : State) (img : List ℕ) (room : ℕ) → Fair z s img → room ≡ workBytes (slots z) (z .c) → Tied z s img (stepWith s img room)
+step-with z s img room fair e = subst (Tied z s img) (sym (room-fits z s img room fair e)) (step-tied z s img fair)

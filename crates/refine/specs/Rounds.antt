@@ -32,17 +32,19 @@ use Rattle.protocol.specs.Label.{Label, again, plainly-out, copy, prep-value}
 use Rattle.protocol.specs.Label as Label
 use Rattle.protocol.specs.Startup.{M, without, next}
 use Rattle.protocol.specs.Startup as Startup
-use Rattle.protocol.specs.Program.{NO_LABEL, TOO_FEW, NOT_NOW, Verdict, first, beyond, left-out, may-start}
+use Rattle.protocol.specs.Program.{NO_LABEL, TOO_FEW, NOT_NOW, Verdict, clear, first, beyond, left-out, may-start}
+use Rattle.protocol.specs.Even.{may-start-by}
+use Rattle.protocol.specs.Pairs.{no-sets}
 use Rattle.codecs.specs.Sector.{Sector, Bytes, zeros}
 use Rattle.codecs.specs.Shelf.{Shelf, slots, geometry, size, few-slots}
 use Rattle.codecs.specs.Labels.{noLabel, labelOf, ours, meant, slotMeant, sideOf, encodeLabel, labels, sector-side}
 use Rattle.codecs.specs.Labels as Labels
 use Rattle.codecs.specs.Records.{records}
 use Rattle.codecs.specs.Media.{stamps, medium}
-use Rattle.shards.specs.Quorum.{fewOf, few-mask, quorum}
-use Rattle.shards.specs.Code.{code}
-use Rattle.shards.specs.Promise.{sectors}
+use Rattle.shards.specs.Quorum.{fewOf, few-mask}
+use Rattle.shards.specs.Even.{any-code, any-sectors}
 use Rattle.refine.specs.Disks.{seenOf}
+use Rattle.refine.specs.Family.{Family, codeIn, sectorsIn}
 use Rattle.refine.specs.Labels.{shelfOf, shelf-ours, named, Led, labelled-is, copy-is, newest-of, seen-of, M-is, L-is}
 
 -- the slot being rebuilt: the same test of a slot, whether n or 255 stands for none
@@ -142,20 +144,19 @@ module _ (z : Shelf) (img : List ℕ) (absent : ℕ) (A : ℕ → Bool) (l : byt
 
   -- ---- whether few enough are out
 
-  module _ (more : z .m < z .k) where
-    abbrev leftOut : ℕ → Bool
-    leftOut = left-out (size z) (quorum z more) (labels z) (records z) (code z more) stamps (sectors z more) A f0
+  abbrev leftOut : ℕ → Bool
+  leftOut = left-out (size z) (no-sets (slots z)) (labels z) (records z) (any-code z) stamps (any-sectors z) A f0
 
-    pub left-out-is : (d : ℕ) → leftOut d ≡ inMask (slotsThat (geometry z) img absent Out l) d
-    unfolding left-out
-    left-out-is d = ap (λ (x : Label). x .out d || goneOf d) (L-is z img absent A l led) ∙ out-is d
+  pub left-out-is : (d : ℕ) → leftOut d ≡ inMask (slotsThat (geometry z) img absent Out l) d
+  unfolding left-out
+  left-out-is d = ap (λ (x : Label). x .out d || goneOf d) (L-is z img absent A l led) ∙ out-is d
 
-    pub few-is : fewOf z leftOut ≡ leb (ones (slotsThat (geometry z) img absent Out l)) (l .m)
-    unfolding slotsThat
-    few-is =
-        ap (fewOf z) (fun-ext left-out-is)
-        ∙ few-mask z (slotsThat (geometry z) img absent Out l) (mask-lt (goesOut (geometry z) img absent l) (slots z))
-        ∙ ap (leb (ones (slotsThat (geometry z) img absent Out l))) (same .same-m)
+  pub few-is : fewOf z leftOut ≡ leb (ones (slotsThat (geometry z) img absent Out l)) (l .m)
+  unfolding slotsThat
+  few-is =
+      ap (fewOf z) (fun-ext left-out-is)
+      ∙ few-mask z (slotsThat (geometry z) img absent Out l) (mask-lt (goesOut (geometry z) img absent l) (slots z))
+      ∙ ap (leb (ones (slotsThat (geometry z) img absent Out l))) (same .same-m)
 
   -- ---- who takes part, and who adopts
 
@@ -263,19 +264,28 @@ module _ (z : Shelf) (img : List ℕ) (absent : ℕ) (A : ℕ → Bool) (l : byt
   abbrev pub verdict : Bool → Bool → Verdict
   verdict few left = first (record { why = TOO_FEW; holds = not few } ∷ record { why = NOT_NOW; holds = not left } ∷ [])
 
-  pub start-is : (more : z .m < z .k)
-      → may-start (size z) (quorum z more) (labels z) (records z) (code z more) stamps (sectors z more) A f0
+  pub start-is : may-start-by (size z) (no-sets (slots z)) (labels z) (records z) (any-code z) stamps (any-sectors z) (fewOf z) A f0
       ≡ verdict (leb (ones (slotsThat (geometry z) img absent Out l)) (l .m)) (leb (l .generation + 2) mostGeneration)
-  unfolding sectors medium
-  start-is more =
+  unfolding any-sectors medium
+  start-is =
       let p = labelled-is z img absent A l led in
-      let q = few-is more in
+      let q = few-is in
       let r : leb (suc after) mostGeneration ≡ leb (l .generation + 2) mostGeneration = ap (λ (x : ℕ). leb x mostGeneration) (let e : suc after ≡ l .generation + 2 = omega (arith, after-is) in e) in
+      λ i. first (record { why = NO_LABEL; holds = not (p i) } ∷ record { why = TOO_FEW; holds = not (q i) } ∷ record { why = NOT_NOW; holds = not (r i) } ∷ [])
+
+  -- START-UP MAY GO ON IN A FAMILY in which the slots lie that go out
+  pub start-in : (F : Family z) → F .sets .few (inMask (slotsThat (geometry z) img absent Out l)) ≡ true → leb (l .generation + 2) mostGeneration ≡ true
+      → may-start (size z) (F .sets) (labels z) (records z) (codeIn z F) stamps (sectorsIn z F) A f0 ≡ clear
+  unfolding any-sectors medium left-out
+  start-in F few left =
+      let p = labelled-is z img absent A l led in
+      let q : F .sets .few leftOut ≡ true = ap (F .sets .few) (fun-ext left-out-is) ∙ few in
+      let r : leb (suc after) mostGeneration ≡ true = ap (λ (x : ℕ). leb x mostGeneration) (let e : suc after ≡ l .generation + 2 = omega (arith, after-is) in e) ∙ left in
       λ i. first (record { why = NO_LABEL; holds = not (p i) } ∷ record { why = TOO_FEW; holds = not (q i) } ∷ record { why = NOT_NOW; holds = not (r i) } ∷ [])
 
 -- ---- FROM A PLAN: the shelf that its label names, and all that is said above of it
 
-geometry-path : (g : Geometry) (l : bytes.Label) → fitsShelf g l ≡ true → geometryOf l ≡ g
+pub geometry-path : (g : Geometry) (l : bytes.Label) → fitsShelf g l ≡ true → geometryOf l ≡ g
 unfolding fitsShelf
 geometry-path g l e =
     let e1 = and-right (eqb (l .k + l .m) (g .n)) _ e in

@@ -25,15 +25,14 @@ use Rattle.protocol.specs.Decide.{in-turn, startup}
 use Rattle.protocol.specs.Redo.{key, lead, tail, redone, forward, marked, kill-batch, redo}
 use Rattle.protocol.specs.Program.{flushed-first}
 use Rattle.protocol.specs.Walk.{prep-walk}
+use Rattle.protocol.specs.Pairs.{no-sets}
 use Rattle.codecs.specs.Sector.{Sector, zeros}
 use Rattle.codecs.specs.Shelf.{Shelf, geometry, size}
 use Rattle.codecs.specs.Shelf as Shelf
 use Rattle.codecs.specs.Labels.{labelOf, sideOf, encodeLabel, labels}
 use Rattle.codecs.specs.Records.{stampIn, stripeIn, changesIn, records}
 use Rattle.codecs.specs.Media.{stamps}
-use Rattle.shards.specs.Quorum.{quorum}
-use Rattle.shards.specs.Code.{code}
-use Rattle.shards.specs.Promise.{sectors}
+use Rattle.shards.specs.Even.{any-code, any-sectors}
 use Rattle.refine.specs.Disks.{Disks, seenOf}
 use Rattle.refine.specs.Labels.{Led, L-is}
 use Rattle.refine.specs.Redo.{Fair, redo-forward, redo-kill}
@@ -132,11 +131,10 @@ module _ (z : Shelf) (img : List ℕ) (absent : ℕ) (A : ℕ → Bool) (l : byt
       ++ (giving z prepIn zeroedIn (again (labelOf z new) (now .generation + 1)) ++ giving z lateIn (λ d. false) (labelOf z new)))))
       ++ redo (records z) (belief (size z) (labelOf z new)) f0)
 
-  pub start-list : (more : z .m < z .k)
-      → flushes (flushed-first (size z) (quorum z more) (labels z) (records z) (code z more) stamps (sectors z more) A) ++ startup (size z) (labels z) (records z) A f0
+  pub start-list : flushes (flushed-first (size z) (no-sets (Shelf.slots z)) (labels z) (records z) (any-code z) stamps (any-sectors z) A) ++ startup (size z) (labels z) (records z) A f0
       ≡ planned l (nextOf (geometry z) img absent l)
   unfolding flushed-first startup in-turn rounds level-to again-to last-to round-batch
-  start-list more =
+  start-list =
       let n = Shelf.slots z in
       let C = labels z in
       let a : slots n (λ d. not (A d)) ≡ slots n (λ d. not (inMask absent d)) = slots-same n (λ d. not (A d)) (λ d. not (inMask absent d)) (λ d h. ap not (led .are d h)) in

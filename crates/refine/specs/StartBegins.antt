@@ -31,13 +31,12 @@ use Rattle.protocol.specs.World.{log}
 use Rattle.protocol.specs.Label.{Label, belief, prepared}
 use Rattle.protocol.specs.Redo as protocol
 use Rattle.protocol.specs.Program.{beyond, mask, asked-start}
+use Rattle.protocol.specs.Pairs.{no-sets}
 use Rattle.codecs.specs.Shelf.{Shelf, slots, geometry, size}
 use Rattle.codecs.specs.Labels.{ours, labelOf, labels}
 use Rattle.codecs.specs.Records.{records}
 use Rattle.codecs.specs.Media.{stamps}
-use Rattle.shards.specs.Quorum.{quorum}
-use Rattle.shards.specs.Code.{code}
-use Rattle.shards.specs.Promise.{sectors}
+use Rattle.shards.specs.Even.{any-code, any-sectors}
 use Rattle.shelf.specs.Step.{sound}
 use Rattle.shelf.specs.declared.state.State.{State}
 use Rattle.shelf.specs.declared.state.Kind.the-variants.{Starting}
@@ -176,14 +175,14 @@ module _ (z : Shelf) (img : List ℕ) (absent : ℕ) (l : bytes.Label) where
       unfolding sound planOf
       taken = both (fitsOf l) _ fit-lead (lt-ltb 0 (l .c) (fits-says l fit-lead .range .some))
 
-      pub start-state : (more : z .m < z .k) → l .generation + 1 ≤ mostGeneration
+      pub start-state : l .generation + 1 ≤ mostGeneration
           → Fair z (started (geometry z) absent p img) img
           × (memoryOf z (started (geometry z) absent p img) img
-          ≡ asked-start (size z) (quorum z more) (labels z) (records z) (code z more) stamps (sectors z more) A (mask (size z) (quorum z more) (labels z) (records z) (code z more) stamps (sectors z more) A (curOf z img)))
+          ≡ asked-start (size z) (no-sets (slots z)) (labels z) (records z) (any-code z) stamps (any-sectors z) A (mask (size z) (no-sets (slots z)) (labels z) (records z) (any-code z) stamps (any-sectors z) A (curOf z img)))
       unfolding planOf
-      start-state more high = (
+      start-state high = (
         start-fair z (started (geometry z) absent p img) img taken (led .own) (led .disks) A starts (λ d i. sym (beyond-below (slots z) absent d i)) own-next fit-next high,
-        start-asked z more (started (geometry z) absent p img) img starts (ap (λ (N : Label). N .generation) settles-is) refl,
+        start-asked z (started (geometry z) absent p img) img starts (ap (λ (N : Label). N .generation) settles-is) refl,
       )
 
 -- an accepted start-up begins with the plan's state
@@ -192,18 +191,18 @@ goes true s t e = refl
 goes false s t e = absurd (let z : _≡_ {A = ℕ} 0 1 = cc in omega arith)
 
 -- START-UP, accepted, where no tail that is looked at under the settled label is garbage
-pub start-begins : (z : Shelf) (more : z .m < z .k) (img : List ℕ) (absent : ℕ) (p : Plan) (led : Led z img absent (beyond (slots z) (inMask absent)) (p .lead))
+pub start-begins : (z : Shelf) (img : List ℕ) (absent : ℕ) (p : Plan) (led : Led z img absent (beyond (slots z) (inMask absent)) (p .lead))
     → surveyOf (geometry z) img absent ≡ survey.Plan p
     → Redo.Fair z (nextOf (geometry z) img absent (p .lead)) img (led .disks) (beyond (slots z) (inMask absent)) (settled-dark z img absent (beyond (slots z) (inMask absent)) (p .lead) led)
     → (s : State) (room : ℕ) → startOf s (geometry z) absent img room .outcome ≡ Done
     → Fair z (startOf s (geometry z) absent img room .state) img
     × (memoryOf z (startOf s (geometry z) absent img room .state) img
-    ≡ asked-start (size z) (quorum z more) (labels z) (records z) (code z more) stamps (sectors z more) (beyond (slots z) (inMask absent)) (mask (size z) (quorum z more) (labels z) (records z) (code z more) stamps (sectors z more) (beyond (slots z) (inMask absent)) (curOf z img)))
-start-begins z more img absent p led e real s room d =
+    ≡ asked-start (size z) (no-sets (slots z)) (labels z) (records z) (any-code z) stamps (any-sectors z) (beyond (slots z) (inMask absent)) (mask (size z) (no-sets (slots z)) (labels z) (records z) (any-code z) stamps (any-sectors z) (beyond (slots z) (inMask absent)) (curOf z img)))
+start-begins z img absent p led e real s room d =
     let g = geometry z in
     let r = survey-grounds g img absent p e in
-    let P : State → Type 0 = λ x. Fair z x img × (memoryOf z x img ≡ asked-start (size z) (quorum z more) (labels z) (records z) (code z more) stamps (sectors z more) (beyond (slots z) (inMask absent)) (mask (size z) (quorum z more) (labels z) (records z) (code z more) stamps (sectors z more) (beyond (slots z) (inMask absent)) (curOf z img))) in
+    let P : State → Type 0 = λ x. Fair z x img × (memoryOf z x img ≡ asked-start (size z) (no-sets (slots z)) (labels z) (records z) (any-code z) stamps (any-sectors z) (beyond (slots z) (inMask absent)) (mask (size z) (no-sets (slots z)) (labels z) (records z) (any-code z) stamps (any-sectors z) (beyond (slots z) (inMask absent)) (curOf z img))) in
     let by : startOf s g absent img room ≡ cond (eqb room (workBytes (slots z) (z .c))) (accepted (started g absent p img)) (refused s BadBuffer) = ap (λ (x : Survey). bySurvey x s g absent img room) e in
     let q : startOf s g absent img room .state ≡ started g absent p img = ap (λ (x : Begun). x .state) by ∙ goes (eqb room (workBytes (slots z) (z .c))) s (started g absent p img) (sym (ap (λ (x : Begun). x .outcome) by) ∙ d) in
     subst P (sym q)
-    (subst (λ (x : Plan). P (started g absent x img)) (sym (r .is)) (start-state z img absent (p .lead) led (subst (Sound g absent) (r .is) (plan-sound g img absent p e)) real more (omega (arith, r .left))))
+    (subst (λ (x : Plan). P (started g absent x img)) (sym (r .is)) (start-state z img absent (p .lead) led (subst (Sound g absent) (r .is) (plan-sound g img absent p e)) real (omega (arith, r .left))))

@@ -24,14 +24,13 @@ use Rattle.protocol.specs.Decide.{settled, startup}
 use Rattle.protocol.specs.Program.{flushed-first}
 use Rattle.protocol.specs.Walk.{append-assoc, batch-of}
 use Rattle.protocol.specs.Phases.{all-of, label-phase, prep-phase, redo-phases, redo-is, start-phases}
+use Rattle.protocol.specs.Pairs.{no-sets}
 use Rattle.codecs.specs.Sector.{Sector, zeros}
 use Rattle.codecs.specs.Shelf.{Shelf, slots, size}
 use Rattle.codecs.specs.Labels.{sideOf, labelOf, encodeLabel, labels}
 use Rattle.codecs.specs.Records.{pieceOf, records}
 use Rattle.codecs.specs.Media.{stamps}
-use Rattle.shards.specs.Quorum.{quorum}
-use Rattle.shards.specs.Code.{code}
-use Rattle.shards.specs.Promise.{sectors}
+use Rattle.shards.specs.Even.{any-code, any-sectors}
 use Rattle.shelf.specs.Stage as Stage
 use Rattle.shelf.specs.Stage.{roundStage, lateStage, startStage, stageAt}
 use Rattle.shelf.specs.Step.{isEnd}
@@ -251,10 +250,9 @@ module _ (z : Shelf) (A : ℕ → Bool) (img : List ℕ) (s : State) (h : Starts
       ∙ prep-is (from-stage z s img 9)
 
   -- START-UP: flushes of all present slots, then what the protocol makes of what it sees
-  pub start-list : (more : z .m < z .k)
-      → toDo z s img ≡ flushes (flushed-first (size z) (quorum z more) (labels z) (records z) (code z more) stamps (sectors z more) A) ++ startup (size z) (labels z) (records z) A f
+  pub start-list : toDo z s img ≡ flushes (flushed-first (size z) (no-sets (slots z)) (labels z) (records z) (any-code z) stamps (any-sectors z) A) ++ startup (size z) (labels z) (records z) A f
   unfolding startStage lateStage roundStage
-  start-list more =
+  start-list =
       let m = s .marks in
       let taking : ℕ → Bool = λ d. not (gone (size z) (labels z) A f d) in
       let l1 = L (size z) (labels z) A f in
@@ -271,4 +269,4 @@ module _ (z : Shelf) (A : ℕ → Bool) (img : List ℕ) (s : State) (h : Starts
       ∙ ap (λ (l : List (Action Sector)). preps ++ l)
       (round-staged z s img (m .late) (adopts z A img) (h .late) 9 (s .next) N (h .next) (at 9) (at 10)
       ∙ ap (λ (l : List (Action Sector)). rounds-of N (adopts z A img) ++ l) log-is)))))
-      ∙ sym (start-phases (size z) (quorum z more) (labels z) (records z) (code z more) stamps (sectors z more) A f)
+      ∙ sym (start-phases (size z) (no-sets (slots z)) (labels z) (records z) (any-code z) stamps (any-sectors z) A f)

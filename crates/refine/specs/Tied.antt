@@ -4,7 +4,7 @@ use mathlib.Core.Path.{_≡_, refl, sym, ap, ap₂, subst, _∙_}
 use mathlib.Core.Logic.{_⊎_, inl, inr}
 use mathlib.Core.Bool.{true, false≢true}
 use mathlib.Core.List.{List, [], _∷_}
-use Prim.Native.Nat.{ℕ, _<_}
+use Prim.Native.Nat.{ℕ}
 use Rattle.disk.specs.Mask.{inMask}
 use Rattle.disk.specs.Tests.{and-left, and-right}
 use Rattle.label.specs.Fields.{fitsOf}
@@ -13,14 +13,12 @@ use Rattle.protocol.specs.World.{slot, Image, update, World, Action, put, flush
 use Rattle.protocol.specs.Program as program
 use Rattle.protocol.specs.Program.{Own, Memory, nothing, idle, doing, creating, starting, labelling, Reply, accepted, refused, did, safe, done, block, found, step, beyond}
 use Rattle.protocol.specs.Machine.{effect}
+use Rattle.protocol.specs.Even.{program-by}
 use Rattle.codecs.specs.Sector.{Sector}
-use Rattle.codecs.specs.Shelf.{Shelf, slots, size}
-use Rattle.codecs.specs.Labels.{labelOf, labels}
-use Rattle.codecs.specs.Records.{stampNumber, records}
-use Rattle.codecs.specs.Media.{stamps}
-use Rattle.shards.specs.Quorum.{quorum}
-use Rattle.shards.specs.Code.{code}
-use Rattle.shards.specs.Promise.{sectors}
+use Rattle.codecs.specs.Shelf.{Shelf, slots}
+use Rattle.codecs.specs.Labels.{labelOf}
+use Rattle.codecs.specs.Records.{stampNumber}
+use Rattle.shards.specs.Even.{shelf-program}
 use Rattle.shelf.specs.State.{moved}
 use Rattle.shelf.specs.Act.{Move}
 use Rattle.shelf.specs.Step.{finished, underWay, sound, stepMove}
@@ -64,9 +62,9 @@ Same z a (done k) = a ≡ answer.Done
 Same z a (block b) = ⊥
 Same z a (found x) = ⊥
 
-module _ (z : Shelf) (more : z .m < z .k) where
+module _ (z : Shelf) where
   abbrev pub programOf : Memory Sector → Image Sector → program.Input Sector → Memory Sector × Reply Sector
-  programOf = program.program (size z) (quorum z more) (labels z) (records z) (code z more) stamps (sectors z more)
+  programOf = shelf-program z
 
   -- the program, asked for a step, remembers what it has to beside the state that the move leaves, answers the same, and acts as the move does; the label to be settled stays
   pub record Tied (s : State) (img : List ℕ) (m : Move) : Type 1 where
@@ -80,7 +78,7 @@ module _ (z : Shelf) (more : z .m < z .k) where
   module _ (s : State) (img : List ℕ) where
     -- a step with an action left
     steps-on : (k : Kind) → underWay k ≡ true → (a : Action Sector) (l : List (Action Sector)) → programOf (memoryBy k z s (a ∷ l)) (curOf z img) step ≡ (memoryBy k z s l, did a)
-    unfolding program.program
+    unfolding program-by
     steps-on Nothing e a l = absurd (false≢true e)
     steps-on Idle e a l = absurd (false≢true e)
     steps-on Creating e a l = refl
@@ -89,7 +87,7 @@ module _ (z : Shelf) (more : z .m < z .k) where
 
     -- and with none
     ends : (k : Kind) → underWay k ≡ true → (r : Reply Sector) × (programOf (memoryBy k z s []) (curOf z img) step ≡ (idle (ownOf z s (s .next)), r)) × ((a : Answer) → a ≡ answer.Done → Same z a r) × ((w : World Sector) → effect w r ≡ w)
-    unfolding program.program
+    unfolding program-by
     ends Nothing e = absurd (false≢true e)
     ends Idle e = absurd (false≢true e)
     ends Creating e = (done creating, refl, (λ a q. q), (λ w. refl))

@@ -20,7 +20,7 @@ use Rattle.label.specs.declared.fields.Label.{Label}
 use Rattle.requests.specs.Begun.{workBytes, accepted, refused, begun, first}
 use Rattle.requests.specs.Ready.{isIdle, hasShelf, holding, readyOf}
 use Rattle.requests.specs.Create.{shelfFits, createAnswer}
-use Rattle.requests.specs.TakeOut.{outWith, plainlyOut, outAnswer}
+use Rattle.requests.specs.TakeOut.{outWith, outNow, outAnswer}
 use Rattle.shelf.specs.declared.state.State.{State}
 use Rattle.shelf.specs.declared.state.Kind.{Kind}
 
@@ -91,40 +91,40 @@ module _ (l : Label) (d : ℕ) where
   pub few-in : (x y : ℕ) → x ≡ ones y → y ≡ outWith l d → x ≤ l .m → ltb (l .m) (ones (outWith l d)) ≡ false
   few-in x y p q h = le-ltb (l .m) (ones (outWith l d)) (omega (arith, p ∙ ap ones q))
 
-module _ (l : Label) (idle : Bool) (d room : ℕ) where
+module _ (l : Label) (idle : Bool) (absent d room : ℕ) where
   abbrev pub Few : Bool → Type 0
   Few b = ltb (l .m) (ones (outWith l d)) ≡ b
 
   abbrev pub Past : Bool → Type 0
   Past b = leb (l .k + l .m) d ≡ b
 
-  pub out-few : Few true → Refused TooFew ≡ outAnswer l idle d room
+  pub out-few : Few true → Refused TooFew ≡ outAnswer l idle absent d room
   unfolding outAnswer
   out-few a = simp a
 
-  pub out-block : Few false → Past true → Refused BadBlock ≡ outAnswer l idle d room
+  pub out-block : Few false → Past true → Refused BadBlock ≡ outAnswer l idle absent d room
   unfolding outAnswer
   out-block a b = simp (a, b)
 
-  pub out-busy : Few false → Past false → idle ≡ false → Refused Busy ≡ outAnswer l idle d room
+  pub out-busy : Few false → Past false → idle ≡ false → Refused Busy ≡ outAnswer l idle absent d room
   unfolding outAnswer
   out-busy a b i = simp (a, b, i)
 
-  pub out-plain : Few false → Past false → idle ≡ true → plainlyOut l d ≡ true → Refused NotNow ≡ outAnswer l idle d room
+  pub out-plain : Few false → Past false → idle ≡ true → outNow l absent d ≡ true → Refused NotNow ≡ outAnswer l idle absent d room
   unfolding outAnswer
   out-plain a b i p = simp (a, b, i, p)
 
-  pub out-last : Few false → Past false → idle ≡ true → plainlyOut l d ≡ false → ltb mostGeneration (l .generation + 1) ≡ true
-      → Refused NotNow ≡ outAnswer l idle d room
+  pub out-last : Few false → Past false → idle ≡ true → outNow l absent d ≡ false → ltb mostGeneration (l .generation + 1) ≡ true
+      → Refused NotNow ≡ outAnswer l idle absent d room
   unfolding outAnswer
   out-last a b i p g = simp (a, b, i, p, g)
 
-  pub out-room : Few false → Past false → idle ≡ true → plainlyOut l d ≡ false → ltb mostGeneration (l .generation + 1) ≡ false
-      → eqb room (workBytes (l .k + l .m) (l .c)) ≡ false → Refused BadBuffer ≡ outAnswer l idle d room
+  pub out-room : Few false → Past false → idle ≡ true → outNow l absent d ≡ false → ltb mostGeneration (l .generation + 1) ≡ false
+      → eqb room (workBytes (l .k + l .m) (l .c)) ≡ false → Refused BadBuffer ≡ outAnswer l idle absent d room
   unfolding outAnswer
   out-room a b i p g w = simp (a, b, i, p, g, w)
 
-  pub out-goes : Few false → Past false → idle ≡ true → plainlyOut l d ≡ false → ltb mostGeneration (l .generation + 1) ≡ false
-      → eqb room (workBytes (l .k + l .m) (l .c)) ≡ true → Done ≡ outAnswer l idle d room
+  pub out-goes : Few false → Past false → idle ≡ true → outNow l absent d ≡ false → ltb mostGeneration (l .generation + 1) ≡ false
+      → eqb room (workBytes (l .k + l .m) (l .c)) ≡ true → Done ≡ outAnswer l idle absent d room
   unfolding outAnswer
   out-goes a b i p g w = simp (a, b, i, p, g, w)

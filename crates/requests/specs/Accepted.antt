@@ -1,7 +1,7 @@
 -- A refusal leaves the state. What is accepted begins with a state that the steps take, and with labels that can be written on
 -- every slot, so that no step is refused for them. Assumes nothing.
 use mathlib.Core.Path.{_≡_, refl, sym, ap, _∙_}
-use mathlib.Core.Bool.{Bool, true, false, cond, not, _&&_, _||_}
+use mathlib.Core.Bool.{Bool, true, false, cond, not, _&&_, _||_, true≢false}
 use mathlib.Core.List.{List}
 use Prim.Native.Nat.{ℕ, _+_, _≤_, _<_, _^_}
 use native.Mathlib.Omega.{arith}
@@ -29,7 +29,7 @@ use Rattle.shelf.specs.Step.{sound}
 use Rattle.requests.specs.Begun.{workBytes, begun, first}
 use Rattle.requests.specs.Ready.{isNothing, isIdle, hasShelf, readyOf}
 use Rattle.requests.specs.Create.{shardsFit, shelfFits, createAnswer, firstLabel, created, createOf}
-use Rattle.requests.specs.TakeOut.{outWith, plainlyOut, outAnswer, takeAnswer, nextLabel, outed, tookOut, takeOutOf}
+use Rattle.requests.specs.TakeOut.{outWith, plainlyOut, outNow, outAnswer, takeAnswer, nextLabel, outed, tookOut, takeOutOf}
 use Rattle.shelf.specs.declared.state.State.{State}
 use Rattle.shelf.specs.declared.state.Kind.{Kind}
 
@@ -107,35 +107,41 @@ pub ready-done : (l : Label) (kind : Kind) (absent : ℕ) (img : List ℕ) → r
 unfolding readyOf
 ready-done l kind absent img e = has-fits l kind (passed (hasShelf l kind) _ NotNow e .0)
 
--- take out goes on: a slot of the shelf, at most m out then, nothing under way, and a generation is left
-pub record Goes (l : Label) (idle : Bool) (d : ℕ) : Type 0 where
+-- take out goes on: a slot of the shelf that is present and not plainly out, at most m out then, nothing under way, and a generation is left
+pub record Goes (l : Label) (idle : Bool) (absent d : ℕ) : Type 0 where
   pub few : ones (outWith l d) ≤ l .m
   pub there : d < l .k + l .m
   pub at-rest : idle ≡ true
+  pub here : inMask absent d ≡ false
   pub not-plain : plainlyOut l d ≡ false
   pub more : l .generation < mostGeneration
 
-pub out-done : (l : Label) (idle : Bool) (d room : ℕ) → outAnswer l idle d room ≡ Done → Goes l idle d
-unfolding outAnswer
-out-done l idle d room e =
+out-neither : (a b : Bool) → (a || b) ≡ false → (a ≡ false) × (b ≡ false)
+out-neither true b e = absurd (true≢false e)
+out-neither false b e = (refl, e)
+
+pub out-done : (l : Label) (idle : Bool) (absent d room : ℕ) → outAnswer l idle absent d room ≡ Done → Goes l idle absent d
+unfolding outAnswer outNow
+out-done l idle absent d room e =
     let p1 = spared (ltb (l .m) (ones (outWith l d))) _ TooFew e in
     let p2 = spared (leb (l .k + l .m) d) _ BadBlock (p1 .1) in
     let p3 = passed idle _ Busy (p2 .1) in
-    let p4 = spared (plainlyOut l d) _ NotNow (p3 .1) in
+    let p4 = spared (outNow l absent d) _ NotNow (p3 .1) in
     let p5 = spared (ltb mostGeneration (l .generation + 1)) _ NotNow (p4 .1) in
     record {
       few = ltb-false _ _ (p1 .0);
       there = leb-false _ _ (p2 .0);
       at-rest = p3 .0;
-      not-plain = p4 .0;
+      here = out-neither (inMask absent d) (plainlyOut l d) (p4 .0) .0;
+      not-plain = out-neither (inMask absent d) (plainlyOut l d) (p4 .0) .1;
       more = omega (arith, ltb-false mostGeneration (l .generation + 1) (p5 .0));
     }
 
 pub take-done : (l : Label) (kind : Kind) (absent : ℕ) (img : List ℕ) (d room : ℕ) → takeAnswer l kind absent img d room ≡ Done
-    → (fitsOf l ≡ true) × Goes l (isIdle kind) d
+    → (fitsOf l ≡ true) × Goes l (isIdle kind) absent d
 take-done l kind absent img d room e =
-    let p = first-done (readyOf l kind absent img) (outAnswer l (isIdle kind) d room) e in
-    (ready-done l kind absent img (p .0), out-done l (isIdle kind) d room (p .1))
+    let p = first-done (readyOf l kind absent img) (outAnswer l (isIdle kind) absent d room) e in
+    (ready-done l kind absent img (p .0), out-done l (isIdle kind) absent d room (p .1))
 
 -- ---- labels that can be written
 
@@ -259,7 +265,7 @@ create-steps s k m c S shelf img room =
     let r = shelf-range k m c S (length img) p in
     created-steps k m c S shelf (first-fits k m c S shelf (shelf-shards k m c S (length img) p) r) (in-range (record { n = k + m; c = c; sectors = S }) r .some))
 
-taken-steps : (s : State) (d : ℕ) → fitsOf (s .now) ≡ true → Goes (s .now) (isIdle (s .kind)) d → Steps (tookOut s d)
+taken-steps : (s : State) (d : ℕ) → fitsOf (s .now) ≡ true → Goes (s .now) (isIdle (s .kind)) (s .absent) d → Steps (tookOut s d)
 unfolding sound
 taken-steps s d e g =
     record {

@@ -26,19 +26,23 @@ outWith l d = cond (ltb d (l .k + l .m)) (withSlot (l .out) d) (l .out)
 unfoldable pub plainlyOut : Label → ℕ → Bool
 plainlyOut l d = not (eqb (l .rebuilding) d) && inMask (l .out) d
 
--- more than m slots out after the change: TOO_FEW; no such slot: BAD_BLOCK; a request under way: BUSY; plainly out already, or no
--- generation left: NOT_NOW; another work area: BAD_BUFFER
-unfoldable pub outAnswer : Label → Bool → ℕ → ℕ → Outcome
-outAnswer l idle d room =
+-- there is nothing to take out of slot d: it is absent, or plainly out
+unfoldable pub outNow : Label → ℕ → ℕ → Bool
+outNow l absent d = inMask absent d || plainlyOut l d
+
+-- more than m slots out after the change: TOO_FEW; no such slot: BAD_BLOCK; a request under way: BUSY; absent or plainly out already,
+-- or no generation left: NOT_NOW; another work area: BAD_BUFFER
+unfoldable pub outAnswer : Label → Bool → ℕ → ℕ → ℕ → Outcome
+outAnswer l idle absent d room =
     cond (ltb (l .m) (ones (outWith l d))) (Refused TooFew)
     (cond (leb (l .k + l .m) d) (Refused BadBlock)
     (cond idle
-    (cond (plainlyOut l d) (Refused NotNow)
+    (cond (outNow l absent d) (Refused NotNow)
     (cond (ltb mostGeneration (l .generation + 1)) (Refused NotNow) (cond (eqb room (workBytes (l .k + l .m) (l .c))) Done (Refused BadBuffer)))) (Refused Busy)))
 
 -- what every changing request is refused for comes first
 abbrev pub takeAnswer : Label → Kind → ℕ → List ℕ → ℕ → ℕ → Outcome
-takeAnswer l kind absent img d room = first (readyOf l kind absent img) (outAnswer l (isIdle kind) d room)
+takeAnswer l kind absent img d room = first (readyOf l kind absent img) (outAnswer l (isIdle kind) absent d room)
 
 -- the label of the next generation, with these changes
 abbrev pub nextLabel : Label → ℕ → ℕ → ℕ → Label

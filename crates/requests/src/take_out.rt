@@ -21,7 +21,7 @@ ghost use mathlib.Core.Bool.{true};
 ghost use Prim.Native.Nat.{_+_, _<_};
 ghost use Rattle.disk.specs.Limits.{maskBits};
 ghost use Rattle.label.specs.Fields.{mostGeneration, fitsOf};
-ghost use Rattle.requests.specs.TakeOut.{outWith, plainlyOut, outAnswer, takeAnswer, nextLabel, outed, tookOut, takeOutOf};
+ghost use Rattle.requests.specs.TakeOut.{outWith, plainlyOut, outNow, outAnswer, takeAnswer, nextLabel, outed, tookOut, takeOutOf};
 
 // The slots that are out after the change; a number that no slot has changes nothing.
 fn out_with(l: Label, d: usize) -> u64
@@ -44,10 +44,20 @@ fn plainly_out(l: Label, d: usize) -> bool
     has(l.out, d)
 }
 
+// Whether there is nothing to take out of slot d: it is absent, or plainly out.
+fn out_now(l: Label, absent: u64, d: usize) -> bool
+    ensures { λ r. ⌜ r ≡ outNow l absent d ⌝ }
+{
+    if has(absent, d) {
+        return true;
+    }
+    plainly_out(l, d)
+}
+
 // The first refusal that applies, on a shelf that is started. idle: no request is under way.
-fn out_answer(l: Label, idle: bool, slot: usize, room: usize) -> Outcome
+fn out_answer(l: Label, idle: bool, absent: u64, slot: usize, room: usize) -> Outcome
     requires { ⌜ fitsOf l ≡ true ⌝ }
-    ensures { λ r. ⌜ r ≡ outAnswer l idle slot room ⌝ }
+    ensures { λ r. ⌜ r ≡ outAnswer l idle absent slot room ⌝ }
 {
     let n = l.k + l.m;
     if l.m < count(out_with(l, slot)) as usize {
@@ -59,7 +69,7 @@ fn out_answer(l: Label, idle: bool, slot: usize, room: usize) -> Outcome
     if !idle {
         return Outcome::Refused(Refusal::Busy);
     }
-    if plainly_out(l, slot) {
+    if out_now(l, absent, slot) {
         return Outcome::Refused(Refusal::NotNow);
     }
     if MOST_GENERATION < l.generation + 1 {
@@ -78,7 +88,7 @@ fn take_answer(l: Label, kind: Kind, absent: u64, image: &[u8], slot: usize, roo
     let answer = ready(l, kind, absent, image);
     match answer {
         Outcome::Refused(why) => Outcome::Refused(why),
-        Outcome::Done => out_answer(l, is_idle(kind), slot, room),
+        Outcome::Done => out_answer(l, is_idle(kind), absent, slot, room),
     }
 }
 
@@ -139,7 +149,7 @@ fn taken_out(s: State, slot: usize) -> State
 
 // Begins to take a slot out. Refused, in this order: no shelf is started NOT_NOW; another image BAD_IMAGE; a present disk whose
 // label is not the state's NO_LABEL; more than m slots out after the change TOO_FEW; no such slot BAD_BLOCK; a request under way
-// BUSY; the slot is plainly out, or no generation is left, NOT_NOW; another work area BAD_BUFFER.
+// BUSY; the slot is absent or plainly out, or no generation is left, NOT_NOW; another work area BAD_BUFFER.
 pub fn take_out(s: State, slot: usize, image: &[u8], room: usize) -> Begun
     ensures { λ r. ⌜ r ≡ takeOutOf s slot (now (image .entry)) room ⌝ }
 {

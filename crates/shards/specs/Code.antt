@@ -20,9 +20,10 @@ use Rattle.protocol.specs.Count.{count}
 use Rattle.protocol.specs.Host.{Blocks, set-block, Finding, all-sound, accused, several, Code}
 use Rattle.codecs.specs.Sector.{Sector, zeros}
 use Rattle.codecs.specs.Shelf.{Shelf, slots, geometry, some-slots}
-use Rattle.shards.specs.Search.{all, all-of, some, first}
+use Rattle.position.specs.Search.{all, all-of, some, first}
 use Rattle.shards.specs.Quorum.{fewOf, few-count, quorum, count-shards, broad-shards}
-use Rattle.shards.specs.Position.{holds, holds-is, holds-same, ascending, ascending-has, ascending-length, filled, filled-bytes, filled-back}
+use Rattle.shards.specs.Counted.{ascending-length}
+use Rattle.position.specs.Position.{holds, holds-is, holds-same, ascending, ascending-has, filled, filled-bytes, filled-back}
 use Rattle.shards.specs.Parity.{byte, byte-small, sector-ext, sectorOf, byte-of, parityOfSectors, rowOf, shardSector, data-sector, parity-zeros, shard-ext, sectors-hold}
 
 -- ---- the definitions

@@ -17,9 +17,9 @@ use Rattle.protocol.specs.Count.{count}
 use Rattle.protocol.specs.Host.{accused, several}
 use Rattle.codecs.specs.Sector.{Sector}
 use Rattle.codecs.specs.Shelf.{Shelf, slots, some-slots}
-use Rattle.shards.specs.Search.{all, all-at, all-of, some, some-of, first, first-is, first-lt}
+use Rattle.position.specs.Search.{all, all-at, all-of, some, some-of, first, first-is, first-lt}
 use Rattle.shards.specs.Quorum.{fewOf, count-none, count-one}
-use Rattle.shards.specs.Position.{holds, holds-true, holds-is, holds-same, padded, filled-off, filled-is, filled-blind}
+use Rattle.position.specs.Position.{holds, holds-true, holds-is, holds-same, padded, filled-off, filled-is, filled-blind}
 use Rattle.shards.specs.Parity.{byte, sector-ext}
 use Rattle.shards.specs.Code.{position, position-bytes, missingOf, missing-few, missing-has, in-range, blocksFrom, blocks-byte, soundIn, mendedBy, oneMends, scrubOf}
 

@@ -1,7 +1,6 @@
 -- A shelf's code as the protocol asks for it: sectors of parity, few slots, and what the strips give back.
-pub mod Search
 pub mod Quorum
-pub mod Position
+pub mod Counted
 pub mod Parity
 pub mod Code
 pub mod Exact

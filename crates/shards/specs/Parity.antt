@@ -2,7 +2,6 @@
 -- bytes are one. Assumes nothing.
 use mathlib.Core.Path.{_≡_, refl, sym, ap, _∙_}
 use mathlib.Core.Bool.{Bool, true, false, cond}
-use mathlib.Core.List.{List, [], _∷_}
 use Prim.Native.Nat.{ℕ, zero, suc, _+_, _-_, _<_}
 use native.Mathlib.Omega.{arith}
 use lib.Dec.{ltb, lit<}
@@ -16,7 +15,8 @@ use Rattle.codeword.specs.Sum.{total-byte, total-zero}
 use Rattle.codeword.specs.Stripe.{coef, parityOf, Holds}
 use Rattle.protocol.specs.Host.{Blocks}
 use Rattle.codecs.specs.Sector.{Sector, Bytes, sector-path, zeros}
-use Rattle.shards.specs.Position.{parity-ext}
+use Rattle.position.specs.Row.{listed, listed-length, listed-at}
+use Rattle.position.specs.Position.{parity-ext}
 
 -- ---- a sector from its bytes
 
@@ -29,22 +29,6 @@ byte-small x p = x .small p
 
 pub sector-ext : (x y : Sector) → ((p : ℕ) → p < sectorBytes → byte x p ≡ byte y p) → x ≡ y
 sector-ext x y e = sector-path x y (ext-getD 0 (x .bytes) (y .bytes) (x .whole ∙ sym (y .whole)) (λ p h. e p (omega (arith, x .whole))))
-
--- f 0, f 1, .. f (n - 1)
-listed : ℕ → (ℕ → ℕ) → List ℕ
-listed zero f = []
-listed (suc n) f = f 0 ∷ listed n (λ i. f (suc i))
-
-listed-length : (n : ℕ) (f : ℕ → ℕ) → length (listed n f) ≡ n
-unfolding listed
-listed-length zero f = refl
-listed-length (suc n) f = ap suc (listed-length n (λ i. f (suc i)))
-
-listed-at : (n : ℕ) (f : ℕ → ℕ) (i : ℕ) → i < n → getD (listed n f) i 0 ≡ f i
-unfolding listed
-listed-at zero f i h = absurd (omega arith)
-listed-at (suc n) f zero h = refl
-listed-at (suc n) f (suc i) h = listed-at n (λ i. f (suc i)) i (omega arith)
 
 listed-bytes : (n : ℕ) (f : ℕ → ℕ) → ((i : ℕ) → f i < 256) → Bytes (listed n f)
 unfolding listed Bytes

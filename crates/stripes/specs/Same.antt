@@ -22,7 +22,6 @@ use Rattle.codeword.specs.Laid.{holds-ext}
 use Rattle.codeword.specs.Mend.{put}
 use Rattle.code.specs.Shape.{shardsOf, rebuildAnswer}
 use Rattle.code.specs.Lists.{below-or-not}
-use Rattle.code.specs.Padded.{padded as lookedPast}
 use Rattle.code.specs.Stripes.{Encoded, Rebuilt, Accuses, Says}
 use Rattle.code.specs.declared.Verdict.{Verdict}
 use Rattle.code.specs.declared.Verdict.the-variants as verdict
@@ -30,18 +29,14 @@ use Rattle.protocol.specs.Host.{Blocks, Finding, all-sound, accused, several}
 use Rattle.codecs.specs.Sector.{Sector}
 use Rattle.codecs.specs.Shelf.{Shelf, slots}
 use Rattle.shards.specs.Quorum.{fewOf}
-use Rattle.shards.specs.Search.{some, some-of, first, first-is, first-lt}
-use Rattle.shards.specs.Position.{holds, holds-true, holds-is, padded, padded-off, parity-ext}
+use Rattle.position.specs.Search.{some, some-of, first, first-is, first-lt}
+use Rattle.position.specs.Position.{holds, holds-true, holds-is, padded-off, parity-ext}
+use Rattle.position.specs.Rebuild.{same-padding}
 use Rattle.shards.specs.Parity.{byte, shardSector, data-sector, sectors-hold}
 use Rattle.shards.specs.Code.{position, missingOf, missing-few, missing-has, blocksFrom, shard-there, scrub-holds, code}
 use Rattle.shards.specs.Exact as Exact
 use Rattle.shards.specs.Exact.{Blames, scrub-accuses, scrub-several, blocks-there, blocks-found}
 use Rattle.stripes.specs.Slice.{shardBytes, laidOut, each-byte, within, laid-length, laid-position, laid-sector, laid-only, slice-shape, sector-byte, sector-is, missing-shards}
-
--- the shards that a rebuild doesn't look at are the same in both
-pub same-padding : (k m : ℕ) (missing : List ℕ) → lookedPast k m missing ≡ padded k m missing
-unfolding padded lookedPast
-same-padding k m missing = refl
 
 -- ---- READ
 

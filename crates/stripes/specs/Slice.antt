@@ -1,58 +1,30 @@
 -- A stripe of a shelf as one slice: its shards one behind the other, as the functions on a stripe take them. Assumes nothing.
-use mathlib.Core.Path.{_≡_, refl, sym, ap, ap₂, _∙_, subst}
-use mathlib.Core.Bool.{Bool, true, false, cond, not, _&&_, true≢false}
-use mathlib.Core.List.{List, [], _∷_, _++_, append-nil}
-use mathlib.Core.Logic.{⊎-elim}
-use Prim.Native.Nat.{ℕ, zero, suc, _+_, _*_, _/_, _%_, _≤_, _<_}
-use native.Mathlib.Nat.{zero-mul, suc-mul, mul-assoc, div-add-mod', div-lt-iff-lt-mul, mod-lt, eq-or-lt-of-le, le-of-suc-le-suc}
+use mathlib.Core.Path.{_≡_, sym, ap, _∙_, subst}
+use mathlib.Core.Bool.{Bool, true}
+use mathlib.Core.List.{List}
+use Prim.Native.Nat.{ℕ, _+_, _*_, _/_, _%_, _≤_, _<_}
+use native.Mathlib.Nat.{mul-assoc, div-add-mod', div-lt-iff-lt-mul, mod-lt}
 use native.Mathlib.Omega.{arith}
 use lib.Arith.{digits-lt}
-use lib.Dec.{eqb, ltb}
-use lib.ListN.{length, getD, take, drop, length-append, length-drop, List·getD-append}
-use lib.Seq.{getD-take, getD-drop, getD-append-add, length-take-le, ext-getD}
-use borrow.Author.Tests.{le-leb, eq-eqb, ne-eqb, eqb-false, lt-ltb, not-true}
+use lib.ListN.{length, getD, take, drop, length-drop}
+use lib.Seq.{getD-take, getD-drop, length-take-le, ext-getD}
+use borrow.Author.Tests.{le-leb, eq-eqb}
 use Rattle.disk.specs.Limits.{sectorBytes}
 use Rattle.disk.specs.Geometry.{slotOf}
 use Rattle.disk.specs.Image.{place, sector}
 use Rattle.record.specs.Log.{part}
-use Rattle.codeword.specs.Stripe.{kLeast, kMost, mLeast, mMost, lenMost, byteAt, has}
-use Rattle.codeword.specs.Named.{has-append}
+use Rattle.codeword.specs.Stripe.{kLeast, kMost, mLeast, mMost, lenMost, byteAt}
 use Rattle.code.specs.Shape.{shapedOf, shardsOf}
 use Rattle.code.specs.Lost.{Lost}
-use Rattle.code.specs.Lists.{and-left, and-right, shards-lost}
+use Rattle.code.specs.Lists.{shards-lost}
 use Rattle.codecs.specs.Sector.{Sector}
 use Rattle.codecs.specs.Shelf.{Shelf, slots, short-strip, some-sectors}
 use Rattle.codecs.specs.Records.{stripBytes, length-strip, strip-part}
 use Rattle.shards.specs.Quorum.{fewOf}
-use Rattle.shards.specs.Position.{ascending, ascending-past}
+use Rattle.position.specs.Row.{inRow, row-length, row-at}
+use Rattle.position.specs.Lists.{ascending-shards}
 use Rattle.shards.specs.Parity.{byte}
 use Rattle.shards.specs.Code.{position, missingOf, missing-few, in-range}
-
--- ---- lists of one length, one behind the other
-
-abbrev pub inRow : ℕ → (ℕ → List ℕ) → List ℕ
-inRow zero f = []
-inRow (suc n) f = inRow n f ++ f n
-
-module _ (w : ℕ) (f : ℕ → List ℕ) (h : (i : ℕ) → length (f i) ≡ w) where
-  row-length : (n : ℕ) → length (inRow n f) ≡ n * w
-  row-length zero = sym (zero-mul w)
-  row-length (suc n) = length-append (inRow n f) (f n) ∙ ap₂ (λ (x y : ℕ). x + y) (row-length n) (h n) ∙ sym (suc-mul n w)
-
-  row-at : (n i p : ℕ) → i < n → p < w → getD (inRow n f) (i * w + p) 0 ≡ getD (f i) p 0
-  row-at zero i p l hp = absurd (omega arith)
-  row-at (suc n) i p l hp =
-      ⊎-elim (λ (e : i ≡ n). last e) (λ (g : i < n). before g ∙ row-at n i p g hp) (eq-or-lt-of-le (le-of-suc-le-suc l))
-    where
-      last : i ≡ n → getD (inRow n f ++ f n) (i * w + p) 0 ≡ getD (f i) p 0
-      last e =
-          ap (λ (i : ℕ). getD (inRow n f ++ f n) (i * w + p) 0) e ∙ ap (λ (k : ℕ). getD (inRow n f ++ f n) (k + p) 0) (sym (row-length n))
-          ∙ getD-append-add (inRow n f) (f n) p 0 ∙ ap (λ (i : ℕ). getD (f i) p 0) (sym e)
-
-      before : i < n → getD (inRow n f ++ f n) (i * w + p) 0 ≡ getD (inRow n f) (i * w + p) 0
-      before g =
-          let inside : i * w + p < n * w = digits-lt g hp in
-          List·getD-append (inRow n f) (f n) 0 (i * w + p) (omega (arith, row-length n))
 
 -- ---- the slice
 
@@ -89,7 +61,7 @@ module _ (z : Shelf) where
 
     pub laid-length : length (laidOut z t g) ≡ n * len
     unfolding laidOut
-    laid-length = row-length len (shardAt z t g) shard-length n
+    laid-length = row-length len (shardAt z t g) n (λ i l. shard-length i)
 
     strip-at : (v : ℕ → Sector) (j p : ℕ) → j < z .c → p < sectorBytes → getD (stripBytes v (z .c)) (j * sectorBytes + p) 0 ≡ byte (v j) p
     unfolding part
@@ -102,7 +74,7 @@ module _ (z : Shelf) where
     pub laid-at : (j p r : ℕ) → j < z .c → p < sectorBytes → r < n → byteAt len (laidOut z t g) (j * sectorBytes + p) r ≡ byte (g (slotOf n t r) j) p
     unfolding laidOut
     laid-at j p r hj hp hr =
-        row-at len (shardAt z t g) shard-length n r (j * sectorBytes + p) hr (within j p hj hp)
+        row-at len (shardAt z t g) n (λ i l. shard-length i) r (j * sectorBytes + p) hr (within j p hj hp)
         ∙ strip-at _ j p hj hp
 
     pub laid-position : (j p r : ℕ) → j < z .c → p < sectorBytes → r < n → byteAt len (laidOut z t g) (j * sectorBytes + p) r ≡ position z t g j p r
@@ -175,33 +147,6 @@ module _ (z : Shelf) where
           (in-shard (i / len) (div-lt-iff-lt-mul {k = len} {x = i} {y = n} some .1 l) (i % len) (mod-lt i some))
 
 -- ---- the missing shards
-
--- one more number that is below n and not named yet
-shards-more : (n a : ℕ) (l : List ℕ) → shardsOf n l ≡ true → has l a ≡ false → a < n → shardsOf n (l ++ a ∷ []) ≡ true
-shards-more n a [] e f h = rw (lt-ltb a n h)
-shards-more n a (x ∷ l) e f h = go (eqb x a) refl f (λ g. shards-more n a l (and-right (ltb x n && not (has l x)) (shardsOf n l) e) g h)
-  where
-    first : (ltb x n && not (has l x)) ≡ true
-    first = and-left (ltb x n && not (has l x)) (shardsOf n l) e
-
-    go : (b : Bool) → eqb x a ≡ b → cond b true (has l a) ≡ false → (has l a ≡ false → shardsOf n (l ++ a ∷ []) ≡ true)
-        → (ltb x n && not (has (l ++ a ∷ []) x) && shardsOf n (l ++ a ∷ [])) ≡ true
-    go true q f ih = absurd (true≢false f)
-    go false q f ih =
-        ap₂ (λ (u v : Bool). ltb x n && not u && v)
-        (has-append l (a ∷ []) x
-        ∙ ap₂ (λ (u v : Bool). cond u true (cond v true false)) (not-true (has l x) (and-right (ltb x n) (not (has l x)) first)) (ne-eqb a x (λ s. eqb-false x a q (sym s))))
-        (ih f)
-        ∙ ap (λ (u : Bool). u && true && true) (and-left (ltb x n) (not (has l x)) first)
-
-ascending-shards : (p : ℕ → Bool) (n N : ℕ) → n ≤ N → shardsOf N (ascending p n) ≡ true
-unfolding ascending
-ascending-shards p zero N h = refl
-ascending-shards p (suc n) N h = go (p n) (ascending-shards p n N (omega arith))
-  where
-    go : (b : Bool) → shardsOf N (ascending p n) ≡ true → shardsOf N (ascending p n ++ cond b (n ∷ []) []) ≡ true
-    go true e = shards-more N n (ascending p n) e (ascending-past p n n (omega arith)) h
-    go false e = ap (shardsOf N) (append-nil (ascending p n)) ∙ e
 
 module _ (z : Shelf) (t : ℕ) (bad : ℕ → Bool) where
   -- each is a shard, and none is named twice

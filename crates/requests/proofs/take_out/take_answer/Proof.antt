@@ -29,14 +29,14 @@ out-answer-requires c κs =
 returns : tie.Need-returns
 returns c =
     let a = c .before .before .before .before .before .args in
-    first-stops (readyOf (a .l) (a .kind) (a .absent) (a .image .now)) (outAnswer (a .l) (isIdle (a .kind)) (a .slot) (a .room)) _
+    first-stops (readyOf (a .l) (a .kind) (a .absent) (a .image .now)) (outAnswer (a .l) (isIdle (a .kind)) (a .absent) (a .slot) (a .room)) _
     (sym (c .before .before .before .ready .ensures) ∙ c .before .answer .given .1)
 
 returns-2 : tie.Need-returns-2
 returns-2 c =
     let a = c .before .before .before .before .before .before .args in
-    c .out-answer .ensures ∙ ap (λ (b : Bool). outAnswer (a .l) b (a .slot) (a .room)) (c .before .is-idle .ensures)
-    ∙ first-goes (readyOf (a .l) (a .kind) (a .absent) (a .image .now)) (outAnswer (a .l) (isIdle (a .kind)) (a .slot) (a .room))
+    c .out-answer .ensures ∙ ap (λ (b : Bool). outAnswer (a .l) b (a .absent) (a .slot) (a .room)) (c .before .is-idle .ensures)
+    ∙ first-goes (readyOf (a .l) (a .kind) (a .absent) (a .image .now)) (outAnswer (a .l) (isIdle (a .kind)) (a .absent) (a .slot) (a .room))
     (sym (c .before .before .before .before .ready .ensures) ∙ c .before .before .enum-told .given .1)
 
 pub take-answer-spec : {M : Type 1} → statement M

@@ -9,7 +9,7 @@ use Prim.Native.Nat.{ℕ, zero, suc, _+_, _-_, _≤_, _<_}
 use native.Mathlib.Nat.{eq-or-lt-of-le, le-of-suc-le-suc}
 use native.Mathlib.Omega.{arith}
 use lib.Dec.{eqb, leb, lit<}
-use lib.ListN.{length, take, length-append}
+use lib.ListN.{length, take}
 use lib.Seq.{take-append-add}
 use borrow.Author.Tests.{eqb-true, eqb-false, eq-eqb, ne-eqb, le-leb, leb-true}
 use Rattle.field.specs.Field.{mulOf}
@@ -18,9 +18,7 @@ use Rattle.codeword.specs.Stripe.{InRange, coef, parityOf, Holds, Bytes, has}
 use Rattle.codeword.specs.Chosen.{chosen}
 use Rattle.codeword.specs.Mend.{put, put-at, put-off, put-bytes}
 use Rattle.codeword.specs.Unique.{unique}
-use Rattle.protocol.specs.Count.{count}
-use Rattle.protocol.specs.Count as Count
-use Rattle.shards.specs.Search.{all, all-at, all-of, some, some-of, some-ext, first, first-is, first-ext, first-lt}
+use Rattle.position.specs.Search.{all, all-at, all-of, some, some-of, some-ext, first, first-is, first-ext, first-lt}
 
 -- ---- the equations, as a test
 
@@ -190,15 +188,6 @@ ascending-has p (suc n) r h =
     early : r < n → (b : Bool) → has (ascending p n) r ≡ p r → cond (has (ascending p n) r) true (has (cond b (n ∷ []) []) r) ≡ p r
     early l true e = rw (e, ne-eqb n r (λ q. omega arith)) (cond-self (p r))
     early l false e = rw e (cond-self (p r))
-
-pub ascending-length : (p : ℕ → Bool) (n : ℕ) → length (ascending p n) ≡ count p n
-unfolding ascending
-ascending-length p zero = refl
-ascending-length p (suc n) = length-append (ascending p n) (cond (p n) (n ∷ []) []) ∙ go (p n) (ascending-length p n)
-  where
-    go : (b : Bool) → length (ascending p n) ≡ count p n → length (ascending p n) + length (cond b (n ∷ []) []) ≡ Count.tally b + count p n
-    go true e = omega arith
-    go false e = omega arith
 
 -- a list that has an entry of its first part has it
 left-off : (a b : List ℕ) (r : ℕ) → has (a ++ b) r ≡ false → has a r ≡ false
