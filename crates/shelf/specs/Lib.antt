@@ -5,5 +5,3 @@ pub mod Kept
 pub mod Act
 pub mod Step
 pub mod Says
-pub mod Laws
-pub mod Bound

@@ -191,7 +191,15 @@ fn tail_of(s: State, stripe: usize, shards: u64) -> Tail
 }
 
 // Gives slot d the next sector of its record of the shard that is kept for it.
-fn log(s: State, g: Geometry, d: usize, stripe: usize, shards: u64, work: &[u8], image: &mut [u8]) -> Stepped
+fn log(
+    s: State,
+    g: Geometry,
+    d: usize,
+    stripe: usize,
+    shards: u64,
+    work: &[u8],
+    image: &mut [u8],
+) -> Stepped
     requires { ⌜ (d < mostN) × (s .cursor .sector < mostSectors) × (g .c ≤ mostC) ⌝ }
     ensures { λ r. ⌜ (r ≡ logMove s g d stripe shards (now (work .entry)) (now (image .entry)) .stepped) × (now (image .exit) ≡ logMove s g d stripe shards (now (work .entry)) (now (image .entry)) .image) ⌝ }
 {
@@ -264,7 +272,14 @@ fn erase(s: State, g: Geometry, d: usize, odd: bool, image: &mut [u8]) -> Steppe
 }
 
 // The next action of the stage, on slot d.
-pub(crate) fn act(s: State, g: Geometry, stage: Stage, d: usize, work: &[u8], image: &mut [u8]) -> Stepped
+pub(crate) fn act(
+    s: State,
+    g: Geometry,
+    stage: Stage,
+    d: usize,
+    work: &[u8],
+    image: &mut [u8],
+) -> Stepped
     requires { ⌜ (d < mostN) × (s .cursor .sector < mostSectors) × (g .c ≤ mostC) ⌝ }
     ensures { λ r. ⌜ (r ≡ actMove s g stage d (now (work .entry)) (now (image .entry)) .stepped) × (now (image .exit) ≡ actMove s g stage d (now (work .entry)) (now (image .entry)) .image) ⌝ }
 {
