@@ -23,7 +23,7 @@ use Rattle.code.specs.Shape.{shapedOf}
 use Rattle.code.specs.Lost.{Lost}
 use Rattle.code.specs.Lists.{below-or-not, lost-one}
 use Rattle.code.specs.Padded.{padded, padded-length, padded-first, padded-lost, padded-off, solved-first}
-use Rattle.code.specs.Kernel.{weight, Combined}
+use Rattle.kernel.specs.Kernel.{weight, Combined}
 use Rattle.codeword.specs.Unique.{AllBytes}
 use Rattle.code.specs.Stripes.{GoesBy, Accuses, Says, Mends}
 use Rattle.code.specs.Blame.{RowsZero, Located, Judged, Filled}

@@ -16,7 +16,6 @@ ghost use Rattle.code.specs.PadTurns.{Copied};
 ghost use Rattle.code.specs.Blame.{RowsZero, Blamed, Located, Judged, Filled};
 ghost use Rattle.code.specs.Stripes.{Encoded, Rebuilt, Accuses, Says, Mends, Repaired};
 
-mod kernel;
 mod solve;
 
 // The limits of document 01, section 2.
