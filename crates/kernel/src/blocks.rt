@@ -175,7 +175,14 @@ fn block_start(p: usize, len: usize) -> usize
 }
 
 // What `combine` does, block by block.
-pub(crate) fn combine_blocks(buf: &mut [u8], n: usize, len: usize, a: usize, table: &[u8], at: usize)
+pub(crate) fn combine_blocks(
+    buf: &mut [u8],
+    n: usize,
+    len: usize,
+    a: usize,
+    table: &[u8],
+    at: usize,
+)
     requires { ⌜ Shards n len (length (now buf)) × (a < n) × (at + n ≤ length (now table)) × (columns ≤ len) ⌝ }
     ensures { λ x. ⌜ Combined n len a (now (table .entry)) at (now (buf .entry)) (now (buf .exit)) ⌝ }
 {

@@ -1,7 +1,7 @@
 use Prim.Native.Nat.{ℕ, _-_, _≤_, _<_, _+_, _*_}
 use mathlib.Core.Bool.{Bool}
 use mathlib.Core.List.{List}
-use mathlib.Core.Path.{sym, subst}
+use mathlib.Core.Path.{_≡_, sym, subst}
 use borrow.Author.Needs.{needs}
 use lib.ListN.{length, getD}
 use native.Mathlib.Nat.{mul-le-mul}
@@ -10,7 +10,8 @@ use Rattle.kernel.specs.Kernel.{Combined, Combines}
 use Rattle.kernel.specs.Fits.{fits-with}
 use Rattle.code.specs.Filling.{FilledTo, filled-to-none, filled-to-turn, filled-to-done}
 use Rattle.code.specs.Blame.{row-fits}
-use Rattle.code.specs.Lost.{Lost}
+use Rattle.solve.specs.Lost.{Lost, Solves}
+use Rattle.solve.specs.Lists.{solvable-is}
 use Rattle.code.specs.Padded.{padded, padded-lost, solved-first}
 use Rattle.codeword.specs.Table.{SolvedFor}
 use Rattle.code.proofs.fill_with.Statement.{statement}
@@ -23,20 +24,27 @@ abbrev μ-loop : tie.MeasureT-loop
 μ-loop k m len lost all stripe₀ table c₀ stripe c = length lost - c
 
 solve-requires : tie.Need-solve-requires Inv-loop μ-loop
-solve-requires c κs = let s = c .before .before .before .before .before in
-    let known : Lost (s .args .k) (s .args .m) (s .args .all .now) =
-    subst (Lost (s .args .k) (s .args .m)) (sym (s .pre .2)) (padded-lost (s .args .k) (s .args .m) (s .args .lost .now) (s .pre .1)) in
-    (s .pre .0 .range, search needs, s .pre .3)
+solve-requires c κs = search needs
 
--- the table that was made, and what it is solved for
+-- the table that was made; there is such a table, so it was written
 abbrev made : tie.After-solve Inv-loop μ-loop → List ℕ
 made v = v .solve .last .1 .1 .1 .0
 
+written : (v : tie.After-solve Inv-loop μ-loop) → let a = v .before .before .before .before .before .before .args in
+    SolvedFor (a .k) (a .m) (a .all .now) (made v) × (length (made v) ≡ length (a .table .now))
+written v =
+    let s = v .before .before .before .before .before .before in
+    let a = s .args in
+    let known : Lost (a .k) (a .m) (a .all .now) = subst (Lost (a .k) (a .m)) (sym (s .pre .2)) (padded-lost (a .k) (a .m) (a .lost .now) (s .pre .1)) in
+    subst (λ (b : Bool). Solves b (a .k) (a .m) (a .all .now) (a .table .now) (made v))
+    (solvable-is (a .k) (a .m) (a .all .now) (length (a .table .now)) (s .pre .0 .range) known (s .pre .3)) (v .solve .ensures)
+
+-- what it is solved for
 solved : (v : tie.After-solve Inv-loop μ-loop) → let a = v .before .before .before .before .before .before .args in
     SolvedFor (a .k) (a .m) (padded (a .k) (a .m) (a .lost .now)) (made v)
 solved v =
     let s = v .before .before .before .before .before .before in
-    subst (λ (l : List ℕ). SolvedFor (s .args .k) (s .args .m) l (made v)) (s .pre .2) (v .solve .ensures .0)
+    subst (λ (l : List ℕ). SolvedFor (s .args .k) (s .args .m) l (made v)) (s .pre .2) (written v .0)
 
 loop-holds : tie.Need-loop-holds Inv-loop μ-loop
 loop-holds c = filled-to-none _ _ _ _ _ _
@@ -76,7 +84,7 @@ combined w = let s = w .before .before .before .before .before .before .before .
     subst (λ (b : Bool). Combines b (a .k + a .m) (a .len) (getD (a .lost .now) (l .c) 0) (made v) (l .c * (a .k + a .m)) (l .stripe) (w .combine .last .0))
     (fits-with (a .k + a .m) (a .len) (length (l .stripe)) (l .c * (a .k + a .m)) (length (made v)) (getD (a .lost .now) (l .c) 0)
     (record { few = omega (arith, g .k-most, g .m-most); short = s .pre .0 .len-most; fits = omega (arith, s .pre .0 .whole, l .inv .same) })
-    (omega (arith, row-fits (l .c) (a .m) (a .k + a .m) h, v .solve .ensures .1, s .pre .3))
+    (omega (arith, row-fits (l .c) (a .m) (a .k + a .m) h, written v .1, s .pre .3))
     (s .pre .1 .shards (l .c) (search needs)))
     (w .combine .ensures)
 
