@@ -20,7 +20,7 @@ abbrev pub shardsOf : ℕ → List ℕ → Bool
 shardsOf n [] = true
 shardsOf n (a ∷ l) = ltb a n && not (has l a) && shardsOf n l
 
--- k and m are in range, the list is such a list, and a table has `size` bytes
+-- k and m are in range, the list is such a list, and `size` is that of a table
 unfoldable pub solvableOf : ℕ → ℕ → List ℕ → ℕ → Bool
 solvableOf k m lost size =
     leb kLeast k && leb k kMost && leb mLeast m && leb m mMost && leb (length lost) m && shardsOf (k + m) lost && eqb size (m * (k + m))

@@ -219,7 +219,7 @@ fn eliminate(k: usize, m: usize, lost: &[u8], e: &mut [u8])
     }
 }
 
-// Whether k and m are in range, the list names at most m shards and none twice, and a table has `size` bytes.
+// Whether k and m are in range, the list names at most m shards and none twice, and `size` is that of a table.
 fn solvable(k: usize, m: usize, lost: &[u8], size: usize) -> bool
     ensures { λ r. ⌜ r ≡ solvableOf k m (now (lost .entry)) size ⌝ }
 {
