@@ -25,7 +25,7 @@ cast-if1 c = omega (arith, c .shared-slice-known2 .given (c .before .before .loo
 
 returns : tie.Need-returns Inv-loop μ-loop
 returns c = let l = c .before .before .before .loop in
-    sym (shards-great _ (l .i) _ (search needs) (c .if1 .taken)) ∙ l .inv
+    sym (shards-great _ (l .i) (c .before .before .before .before .before .args .n) (search needs) (omega arith)) ∙ l .inv
 
 add-i : tie.Need-add-i Inv-loop μ-loop
 add-i c = search needs
