@@ -12,9 +12,10 @@ use Rattle.codeword.specs.Stripe.{InRange, has}
 use Rattle.codeword.specs.Named.{has-none}
 use Rattle.field.specs.declared.Answer.the-variants.{Done, Refused}
 use Rattle.field.specs.declared.Refusal.the-variants.{BadShape, TooMany, BadShard}
-use Rattle.code.specs.Shape.{shapedOf, shardsOf, rebuildAnswer}
-use Rattle.code.specs.Lost.{Lost}
-use Rattle.code.specs.Lists.{shards-lost, shaped-means}
+use Rattle.solve.specs.Lost.{shardsOf, Lost}
+use Rattle.code.specs.Shape.{shapedOf, rebuildAnswer}
+use Rattle.solve.specs.Lists.{shards-lost}
+use Rattle.code.specs.Lists.{shaped-means}
 use Rattle.code.specs.Stripes.{Encoded, Rebuilt}
 use Rattle.code.specs.Blame.{Filled}
 use Rattle.code.specs.Filling.{filled-rebuilt, filled-sound, filled-goes-by}

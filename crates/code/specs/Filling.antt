@@ -20,10 +20,11 @@ use Rattle.codeword.specs.Complete.{completed, completed-bytes, completed-off, 
 use Rattle.codeword.specs.Laid.{laid, laid-at, laid-bytes, laid-sound}
 use Rattle.codeword.specs.Mend.{put, put-at, put-off, others, others-byte, by-zero, solved-row, solved-other, blamed}
 use Rattle.code.specs.Shape.{shapedOf}
-use Rattle.code.specs.Lost.{Lost}
-use Rattle.code.specs.Lists.{below-or-not, lost-one}
+use Rattle.solve.specs.Lost.{Lost}
+use Rattle.solve.specs.Lists.{lost-one}
+use Rattle.code.specs.Lists.{below-or-not}
 use Rattle.code.specs.Padded.{padded, padded-length, padded-first, padded-lost, padded-off, solved-first}
-use Rattle.code.specs.Kernel.{weight, Combined}
+use Rattle.kernel.specs.Kernel.{weight, Combined}
 use Rattle.codeword.specs.Unique.{AllBytes}
 use Rattle.code.specs.Stripes.{GoesBy, Accuses, Says, Mends}
 use Rattle.code.specs.Blame.{RowsZero, Located, Judged, Filled}

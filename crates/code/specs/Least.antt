@@ -12,9 +12,10 @@ use Rattle.field.specs.declared.Answer.the-variants.{Done, Refused}
 use Rattle.field.specs.declared.Refusal.the-variants.{BadShape, TooMany, BadShard}
 use Rattle.codeword.specs.Stripe.{InRange, byteAt, Sound, AgreeOff}
 use Rattle.codeword.specs.Unique.{AllBytes, determined}
-use Rattle.code.specs.Shape.{shapedOf, shardsOf}
-use Rattle.code.specs.Lost.{Lost}
-use Rattle.code.specs.Lists.{shaped-means, shards-lost}
+use Rattle.solve.specs.Lost.{shardsOf, Lost}
+use Rattle.code.specs.Shape.{shapedOf}
+use Rattle.solve.specs.Lists.{shards-lost}
+use Rattle.code.specs.Lists.{shaped-means}
 use Rattle.code.specs.Padded.{padded, padded-lost}
 use Rattle.code.specs.Stripes.{Rebuilt}
 

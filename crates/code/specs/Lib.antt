@@ -1,15 +1,5 @@
 -- What the functions on a stripe mean, and the laws that their proofs use.
 pub mod Shape
-pub mod Lost
-pub mod Kernel
-pub mod KernelTurns
-pub mod Steps
-pub mod StepsTurns
-pub mod Rows
-pub mod Own
-pub mod Solving
-pub mod Pivot
-pub mod SolveTurns
 pub mod Lists
 pub mod Padded
 pub mod PadTurns

@@ -9,7 +9,7 @@ use native.Mathlib.Omega.{arith}
 use lib.ListN.{length, getD, take, set, length-set}
 use lib.Seq.{take-nil, take-all, take-suc, take-suc-set, length-take-le}
 use Rattle.codeword.specs.Stripe.{has}
-use Rattle.code.specs.Lost.{Lost}
+use Rattle.solve.specs.Lost.{Lost}
 use Rattle.code.specs.Lists.{below-or-not}
 use Rattle.code.specs.Padded.{unnamed, padded, padded-is, padded-length}
 

@@ -12,7 +12,7 @@ use Rattle.codeword.specs.Stripe.{has}
 use Rattle.codeword.specs.Table.{SolvedFor}
 use Rattle.codeword.specs.Named.{has-not, has-append}
 use Rattle.codeword.specs.Chosen.{Falling, chosen, chosen-ext, chosen-all, chosen-falls, chosen-length, chosen-least, count, count-not, has-few, has-exactly, all-at, falling-at, falling-on}
-use Rattle.code.specs.Lost.{Lost}
+use Rattle.solve.specs.Lost.{Lost}
 use Rattle.code.specs.Lists.{below-or-not}
 
 -- the numbers below n that a list doesn't name, the greatest first

@@ -6,6 +6,7 @@ use Prim.Native.Nat.{ℕ, _+_, _*_, _≤_, _<_}
 use lib.Dec.{eqb, leb, ltb}
 use lib.ListN.{length, getD}
 use Rattle.codeword.specs.Stripe.{kLeast, kMost, mLeast, mMost, lenMost, InRange, has}
+use Rattle.solve.specs.Lost.{shardsOf}
 use Rattle.field.specs.declared.Refusal.{Refusal}
 use Rattle.field.specs.declared.Refusal.the-variants.{BadShape, TooMany, BadShard}
 use Rattle.field.specs.declared.Answer.{Answer}
@@ -15,11 +16,6 @@ use Rattle.field.specs.declared.Answer.the-variants.{Done, Refused}
 unfoldable pub shapedOf : ℕ → ℕ → ℕ → ℕ → Bool
 shapedOf k m len size =
     leb kLeast k && leb k kMost && leb mLeast m && leb m mMost && leb 1 len && leb len lenMost && eqb size ((k + m) * len)
-
--- each number is below n, and none is named twice
-abbrev pub shardsOf : ℕ → List ℕ → Bool
-shardsOf n [] = true
-shardsOf n (a ∷ l) = ltb a n && not (has l a) && shardsOf n l
 
 -- the answer to encode
 abbrev pub encodeAnswer : ℕ → ℕ → ℕ → ℕ → Answer

@@ -9,15 +9,12 @@ ghost use lib.ListN.{length, drop, getD};
 ghost use Prim.Native.Nat.{ℕ, _+_, _*_, _≤_, _<_};
 ghost use Rattle.codeword.specs.Stripe.{InRange, has, byteAt};
 ghost use Rattle.codeword.specs.Table.{SolvedFor};
-ghost use Rattle.code.specs.Shape.{shapedOf, shardsOf, Shaped};
-ghost use Rattle.code.specs.Lost.{Lost};
+ghost use Rattle.code.specs.Shape.{shapedOf, Shaped};
+ghost use Rattle.solve.specs.Lost.{Lost};
 ghost use Rattle.code.specs.Padded.{padded};
 ghost use Rattle.code.specs.PadTurns.{Copied};
 ghost use Rattle.code.specs.Blame.{RowsZero, Blamed, Located, Judged, Filled};
 ghost use Rattle.code.specs.Stripes.{Encoded, Rebuilt, Accuses, Says, Mends, Repaired};
-
-mod kernel;
-mod solve;
 
 // The limits of document 01, section 2.
 const K_LEAST: usize = 2;
@@ -67,38 +64,6 @@ fn shaped(k: usize, m: usize, len: usize, size: usize) -> bool
         return false;
     }
     size == (k + m) * len
-}
-
-// Whether shard `a` stands in the list from place `from` on.
-fn named(list: &[u8], from: usize, a: u8) -> bool
-    ensures { λ r. ⌜ r ≡ has (drop from (now (list .entry))) a ⌝ }
-{
-    let mut i = from;
-    while i < list.len() {
-        if list[i] == a {
-            return true;
-        }
-        i += 1;
-    }
-    false
-}
-
-// Whether each shard of the list is below n, and none is named twice.
-fn shards(n: usize, list: &[u8]) -> bool
-    ensures { λ r. ⌜ r ≡ shardsOf n (now (list .entry)) ⌝ }
-{
-    let mut i = 0;
-    while i < list.len() {
-        let a = list[i];
-        if n <= (a as usize) {
-            return false;
-        }
-        i += 1;
-        if named(list, i, a) {
-            return false;
-        }
-    }
-    true
 }
 
 // Whether the rows of the table from `from` to m are 0 at every position.
@@ -192,7 +157,7 @@ fn pad(k: usize, m: usize, lost: &[u8], all: &mut [u8])
     let mut i: usize = 1;
     while c < m {
         let a = (n - i) as u8;
-        if !named(lost, 0, a) {
+        if !solve::named(lost, 0, a) {
             all[c] = a;
             c += 1;
         }
@@ -268,7 +233,7 @@ pub fn rebuild(k: usize, m: usize, len: usize, missing: &[u8], stripe: &mut [u8]
     if m < missing.len() {
         return Answer::Refused(Refusal::TooMany);
     }
-    if !shards(k + m, missing) {
+    if !solve::shards(k + m, missing) {
         return Answer::Refused(Refusal::BadShard);
     }
     fill_in(k, m, len, missing, stripe);

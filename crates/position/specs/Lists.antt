@@ -8,8 +8,8 @@ use lib.Dec.{eqb, ltb}
 use borrow.Author.Tests.{ne-eqb, eqb-false, lt-ltb, not-true}
 use Rattle.codeword.specs.Stripe.{has}
 use Rattle.codeword.specs.Named.{has-append}
-use Rattle.code.specs.Shape.{shardsOf}
-use Rattle.code.specs.Lists.{and-left, and-right}
+use Rattle.solve.specs.Lost.{shardsOf}
+use Rattle.solve.specs.Lists.{and-left, and-right}
 use Rattle.position.specs.Position.{ascending, ascending-past}
 
 -- one more number that is below n and not named yet

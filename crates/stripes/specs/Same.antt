@@ -20,7 +20,8 @@ use Rattle.codeword.specs.Stripe.{Holds, byteAt, Sound, has}
 use Rattle.codeword.specs.Named.{has-index}
 use Rattle.codeword.specs.Laid.{holds-ext}
 use Rattle.codeword.specs.Mend.{put}
-use Rattle.code.specs.Shape.{shardsOf, rebuildAnswer}
+use Rattle.solve.specs.Lost.{shardsOf}
+use Rattle.code.specs.Shape.{rebuildAnswer}
 use Rattle.code.specs.Lists.{below-or-not}
 use Rattle.code.specs.Stripes.{Encoded, Rebuilt, Accuses, Says}
 use Rattle.code.specs.declared.Verdict.{Verdict}

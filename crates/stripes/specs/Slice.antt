@@ -14,9 +14,9 @@ use Rattle.disk.specs.Geometry.{slotOf}
 use Rattle.disk.specs.Image.{place, sector}
 use Rattle.record.specs.Log.{part}
 use Rattle.codeword.specs.Stripe.{kLeast, kMost, mLeast, mMost, lenMost, byteAt}
-use Rattle.code.specs.Shape.{shapedOf, shardsOf}
-use Rattle.code.specs.Lost.{Lost}
-use Rattle.code.specs.Lists.{shards-lost}
+use Rattle.solve.specs.Lost.{shardsOf, Lost}
+use Rattle.code.specs.Shape.{shapedOf}
+use Rattle.solve.specs.Lists.{shards-lost}
 use Rattle.codecs.specs.Sector.{Sector}
 use Rattle.codecs.specs.Shelf.{Shelf, slots, short-strip, some-sectors}
 use Rattle.codecs.specs.Records.{stripBytes, length-strip, strip-part}

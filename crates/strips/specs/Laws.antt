@@ -19,7 +19,8 @@ use Rattle.disk.specs.Image.{place}
 use Rattle.disk.specs.Mask.{inMask}
 use Rattle.disk.specs.declared.geometry.Geometry.{Geometry}
 use Rattle.codeword.specs.Stripe.{kLeast, kMost, mLeast, mMost, lenMost, InRange, byteAt, has}
-use Rattle.code.specs.Shape.{shapedOf, shardsOf, rebuildAnswer}
+use Rattle.solve.specs.Lost.{shardsOf}
+use Rattle.code.specs.Shape.{shapedOf, rebuildAnswer}
 use Rattle.code.specs.Stripes.{Rebuilt}
 use Rattle.position.specs.Row.{inRow, row-length, row-at, listed, listed-length, listed-at}
 use Rattle.position.specs.Position.{ascending-has, filled, filled-off, filled-blind}

@@ -1,13 +1,17 @@
-use Prim.Native.Nat.{ℕ, _-_, _≤_, _<_, _+_}
+use Prim.Native.Nat.{ℕ, _-_, _≤_, _<_, _+_, _*_}
+use mathlib.Core.Bool.{Bool}
 use mathlib.Core.List.{List}
-use mathlib.Core.Path.{sym, subst}
+use mathlib.Core.Path.{_≡_, sym, subst}
 use borrow.Author.Needs.{needs}
-use lib.ListN.{length}
+use lib.ListN.{length, getD}
 use native.Mathlib.Nat.{mul-le-mul}
 use native.Mathlib.Omega.{arith}
+use Rattle.kernel.specs.Kernel.{Combined, Combines}
+use Rattle.kernel.specs.Fits.{fits-with}
 use Rattle.code.specs.Filling.{FilledTo, filled-to-none, filled-to-turn, filled-to-done}
 use Rattle.code.specs.Blame.{row-fits}
-use Rattle.code.specs.Lost.{Lost}
+use Rattle.solve.specs.Lost.{Lost, Solves}
+use Rattle.solve.specs.Lists.{solvable-is}
 use Rattle.code.specs.Padded.{padded, padded-lost, solved-first}
 use Rattle.codeword.specs.Table.{SolvedFor}
 use Rattle.code.proofs.fill_with.Statement.{statement}
@@ -20,20 +24,27 @@ abbrev μ-loop : tie.MeasureT-loop
 μ-loop k m len lost all stripe₀ table c₀ stripe c = length lost - c
 
 solve-requires : tie.Need-solve-requires Inv-loop μ-loop
-solve-requires c κs = let s = c .before .before .before .before .before in
-    let known : Lost (s .args .k) (s .args .m) (s .args .all .now) =
-    subst (Lost (s .args .k) (s .args .m)) (sym (s .pre .2)) (padded-lost (s .args .k) (s .args .m) (s .args .lost .now) (s .pre .1)) in
-    (s .pre .0 .range, search needs, s .pre .3)
+solve-requires c κs = search needs
 
--- the table that was made, and what it is solved for
+-- the table that was made; there is such a table, so it was written
 abbrev made : tie.After-solve Inv-loop μ-loop → List ℕ
 made v = v .solve .last .1 .1 .1 .0
 
+written : (v : tie.After-solve Inv-loop μ-loop) → let a = v .before .before .before .before .before .before .args in
+    SolvedFor (a .k) (a .m) (a .all .now) (made v) × (length (made v) ≡ length (a .table .now))
+written v =
+    let s = v .before .before .before .before .before .before in
+    let a = s .args in
+    let known : Lost (a .k) (a .m) (a .all .now) = subst (Lost (a .k) (a .m)) (sym (s .pre .2)) (padded-lost (a .k) (a .m) (a .lost .now) (s .pre .1)) in
+    subst (λ (b : Bool). Solves b (a .k) (a .m) (a .all .now) (a .table .now) (made v))
+    (solvable-is (a .k) (a .m) (a .all .now) (length (a .table .now)) (s .pre .0 .range) known (s .pre .3)) (v .solve .ensures)
+
+-- what it is solved for
 solved : (v : tie.After-solve Inv-loop μ-loop) → let a = v .before .before .before .before .before .before .args in
     SolvedFor (a .k) (a .m) (padded (a .k) (a .m) (a .lost .now)) (made v)
 solved v =
     let s = v .before .before .before .before .before .before in
-    subst (λ (l : List ℕ). SolvedFor (s .args .k) (s .args .m) l (made v)) (s .pre .2) (v .solve .ensures .0)
+    subst (λ (l : List ℕ). SolvedFor (s .args .k) (s .args .m) l (made v)) (s .pre .2) (written v .0)
 
 loop-holds : tie.Need-loop-holds Inv-loop μ-loop
 loop-holds c = filled-to-none _ _ _ _ _ _
@@ -58,15 +69,24 @@ mul-combine c = let s = c .before .before .before .before .before .before .befor
     record { fits = omega (arith, mul-le-mul h n) }
 
 combine-requires : tie.Need-combine-requires Inv-loop μ-loop
-combine-requires c κs = let s = c .before .before .before .before .before .before .before .before .before .before .before .before .before in
+combine-requires c κs = search needs
+
+-- all fits, so the shard was made
+combined : (w : tie.After-combine Inv-loop μ-loop) → let a = w .before .before .before .before .before .before .before .before .before .before .before .before .before .before .args in
+    let l = w .before .before .before .before .before .loop in
+    Combined (a .k + a .m) (a .len) (getD (a .lost .now) (l .c) 0) (made (w .before .before .before .before .before .before .before .before)) (l .c * (a .k + a .m)) (l .stripe) (w .combine .last .0)
+combined w = let s = w .before .before .before .before .before .before .before .before .before .before .before .before .before .before in
+    let a = s .args in
     let g = s .pre .0 .range in
-    let l = c .before .before .before .before .loop in
-    let v = c .before .before .before .before .before .before .before .solve in
-    let h : l .c < s .args .m = omega (arith, s .pre .1 .few) in (
-      record { few = omega (arith, g .k-most, g .m-most); short = s .pre .0 .len-most; fits = omega (arith, s .pre .0 .whole, l .inv .same) },
-      s .pre .1 .shards (l .c) (search needs),
-      omega (arith, row-fits (l .c) (s .args .m) (s .args .k + s .args .m) h, v .ensures .1, s .pre .3),
-    )
+    let l = w .before .before .before .before .before .loop in
+    let v = w .before .before .before .before .before .before .before .before in
+    let h : l .c < a .m = omega (arith, s .pre .1 .few) in
+    subst (λ (b : Bool). Combines b (a .k + a .m) (a .len) (getD (a .lost .now) (l .c) 0) (made v) (l .c * (a .k + a .m)) (l .stripe) (w .combine .last .0))
+    (fits-with (a .k + a .m) (a .len) (length (l .stripe)) (l .c * (a .k + a .m)) (length (made v)) (getD (a .lost .now) (l .c) 0)
+    (record { few = omega (arith, g .k-most, g .m-most); short = s .pre .0 .len-most; fits = omega (arith, s .pre .0 .whole, l .inv .same) })
+    (omega (arith, row-fits (l .c) (a .m) (a .k + a .m) h, written v .1, s .pre .3))
+    (s .pre .1 .shards (l .c) (search needs)))
+    (w .combine .ensures)
 
 add-c : tie.Need-add-c Inv-loop μ-loop
 add-c c = search needs
@@ -80,7 +100,7 @@ loop-again c = let s = c .before .before .before .before .before .before .before
     let l = c .before .before .before .before .before .before .before .loop in
     let v = c .before .before .before .before .before .before .before .before .before .before in
     filled-to-turn (a .k) (a .m) (a .len) (l .c) (a .lost .now) (made v) (a .stripe .now) (l .stripe) _ (s .pre .1)
-    (solved-first (a .k) (a .m) (a .lost .now) (s .pre .1) (made v) (solved v)) (search needs) (l .inv) (c .before .before .combine .ensures)
+    (solved-first (a .k) (a .m) (a .lost .now) (s .pre .1) (made v) (solved v)) (search needs) (l .inv) (combined (c .before .before))
 
 same-length : tie.Need-same-length Inv-loop μ-loop
 same-length c = c .before .loop .inv .same

@@ -1,6 +1,6 @@
 use native.Mathlib.Omega.{arith}
 use borrow.Author.Needs.{needs}
-use Rattle.code.specs.Lists.{lost-one}
+use Rattle.solve.specs.Lists.{lost-one}
 use Rattle.code.specs.Filling.{filled-mends}
 use Rattle.code.proofs.mend.Statement.{statement}
 use Rattle.code.proofs.mend.Tie as tie

@@ -4,7 +4,8 @@ use borrow.Author.Needs.{needs}
 use borrow.Author.Tests.{not-true, not-false}
 use mathlib.Core.Bool.{true}
 use lib.ListN.{length}
-use Rattle.code.specs.Lists.{shaped-means, shards-lost}
+use Rattle.solve.specs.Lists.{shards-lost}
+use Rattle.code.specs.Lists.{shaped-means}
 use Rattle.code.specs.Answering.{rebuilt-shape, rebuilt-many, rebuilt-shard, rebuilt-done}
 use Rattle.code.specs.Shape.{shapedOf}
 use Rattle.code.proofs.rebuild.Statement.{statement}
