@@ -6,3 +6,4 @@ pub mod Act
 pub mod Step
 pub mod Says
 pub mod Laws
+pub mod Bound
