@@ -26,6 +26,8 @@ fn is_nothing(kind: Kind) -> bool
         Kind::Creating => false,
         Kind::Starting => false,
         Kind::Labelling => false,
+        Kind::Writing => false,
+        Kind::Beginning => false,
     }
 }
 
@@ -39,6 +41,8 @@ pub(crate) fn is_idle(kind: Kind) -> bool
         Kind::Creating => false,
         Kind::Starting => false,
         Kind::Labelling => false,
+        Kind::Writing => false,
+        Kind::Beginning => false,
     }
 }
 
