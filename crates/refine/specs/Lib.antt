@@ -8,6 +8,7 @@ pub mod Redo
 pub mod Refusals
 pub mod Start
 pub mod Given
+pub mod Keeps
 pub mod ToDo
 pub mod Restored
 pub mod Steps
