@@ -122,10 +122,17 @@ abbrev pub Moved : State → State → Type 0
 Moved s t = t ≡ moved s (t .cursor .stage) (t .cursor .slot) (t .cursor .sector)
 
 module _ (z : Shelf) (work img : List ℕ) where
+  -- stage i is the first from the cursor on that has an action left
+  pub record At (s : State) (i : ℕ) : Type 0 where
+    pub on : s .cursor .stage ≤ i
+    pub passed : (k : ℕ) → s .cursor .stage + k ≤ i → leftOf z work (curOf z img) k s ≡ []
+    pub begun : (k : ℕ) → i < s .cursor .stage + k → leftOf z work (curOf z img) k s ≡ [] → ⊥
+
   -- a put of v in place k, with l left
   pub record Puts (s : State) (m : Move) (k : Place) (v : Sector) (l : List (Action Sector)) : Type 0 where
     pub state : State
     pub kept : Moved s state
+    pub at : At s (state .cursor .stage)
     pub here : inside z k ≡ true
     pub is : m ≡ record { stepped = record { state = state; answer = answer.Put (slot k) (sectorOf z k) }; image = putSector (z .sectors) img (slot k) (sectorOf z k) (v .bytes) }
     pub becomes : curOf z (putSector (z .sectors) img (slot k) (sectorOf z k) (v .bytes)) ≡ update (curOf z img) k v
@@ -136,6 +143,7 @@ module _ (z : Shelf) (work img : List ℕ) where
   pub record Flushes (s : State) (m : Move) (d : ℕ) (l : List (Action Sector)) : Type 0 where
     pub state : State
     pub kept : Moved s state
+    pub at : At s (state .cursor .stage)
     pub is : m ≡ record { stepped = record { state = state; answer = answer.Flush d }; image = img }
     pub rest : toDo z state work img ≡ l
     pub fair : Fair z state work img
@@ -145,6 +153,9 @@ module _ (z : Shelf) (work img : List ℕ) where
   Does s m [] = m ≡ finished s img
   Does s m (put k v ∷ l) = Puts s m k v l
   Does s m (flush d ∷ l) = Flushes s m d l
+
+not-none : {a : Action Sector} {l : List (Action Sector)} → a ∷ l ≡ [] → ⊥
+not-none {a} {l} e = let q : suc (length l) ≡ 0 = ap length e in omega arith
 
 -- ---- it stays in order
 
@@ -204,6 +215,14 @@ module _ (z : Shelf) (s : State) (work img : List ℕ) (fair : Fair z s work img
       by true = refl
       by false = refl
 
+  onward-stage : (d count : ℕ) → onward s d count .cursor .stage ≡ s .cursor .stage
+  unfolding onward
+  onward-stage d count = by (ltb (s .cursor .sector + 1) count)
+    where
+      by : (b : Bool) → cond {A = State} b (moved s (s .cursor .stage) d (s .cursor .sector + 1)) (moved s (s .cursor .stage) (d + 1) 0) .cursor .stage ≡ s .cursor .stage
+      by true = refl
+      by false = refl
+
   -- the only sector of a slot is done
   once : (d : ℕ) → onward s d 1 ≡ moved s (s .cursor .stage) (d + 1) 0
   unfolding onward
@@ -221,14 +240,15 @@ module _ (z : Shelf) (s : State) (work img : List ℕ) (fair : Fair z s work img
       rw (image-fits z img (fair .disks), lt-ltb (slot k) (slots z) (slot-below z k i), lt-ltb (sectorOf z k) (z .sectors) (sector-below z k i), eq-eqb (length (v .bytes)) sectorBytes (v .whole)) in
       unless (inMask (s .absent) (slot k)) _ _ a ∙ ap (λ (o : Outcome). byOutcome o s G (slot k) (sectorOf z k) count (v .bytes) img) e
 
-  puts-so : (k : Place) (v : Sector) (count : ℕ) (m : Move) (l : List (Action Sector)) → inside z k ≡ true → inMask (s .absent) (slot k) ≡ false → count ≤ widthOf (stageOf s) (z .c)
+  puts-so : (k : Place) (v : Sector) (count : ℕ) (m : Move) (l : List (Action Sector)) → inside z k ≡ true → inMask (s .absent) (slot k) ≡ false → count ≤ widthOf (stageOf s) (z .c) → At z work img s (onward s (slot k) count .cursor .stage)
       → m ≡ putMove s G (slot k) (sectorOf z k) count (v .bytes) img → leftOf z work (update (curOf z img) k v) mostStages (onward s (slot k) count) ≡ l → Puts z work img s m k v l
   unfolding toDo
-  puts-so k v count m l i a few e r =
+  puts-so k v count m l i a few at e r =
       let p = cur-put z img (fair .disks) k v i in
       record {
         state = onward s (slot k) count;
         kept = onward-kept (slot k) count;
+        at = at;
         here = i;
         is = e ∙ put-done k v count i a;
         becomes = p;
@@ -274,6 +294,47 @@ module _ (z : Shelf) (s : State) (work img : List ℕ) (fair : Fair z s work img
     abbrev Has : ℕ → Type 0
     Has mask = Next mask (slots z) (slotsFrom (slots z) mask (s .cursor .slot)) (D mask)
 
+    -- a stage with a slot left has an action left
+    some-rows : (mk : ℕ → ℕ → Place) (w : ℕ) (value : Place → Sector) (mask : ℕ) → Has mask → s .cursor .sector < w → (r : List (Action Sector))
+        → puts value (rowsFrom mk w (s .cursor .sector) (slotsFrom (slots z) mask (s .cursor .slot))) ++ r ≡ [] → ⊥
+    some-rows mk w value mask h l r q =
+        not-none (sym (ap (λ (ds : List ℕ). puts value (rowsFrom mk w (s .cursor .sector) ds) ++ r) (h .first)
+        ∙ ap (λ (ks : List Place). puts value ks ++ r) (rows-next mk w (s .cursor .sector) (D mask) (slotsFrom (slots z) mask (D mask + 1)) l)) ∙ q)
+
+    some-each : (mk : ℕ → ℕ → Place) (value : Place → Sector) (mask : ℕ) → Has mask → (r : List (Action Sector))
+        → puts value (rows mk (0 ∷ []) (slotsFrom (slots z) mask (s .cursor .slot))) ++ r ≡ [] → ⊥
+    some-each mk value mask h r q = not-none (sym (ap (λ (ds : List ℕ). puts value (rows mk (0 ∷ []) ds) ++ r) (h .first)) ∙ q)
+
+    acts-some : (x : Stage) → stageOf s ≡ x → isEnd x ≡ false → Has (slotsOf x) → (r : List (Action Sector))
+        → actsOf z (stampIn s) work F x (s .cursor .slot) (s .cursor .sector) ++ r ≡ [] → ⊥
+    acts-some (Flush mask) e o h r q = not-none (sym (ap (λ (ds : List ℕ). flushes ds ++ r) (h .first)) ∙ q)
+    acts-some (Give mask zeroed l) e o h r q = some-each (toldAt l) (given z zeroed l) mask h r q
+    acts-some (Wipe mask) e o h r q = some-each (tailAt z) (λ k. zeros) mask h r q
+    acts-some (Restore mask t) e o h r q = some-rows (λ d i. strip d t i) (z .c) (restored z F) mask h (within (Restore mask t) e refl) r q
+    acts-some (Log mask t shards) e o h r q =
+        some-rows log (z .c + 1) (logged (records z) (stampNumber (stampIn s)) (keptWrite z work t shards)) mask h (within (Log mask t shards) e refl) r q
+    acts-some (Store mask t) e o h r q = some-rows (λ d i. strip d t i) (z .c) (stored (records z) (keptStrip z work t)) mask h (within (Store mask t) e refl) r q
+    acts-some (Clear mask) e o h r q = some-rows log (z .c + 1) (λ k. zeros) mask h (within (Clear mask) e refl) r q
+    acts-some (Erase mask odd) e o h r q = some-each (copyAt odd) (λ k. zeros) mask h r q
+    acts-some End e o h r q = absurd (false≢true (sym o))
+
+    -- so it is the first that has
+    at-here : (x : Stage) → stageOf s ≡ x → isEnd x ≡ false → Has (slotsOf x) → (d count : ℕ) → At z work img s (onward s d count .cursor .stage)
+    unfolding leftOf
+    at-here x e o h d count =
+        record {
+          on = omega (arith, onward-stage d count);
+          passed = λ k l. let q : k ≡ 0 = omega (arith, onward-stage d count) in ap (λ (i : ℕ). leftOf z work F i s) q;
+          begun = λ k l. from k (omega (arith, onward-stage d count));
+        }
+      where
+        from : (k : ℕ) → 0 < k → leftOf z work F k s ≡ [] → ⊥
+        from zero l q = omega arith
+        from (suc k) l q =
+            acts-some x e o h (leftOf z work F k (onStage s))
+            (sym (ap (λ (y : Stage). actsOf z (stampIn s) work F y (s .cursor .slot) (s .cursor .sector) ++ leftOf z work F k (onStage s)) e)
+            ∙ sym (ap (λ (b : Bool). cond b [] (actsOf z (stampIn s) work F (stageOf s) (s .cursor .slot) (s .cursor .sector) ++ leftOf z work F k (onStage s))) more) ∙ q)
+
     flush-does : (mask : ℕ) → stageOf s ≡ Flush mask → Has mask → Does z work img s (actMove s G (Flush mask) (D mask) work img) (actsOf z (stampIn s) work F (Flush mask) (s .cursor .slot) (s .cursor .sector) ++ R)
     unfolding flushMove toDo Alike
     flush-does mask e h =
@@ -281,6 +342,7 @@ module _ (z : Shelf) (s : State) (work img : List ℕ) (fair : Fair z s work img
         (record {
           state = onward s (D mask) 1;
           kept = onward-kept (D mask) 1;
+          at = at-here (Flush mask) e refl h (D mask) 1;
           is = ap (λ (x : Stepped). record { stepped = x; image = img }) (unless (inMask (s .absent) (D mask)) _ _ (can (Flush mask) e (D mask) (h .below) (h .set)));
           rest = left-once (Flush mask) e F (λ q d j. refl) (D mask);
           fair = fair-onward img (fair .disks) (D mask) 1 (within-stage (Flush mask) e 1 (omega arith));
@@ -317,7 +379,7 @@ module _ (z : Shelf) (s : State) (work img : List ℕ) (fair : Fair z s work img
       unfolding Alike
       give-does =
           subst (λ (ds : List ℕ). Does z work img s (actMove s G (Give mask zeroed l) (D mask) work img) (puts (given z zeroed l) (rows (toldAt l) (0 ∷ []) ds) ++ R)) (sym (h .first))
-          (puts-so here-label (given z zeroed l here-label) 1 (actMove s G (Give mask zeroed l) (D mask) work img) _ (label-inside z (D mask) (sideOf (l .generation)) (h .below)) (can (Give mask zeroed l) e .0 (D mask) (h .below) (h .set)) (within-stage (Give mask zeroed l) e 1 (omega arith)) give-puts
+          (puts-so here-label (given z zeroed l here-label) 1 (actMove s G (Give mask zeroed l) (D mask) work img) _ (label-inside z (D mask) (sideOf (l .generation)) (h .below)) (can (Give mask zeroed l) e .0 (D mask) (h .below) (h .set)) (within-stage (Give mask zeroed l) e 1 (omega arith)) (at-here (Give mask zeroed l) e refl h (D mask) 1) give-puts
           (left-once (Give mask zeroed l) e (update F here-label (given z zeroed l here-label)) (λ q d j. update-other F here-label (given z zeroed l here-label) (log d j) (λ p. let i : _≡_ {A = ℕ} 0 1 = cc in omega arith)) (D mask)))
 
     wipe-does : (mask : ℕ) → stageOf s ≡ Wipe mask → Has mask → Does z work img s (actMove s G (Wipe mask) (D mask) work img) (actsOf z (stampIn s) work F (Wipe mask) (s .cursor .slot) (s .cursor .sector) ++ R)
@@ -326,7 +388,7 @@ module _ (z : Shelf) (s : State) (work img : List ℕ) (fair : Fair z s work img
         let here = tailAt z (D mask) 0 in
         let no = none-restored (Wipe mask) e in
         subst (λ (ds : List ℕ). Does z work img s (actMove s G (Wipe mask) (D mask) work img) (puts (λ k. zeros) (rows (tailAt z) (0 ∷ []) ds) ++ R)) (sym (h .first))
-        (puts-so here zeros 1 (actMove s G (Wipe mask) (D mask) work img) _ (log-inside z (D mask) (z .c) (h .below) (omega arith)) (can (Wipe mask) e (D mask) (h .below) (h .set)) (within-stage (Wipe mask) e 1 (omega arith)) (ap (λ (to : ℕ). putMove s G (D mask) to 1 (replicate sectorBytes 0) img) (sym (tail-sector z (D mask) 0)))
+        (puts-so here zeros 1 (actMove s G (Wipe mask) (D mask) work img) _ (log-inside z (D mask) (z .c) (h .below) (omega arith)) (can (Wipe mask) e (D mask) (h .below) (h .set)) (within-stage (Wipe mask) e 1 (omega arith)) (at-here (Wipe mask) e refl h (D mask) 1) (ap (λ (to : ℕ). putMove s G (D mask) to 1 (replicate sectorBytes 0) img) (sym (tail-sector z (D mask) 0)))
         (left-once (Wipe mask) e (update F here zeros) (λ q d j. absurd (false≢true (sym no ∙ q))) (D mask)))
 
     erase-does : (mask : ℕ) (odd : Bool) → stageOf s ≡ Erase mask odd → Has mask
@@ -335,13 +397,13 @@ module _ (z : Shelf) (s : State) (work img : List ℕ) (fair : Fair z s work img
     erase-does mask odd e h =
         let here = copyAt odd (D mask) 0 in
         subst (λ (ds : List ℕ). Does z work img s (actMove s G (Erase mask odd) (D mask) work img) (puts (λ k. zeros) (rows (copyAt odd) (0 ∷ []) ds) ++ R)) (sym (h .first))
-        (puts-so here zeros 1 (actMove s G (Erase mask odd) (D mask) work img) _ (label-inside z (D mask) odd (h .below)) (can (Erase mask odd) e (D mask) (h .below) (h .set)) (within-stage (Erase mask odd) e 1 (omega arith))
+        (puts-so here zeros 1 (actMove s G (Erase mask odd) (D mask) work img) _ (label-inside z (D mask) odd (h .below)) (can (Erase mask odd) e (D mask) (h .below) (h .set)) (within-stage (Erase mask odd) e 1 (omega arith)) (at-here (Erase mask odd) e refl h (D mask) 1)
         (ap (λ (to : ℕ). putMove s G (D mask) to 1 (replicate sectorBytes 0) img) (sym (copy-sector z odd (D mask) 0)))
         (left-once (Erase mask odd) e (update F here zeros) (λ q d j. update-other F here zeros (log d j) (λ p. let i : _≡_ {A = ℕ} 0 1 = cc in omega arith)) (D mask)))
 
     -- a stage that puts w sectors on each slot
     module _ (x : Stage) (e : stageOf s ≡ x) (mask : ℕ) (h : Has mask) (mk : ℕ → ℕ → Place) (w : ℕ) (value : Place → Sector)
-        (acts : (d j : ℕ) → actsOf z (stampIn s) work F x d j ≡ puts value (rowsFrom mk w j (slotsFrom (slots z) mask d))) (wide : w ≤ widthOf x (z .c)) (low : s .cursor .sector < w) where
+        (acts : (d j : ℕ) → actsOf z (stampIn s) work F x d j ≡ puts value (rowsFrom mk w j (slotsFrom (slots z) mask d))) (wide : w ≤ widthOf x (z .c)) (low : s .cursor .sector < w) (at-stage : (d count : ℕ) → At z work img s (onward s d count .cursor .stage)) where
       abbrev here-row : Place
       here-row = mk (D mask) (s .cursor .sector)
 
@@ -375,7 +437,7 @@ module _ (z : Shelf) (s : State) (work img : List ℕ) (fair : Fair z s work img
           ∙ ap (λ (ds : List ℕ). puts value (rowsFrom mk w (s .cursor .sector) ds) ++ R) (h .first)
           ∙ ap (λ (ks : List Place). puts value ks ++ R) (rows-next mk w (s .cursor .sector) (D mask) (slotsFrom (slots z) mask (D mask + 1)) low) in
           subst (Does z work img s m) (sym p)
-          (puts-so here-row (value here-row) w m (puts value L ++ R) i (ap (inMask (s .absent)) at ∙ a) (within-stage x e w wide)
+          (puts-so here-row (value here-row) w m (puts value L ++ R) i (ap (inMask (s .absent)) at ∙ a) (within-stage x e w wide) (at-stage (slot here-row) w)
           (is ∙ ap (λ (d : ℕ). putMove s G d (sectorOf z here-row) w (value here-row .bytes) img) (sym at))
           (ap (λ (d : ℕ). leftOf z work (update F here-row (value here-row)) mostStages (onward s d w)) at ∙ left-row (update F here-row (value here-row)) alike))
 
@@ -399,7 +461,7 @@ module _ (z : Shelf) (s : State) (work img : List ℕ) (fair : Fair z s work img
 
       restore-does : Does z work img s (actMove s G (Restore mask t) (D mask) work img) (actsOf z (stampIn s) work F (Restore mask t) (s .cursor .slot) (s .cursor .sector) ++ R)
       restore-does =
-          row-does (Restore mask t) e mask h (λ d i. strip d t i) (z .c) (restored z F) (λ d j. refl) (omega arith) (within (Restore mask t) e refl) refl
+          row-does (Restore mask t) e mask h (λ d i. strip d t i) (z .c) (restored z F) (λ d j. refl) (omega arith) (within (Restore mask t) e refl) (at-here (Restore mask t) e refl h) refl
           (strip-is-inside z (D mask) t (s .cursor .sector) (h .below) there-restore (within (Restore mask t) e refl)) (can (Restore mask t) e .0 (D mask) (h .below) (h .set))
           (strip-alike (D mask) t (s .cursor .sector) _) _ restore-puts
 
@@ -418,7 +480,7 @@ module _ (z : Shelf) (s : State) (work img : List ℕ) (fair : Fair z s work img
 
       store-does : Does z work img s (actMove s G (Store mask t) (D mask) work img) (actsOf z (stampIn s) work F (Store mask t) (s .cursor .slot) (s .cursor .sector) ++ R)
       store-does =
-          row-does (Store mask t) e mask h (λ d i. strip d t i) (z .c) (stored (records z) (keptStrip z work t)) (λ d j. refl) (omega arith) (within (Store mask t) e refl) refl
+          row-does (Store mask t) e mask h (λ d i. strip d t i) (z .c) (stored (records z) (keptStrip z work t)) (λ d j. refl) (omega arith) (within (Store mask t) e refl) (at-here (Store mask t) e refl h) refl
           (strip-is-inside z (D mask) t (s .cursor .sector) (h .below) there-store (within (Store mask t) e refl)) (can (Store mask t) e .0 (D mask) (h .below) (h .set))
           (strip-alike (D mask) t (s .cursor .sector) _) _ store-puts
 
@@ -446,7 +508,7 @@ module _ (z : Shelf) (s : State) (work img : List ℕ) (fair : Fair z s work img
       unfolding Alike
       log-does =
           let no = none-restored (Log mask t shards) e in
-          row-does (Log mask t shards) e mask h log (z .c + 1) logs (λ d j. refl) (omega arith) (within (Log mask t shards) e refl) refl
+          row-does (Log mask t shards) e mask h log (z .c + 1) logs (λ d j. refl) (omega arith) (within (Log mask t shards) e refl) (at-here (Log mask t shards) e refl h) refl
           (log-inside z (D mask) (s .cursor .sector) (h .below) in-record) (can (Log mask t shards) e .0 (D mask) (h .below) (h .set))
           (λ q d j. absurd (false≢true (sym no ∙ q))) _ log-puts
 
@@ -462,7 +524,7 @@ module _ (z : Shelf) (s : State) (work img : List ℕ) (fair : Fair z s work img
       unfolding Alike
       clear-does =
           let no = none-restored (Clear mask) e in
-          row-does (Clear mask) e mask h log (z .c + 1) (λ k. zeros) (λ d j. refl) (omega arith) (within (Clear mask) e refl) refl
+          row-does (Clear mask) e mask h log (z .c + 1) (λ k. zeros) (λ d j. refl) (omega arith) (within (Clear mask) e refl) (at-here (Clear mask) e refl h) refl
           (log-inside z (D mask) (s .cursor .sector) (h .below) in-clear) (can (Clear mask) e (D mask) (h .below) (h .set))
           (λ q d j. absurd (false≢true (sym no ∙ q))) _ clear-puts
 
@@ -504,10 +566,24 @@ module _ (z : Shelf) (s : State) (work img : List ℕ) (fair : Fair z s work img
 -- ---- the step
 
 module _ (z : Shelf) (work img : List ℕ) where
-  does-on : (s : State) (m : Move) (l : List (Action Sector)) → Does z work img (onStage s) m l → Does z work img s m l
-  does-on s m [] h = h
-  does-on s m (put k v ∷ l) h = record { state = h .state; kept = h .kept; here = h .here; is = h .is; becomes = h .becomes; rest = h .rest; fair = h .fair }
-  does-on s m (flush d ∷ l) h = record { state = h .state; kept = h .kept; is = h .is; rest = h .rest; fair = h .fair }
+  -- a stage that has nothing left is passed over
+  at-on : (s : State) (i : ℕ) → ((k : ℕ) → leftOf z work (curOf z img) (suc k) s ≡ leftOf z work (curOf z img) k (onStage s)) → At z work img (onStage s) i → At z work img s i
+  unfolding leftOf
+  at-on s i skip h = record { on = omega (arith, h .on); passed = passed; begun = begun }
+    where
+      passed : (k : ℕ) → s .cursor .stage + k ≤ i → leftOf z work (curOf z img) k s ≡ []
+      passed zero l = refl
+      passed (suc k) l = skip k ∙ h .passed k (omega arith)
+
+      begun : (k : ℕ) → i < s .cursor .stage + k → leftOf z work (curOf z img) k s ≡ [] → ⊥
+      begun zero l q = omega (arith, h .on)
+      begun (suc k) l q = h .begun k (omega arith) (sym (skip k) ∙ q)
+
+  does-on : (s : State) (m : Move) (l : List (Action Sector)) → ((k : ℕ) → leftOf z work (curOf z img) (suc k) s ≡ leftOf z work (curOf z img) k (onStage s))
+      → Does z work img (onStage s) m l → Does z work img s m l
+  does-on s m [] skip h = h
+  does-on s m (put k v ∷ l) skip h = record { state = h .state; kept = h .kept; at = at-on s (h .state .cursor .stage) skip (h .at); here = h .here; is = h .is; becomes = h .becomes; rest = h .rest; fair = h .fair }
+  does-on s m (flush d ∷ l) skip h = record { state = h .state; kept = h .kept; at = at-on s (h .state .cursor .stage) skip (h .at); is = h .is; rest = h .rest; fair = h .fair }
 
   walk-does : (k : ℕ) (s : State) → mostStages ≤ suc (s .cursor .stage + k) → Fair z s work img → Does z work img s (walk k s (geometry z) work img) (leftOf z work (curOf z img) k s)
   unfolding walk leftOf
@@ -525,13 +601,17 @@ module _ (z : Shelf) (work img : List ℕ) where
       go r false e false q =
           let l = leftOf z work (curOf z img) k (onStage s) in
           let m = walk k (onStage s) (geometry z) work img in
-          subst (λ (a : List (Action Sector)). Does z work img s m (a ++ l)) (sym (acts-none z s work img fair k (omega arith) e (stageOf s) (ltb-false (nextSlot s (geometry z)) (slots z) q)))
-          (does-on s m l (r (fair-moved z s work img fair img (fair .disks) (s .cursor .stage + 1) 0 0 (not-over z s work img fair e) (omega arith) (first-narrow (z .c) (some-sectors z) (stageAt (s .kind) s (s .cursor .stage + 1))))))
+          let none = acts-none z s work img fair k (omega arith) e (stageOf s) (ltb-false (nextSlot s (geometry z)) (slots z) q) in
+          let skip : (i : ℕ) → leftOf z work (curOf z img) (suc i) s ≡ leftOf z work (curOf z img) i (onStage s) =
+          λ i. ap (λ (b : Bool). cond b [] (actsOf z (stampIn s) work (curOf z img) (stageOf s) (s .cursor .slot) (s .cursor .sector) ++ leftOf z work (curOf z img) i (onStage s))) e
+          ∙ ap (λ (a : List (Action Sector)). a ++ leftOf z work (curOf z img) i (onStage s)) none in
+          subst (λ (a : List (Action Sector)). Does z work img s m (a ++ l)) (sym none)
+          (does-on s m l skip (r (fair-moved z s work img fair img (fair .disks) (s .cursor .stage + 1) 0 0 (not-over z s work img fair e) (omega arith) (first-narrow (z .c) (some-sectors z) (stageAt (s .kind) s (s .cursor .stage + 1))))))
 
   does-keeps : (s : State) (m : Move) (l : List (Action Sector)) → Does z work img s m l → Does z work img s (keeps s m) l
   does-keeps s m [] h = ap (keeps s) h
-  does-keeps s m (put k v ∷ l) h = record { state = h .state; kept = h .kept; here = h .here; is = ap (keeps s) (h .is); becomes = h .becomes; rest = h .rest; fair = h .fair }
-  does-keeps s m (flush d ∷ l) h = record { state = h .state; kept = h .kept; is = ap (keeps s) (h .is); rest = h .rest; fair = h .fair }
+  does-keeps s m (put k v ∷ l) h = record { state = h .state; kept = h .kept; at = h .at; here = h .here; is = ap (keeps s) (h .is); becomes = h .becomes; rest = h .rest; fair = h .fair }
+  does-keeps s m (flush d ∷ l) h = record { state = h .state; kept = h .kept; at = h .at; is = ap (keeps s) (h .is); rest = h .rest; fair = h .fair }
 
   -- A STEP does the first of what is left to do, and the others are left; or the request is done
   pub step-does : (s : State) → Fair z s work img → Does z work img s (stepMove s work img) (toDo z s work img)
