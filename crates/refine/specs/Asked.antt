@@ -25,7 +25,7 @@ use Rattle.refine.specs.Disks.{curOf, seen-mask}
 use Rattle.refine.specs.ToDo.{toDo}
 use Rattle.refine.specs.Lists.{Says, create-list, change-list}
 use Rattle.refine.specs.StartList.{settles, Starts, start-list}
-use Rattle.refine.specs.Tied.{ownOf, writeMemory, memoryBy, memoryOf}
+use Rattle.refine.specs.Tied.{ownOf, writeIn, writeMemory, memoryBy, memoryOf}
 
 -- a request that begins, with what it ends with
 with-own : {k : Kind Sector} {l : List (Action Sector)} {o x y : Own} → x ≡ y → doing k l o x ≡ doing k l o y
@@ -39,9 +39,9 @@ module _ (z : Shelf) (s : State) (img : List ℕ) where
   abbrev pub absentOf : ℕ → Bool
   absentOf = beyond (slots z) (inMask (s .absent))
 
-  remembers : (k : state.Kind) (l : List (Action Sector)) → s .kind ≡ k → toDo z s [] img ≡ l → memoryOf z s [] img ≡ memoryBy k z s (writeMemory z s [] (curOf z img)) l
+  remembers : (k : state.Kind) (l : List (Action Sector)) → s .kind ≡ k → toDo z s [] img ≡ l → memoryOf z s [] img ≡ memoryBy k z s (writeMemory z (writeIn z s []) s [] (curOf z img)) l
   unfolding memoryOf
-  remembers k l e q = ap₂ (λ (x : state.Kind) (y : List (Action Sector)). memoryBy x z s (writeMemory z s [] (curOf z img)) y) e q
+  remembers k l e q = ap₂ (λ (x : state.Kind) (y : List (Action Sector)). memoryBy x z s (writeMemory z (writeIn z s []) s [] (curOf z img)) y) e q
 
   -- the epoch's first stamp
   own-is : (l : Label) → labelOf z (s .next) ≡ l → s .epoch ≡ l .generation → s .count ≡ 0

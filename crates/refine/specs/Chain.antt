@@ -76,7 +76,7 @@ use Rattle.refine.specs.Labels.{Led}
 use Rattle.refine.specs.Rounds.{beyond-below}
 use Rattle.refine.specs.ToDo.{toDo}
 use Rattle.refine.specs.Steps.{Fair}
-use Rattle.refine.specs.Tied.{ownOf, writeMemory, memoryOf, memoryBy, plain, Same, programOf, Tied, step-tied}
+use Rattle.refine.specs.Tied.{ownOf, writeIn, writeMemory, memoryOf, memoryBy, plain, Same, programOf, Tied, step-tied}
 use Rattle.refine.specs.Requests.{goes, first-ours, create-begins, out-ours, out-begins}
 use Rattle.refine.specs.Ends.{nth}
 use Rattle.refine.specs.StartBegins.{start-begins}
@@ -193,7 +193,7 @@ module _ (z : Shelf) where
   -- at rest the program remembers its own
   pub rests : (s : State) (img : List ℕ) → s .kind ≡ Idle → memoryOf z s [] img ≡ idle (ownOf z s (s .now))
   unfolding memoryOf
-  rests s img e = ap (λ (k : Kind). memoryBy k z s (writeMemory z s [] (curOf z img)) (toDo z s [] img)) e
+  rests s img e = ap (λ (k : Kind). memoryBy k z s (writeMemory z (writeIn z s []) s [] (curOf z img)) (toDo z s [] img)) e
 
 module _ (z : Shelf) (F : Family z) (first : Machine Sector) where
   -- the protocol's machine comes here from the first one by its own events, and its invariant holds for the family, with the host's blocks all zeros;

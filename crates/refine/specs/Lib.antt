@@ -17,6 +17,7 @@ pub mod StartList
 pub mod Begins
 pub mod Tied
 pub mod Asked
+pub mod WriteList
 pub mod Requests
 pub mod Ends
 pub mod StartBegins

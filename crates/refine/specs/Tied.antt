@@ -51,15 +51,15 @@ abbrev pub ownBefore : Shelf → State → Own
 ownBefore z s =
     record { now = labelOf z (s .now); absent = beyond (slots z) (inMask (s .absent)); epoch = s .epoch; count = stampNumber (record { epoch = s .epoch; count = s .count }) - 1 }
 
--- the write that is under way
+-- the write that is under way, as far as the work area tells it
 abbrev pub writeIn : Shelf → State → List ℕ → Write Sector
 writeIn z s work = keptWrite z work (s .marks .stripe) (s .marks .parts)
 
 -- a write is first logged (stages 0 and 1), then stored
-unfoldable pub writeMemory : Shelf → State → List ℕ → Image Sector → Memory Sector
-writeMemory z s work f =
-    cond (ltb (s .cursor .stage) 2) (doing (logging (writeIn z s work)) (leftOf z work f (2 - s .cursor .stage) s) (ownBefore z s) (ownOf z s (s .next)))
-    (doing (storing (writeIn z s work)) (leftOf z work f mostStages s) (ownBefore z s) (ownOf z s (s .next)))
+unfoldable pub writeMemory : Shelf → Write Sector → State → List ℕ → Image Sector → Memory Sector
+writeMemory z w s work f =
+    cond (ltb (s .cursor .stage) 2) (doing (logging w) (leftOf z work f (2 - s .cursor .stage) s) (ownBefore z s) (ownOf z s (s .next)))
+    (doing (storing w) (leftOf z work f mostStages s) (ownBefore z s) (ownOf z s (s .next)))
 
 -- a request under way: what is left to do of it; w is what is remembered of a write. While a shelf is created or started, the label to
 -- be settled is the only one that counts.
@@ -72,8 +72,12 @@ memoryBy Labelling z s w l = doing labelling l (ownOf z s (s .now)) (ownOf z s (
 memoryBy Writing z s w l = w
 memoryBy Beginning z s w l = doing labelling l (ownOf z s (s .now)) (ownOf z s (s .next))
 
+-- where the write under way is w; it counts for a write alone
+abbrev pub memoryWith : Shelf → Write Sector → State → List ℕ → List ℕ → Memory Sector
+memoryWith z w s work img = memoryBy (s .kind) z s (writeMemory z w s work (curOf z img)) (toDo z s work img)
+
 unfoldable pub memoryOf : Shelf → State → List ℕ → List ℕ → Memory Sector
-memoryOf z s work img = memoryBy (s .kind) z s (writeMemory z s work (curOf z img)) (toDo z s work img)
+memoryOf z s work img = memoryBy (s .kind) z s (writeMemory z (writeIn z s work) s work (curOf z img)) (toDo z s work img)
 
 -- ---- requests that keep nothing in the work area
 
@@ -130,7 +134,7 @@ module _ (z : Shelf) (work other : List ℕ) where
   memory-work s img e = ap (memoryBy (s .kind) z s _) (left-work (curOf z img) mostStages s e) ∙ by (s .kind) e
     where
       by : (k : Kind) → plain k ≡ true
-          → memoryBy k z s (writeMemory z s work (curOf z img)) (leftOf z other (curOf z img) mostStages s) ≡ memoryBy k z s (writeMemory z s other (curOf z img)) (leftOf z other (curOf z img) mostStages s)
+          → memoryBy k z s (writeMemory z (writeIn z s work) s work (curOf z img)) (leftOf z other (curOf z img) mostStages s) ≡ memoryBy k z s (writeMemory z (writeIn z s other) s other (curOf z img)) (leftOf z other (curOf z img) mostStages s)
       by Nothing q = refl
       by Idle q = refl
       by Creating q = refl
@@ -192,9 +196,9 @@ module _ (z : Shelf) where
     -- only the cursor moves: the same is remembered, but for what is left
     memory-moved : (t : State) (to : List ℕ) (w : Memory Sector) (l : List (Action Sector)) → plain (s .kind) ≡ true → Moved s t → toDo z t work to ≡ l → memoryOf z t work to ≡ memoryBy (s .kind) z s w l
     unfolding memoryOf
-    memory-moved t to w l p e q = ap₂ (λ (x : State) (y : List (Action Sector)). memoryBy (x .kind) z x (writeMemory z t work (curOf z to)) y) e q ∙ same (s .kind) p
+    memory-moved t to w l p e q = ap₂ (λ (x : State) (y : List (Action Sector)). memoryBy (x .kind) z x (writeMemory z (writeIn z t work) t work (curOf z to)) y) e q ∙ same (s .kind) p
       where
-        same : (k : Kind) → plain k ≡ true → memoryBy k z (moved s (t .cursor .stage) (t .cursor .slot) (t .cursor .sector)) (writeMemory z t work (curOf z to)) l ≡ memoryBy k z s w l
+        same : (k : Kind) → plain k ≡ true → memoryBy k z (moved s (t .cursor .stage) (t .cursor .slot) (t .cursor .sector)) (writeMemory z (writeIn z t work) t work (curOf z to)) l ≡ memoryBy k z s w l
         same Nothing o = refl
         same Idle o = refl
         same Creating o = refl
@@ -204,7 +208,7 @@ module _ (z : Shelf) where
         same Beginning o = refl
 
     abbrev W : Memory Sector
-    W = writeMemory z s work (curOf z img)
+    W = writeMemory z (writeIn z s work) s work (curOf z img)
 
     tied-by : (m : Move) (l : List (Action Sector)) → underWay (s .kind) ≡ true → plain (s .kind) ≡ true → toDo z s work img ≡ l → Does z work img s m l → Tied s work img m
     unfolding memoryOf
