@@ -1,22 +1,21 @@
 -- What a write keeps in the work area, as the protocol's write: the work area begins with the stripe's shards, one after the
 -- other, and the sectors that the code makes of them are the sectors of the protocol's record and strips. Assumes nothing.
-use mathlib.Core.Path.{_≡_, refl, sym, ap, ap₂, _∙_, fun-ext}
+use mathlib.Core.Path.{_≡_, sym, ap, ap₂, _∙_}
 use mathlib.Core.Logic.{⊎-elim}
-use mathlib.Core.Bool.{Bool, true, false, cond, _&&_}
-use mathlib.Core.List.{List, [], _++_}
-use Prim.Native.Nat.{ℕ, zero, suc, _+_, _*_, _-_, _≤_, _<_, _/_, _%_, _^_}
+use mathlib.Core.Bool.{Bool, cond, _&&_}
+use mathlib.Core.List.{List, []}
+use Prim.Native.Nat.{ℕ, _+_, _*_, _-_, _≤_, _<_, _/_, _%_, _^_}
 use native.Mathlib.Nat.{mod-lt, mod-eq-of-lt, suc-mul, mul-le-mul-right}
 use native.Mathlib.Omega.{arith}
 use lib.Arith.{digits-div, digits-mod}
 use lib.Dec.{ltb, lit<}
-use lib.ListN.{length, getD, take, drop, length-drop, length-append}
+use lib.ListN.{length, getD, take, drop, length-drop}
 use lib.Seq.{ext-getD, getD-take, getD-drop, length-take-le}
 use borrow.Author.Tests.{lt-ltb, le-ltb, eq-eqb}
 use Rattle.disk.specs.Limits.{sectorBytes}
-use Rattle.disk.specs.Tests.{both}
 use Rattle.disk.specs.Image.{lt-or-ge}
 use Rattle.disk.specs.Geometry.{inRange, stripesOf, slotOf, shardOf, found, slot-lt, shard-lt, shard-slot}
-use Rattle.disk.specs.Mask.{inMask, maskOf, mask-lt, mask-below, mask-past, in-past}
+use Rattle.disk.specs.Mask.{inMask, maskOf, mask-lt, mask-below}
 use Rattle.disk.specs.declared.geometry.Found.{Found}
 use Rattle.disk.specs.declared.geometry.Found.the-variants as spot
 use Rattle.disk.specs.declared.refusal.Outcome.the-variants as outcome
@@ -25,8 +24,8 @@ use Rattle.record.specs.Tail.{tailSector, tailAnswer}
 use Rattle.record.specs.declared.stamp.Stamp.{Stamp}
 use Rattle.record.specs.declared.tail.Tail.{Tail}
 use Rattle.protocol.specs.Log.{Write}
-use Rattle.codecs.specs.Sector.{Sector, Bytes, sector-path}
-use Rattle.codecs.specs.Shelf.{Shelf, slots, geometry, some-slots, in-limits, strips-fit, short-strip}
+use Rattle.codecs.specs.Sector.{Sector, Bytes}
+use Rattle.codecs.specs.Shelf.{Shelf, slots, geometry, some-slots, in-limits, strips-fit}
 use Rattle.codecs.specs.Records.{counts, stampNumber, stampOf, stripBytes, length-strip, strip-part, shardsOf, logOf, endOf}
 use Rattle.codecs.specs.Records as codec
 use Rattle.shards.specs.Parity.{byte-of}

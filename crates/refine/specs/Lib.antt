@@ -18,6 +18,7 @@ pub mod Begins
 pub mod Tied
 pub mod Asked
 pub mod WriteList
+pub mod Writes
 pub mod Requests
 pub mod Ends
 pub mod StartBegins

@@ -35,11 +35,11 @@ use Rattle.codecs.specs.Records.{counts, stampNumber, records}
 use Rattle.shelf.specs.Limits.{mostStages}
 use Rattle.shelf.specs.State.{moved}
 use Rattle.shelf.specs.Stage.{slotsOf, stageAt, stageOf}
-use Rattle.shelf.specs.Act.{Move, onward, refuses, named, byOutcome, putMove, flushMove, giveMove, wipeMove, byStrip, byRestored, restoreMove, tailOf, byLogged, logMove, byStored, storeMove, clearMove, oddSector, eraseMove, actMove}
+use Rattle.shelf.specs.Act.{Move, onward, refuses, named, byOutcome, putMove, flushMove, giveMove, wipeMove, byStrip, byRestored, restoreMove, byLogged, logMove, byStored, storeMove, clearMove, eraseMove, actMove}
 use Rattle.shelf.specs.Step.{seek, isEnd, finished, onStage, nextSlot, walk, keeps, underWay, sound, stepMove}
 use Rattle.shelf.specs.Says.{when, unless, step-goes}
 use Rattle.shelf.specs.Bound.{widthOf}
-use Rattle.shelf.specs.Kept.{keptOf, recordSector, partOf, loggedAnswer}
+use Rattle.shelf.specs.Kept.{keptOf}
 use Rattle.shelf.specs.declared.state.State.{State}
 use Rattle.shelf.specs.declared.state.Stepped.{Stepped}
 use Rattle.shelf.specs.declared.state.Answer.the-variants as answer

@@ -19,7 +19,6 @@ use Rattle.codecs.specs.Sector.{Sector}
 use Rattle.codecs.specs.Shelf.{Shelf, slots}
 use Rattle.codecs.specs.Labels.{labelOf}
 use Rattle.codecs.specs.Records.{stampNumber}
-use Rattle.record.specs.declared.stamp.Stamp.{Stamp}
 use Rattle.protocol.specs.Log.{Write}
 use Rattle.shards.specs.Even.{shelf-program}
 use Rattle.shelf.specs.State.{moved}

@@ -1,16 +1,13 @@
 -- THE LISTS OF A WRITE ARE THE PROTOCOL'S: where the state and the work area describe the protocol's write, what is left to do of
 -- it is first the protocol's log part, then its store part. Assumes nothing.
-use mathlib.Core.Path.{_≡_, refl, sym, ap, ap₂, subst, _∙_, fun-ext}
-use mathlib.Core.Logic.{⊎-elim}
+use mathlib.Core.Path.{_≡_, refl, sym, ap, ap₂, _∙_, fun-ext}
 use mathlib.Core.Bool.{Bool, true, false, cond, _&&_, false≢true}
 use mathlib.Core.List.{List, [], _∷_, _++_, append-nil, List·Memᴰ, List·Memᴰ·head, List·Memᴰ·tail}
-use Prim.Native.Nat.{ℕ, zero, suc, _+_, _-_, _≤_, _<_}
+use Prim.Native.Nat.{ℕ, zero, suc, _+_, _-_, _<_}
 use native.Mathlib.Omega.{arith}
 use lib.Dec.{ltb}
-use borrow.Author.Tests.{ltb-true, lt-ltb, le-ltb}
-use Rattle.disk.specs.Tests.{and-left}
+use borrow.Author.Tests.{ltb-true}
 use Rattle.disk.specs.Mask.{inMask, maskOf}
-use Rattle.disk.specs.Image.{lt-or-ge}
 use Rattle.disk.specs.Geometry.{slotOf, shardOf}
 use Rattle.record.specs.Log.{logSector}
 use Rattle.record.specs.Tail.{tailSector}
@@ -22,11 +19,11 @@ use Rattle.protocol.specs.Slots.{from, rows, of-rows}
 use Rattle.protocol.specs.Walk.{append-assoc}
 use Rattle.protocol.specs.Log.{Write, Belief}
 use Rattle.protocol.specs.Label.{believed, belief}
-use Rattle.protocol.specs.Write.{involved, of-involved, logged, stored, logged-sectors, stored-sectors, logged-of, stored-of, log-batch, store-batch, log-write, store}
+use Rattle.protocol.specs.Write.{involved, of-involved, logged, stored, logged-sectors, stored-sectors, stored-of, log-batch, store-batch, log-write, store}
 use Rattle.codecs.specs.Sector.{Sector, sector-path}
 use Rattle.codecs.specs.Shelf.{Shelf, slots, size}
 use Rattle.codecs.specs.Labels.{labelOf}
-use Rattle.codecs.specs.Records.{stampNumber, stampOf, stripBytes, shardsOf, tailOf, logOf, endOf, recordSector, records}
+use Rattle.codecs.specs.Records.{stampNumber, stampOf, stripBytes, tailOf, logOf, endOf, recordSector, records}
 use Rattle.shelf.specs.Limits.{mostStages}
 use Rattle.shelf.specs.State.{moved}
 use Rattle.shelf.specs.Stage.{writeStage, stageAt, stageOf}
@@ -36,9 +33,8 @@ use Rattle.shelf.specs.declared.state.Kind.{Kind}
 use Rattle.shelf.specs.declared.state.Kind.the-variants.{Writing}
 use Rattle.shelf.specs.declared.stage.Stage.{Stage}
 use Rattle.shelf.specs.declared.stage.Stage.the-variants.{Flush, Log, Store}
-use Rattle.refine.specs.Disks.{curOf}
 use Rattle.refine.specs.Keeps.{keptStrip, keptWrite}
-use Rattle.refine.specs.ToDo.{slotsFrom, rowsFrom, rows-fresh, stampIn, actsOf, leftOf, toDo, stage-same, restores, Alike, left-same, left-any, left-ended}
+use Rattle.refine.specs.ToDo.{slotsFrom, rows-fresh, stampIn, actsOf, leftOf, stage-same, restores, Alike, left-same, left-any, left-ended}
 use Rattle.refine.specs.Lists.{Says, slots-are}
 
 -- w is the write that the state's marks and the work area describe: its stripe, the shards that it changes, their new strips (of what it
