@@ -248,7 +248,7 @@ steps-of : (o : Outcome) (s t : State) → (o ≡ Done → Steps t) → begun o 
 steps-of Done s t f e = f refl
 steps-of (Refused why) s t f e = absurd (never why e)
 
-created-steps : (k m c S shelf : ℕ) → fitsOf (firstLabel k m c S shelf) ≡ true → 0 < S → Steps (created k m c S shelf)
+created-steps : (k m c S shelf : ℕ) → fitsOf (firstLabel k m c S shelf) ≡ true → 1 ≤ S → Steps (created k m c S shelf)
 unfolding sound
 created-steps k m c S shelf e some =
     record {

@@ -10,7 +10,6 @@ use shelf::state::Stepped;
 use shelf::step::in_range;
 ghost use mathlib.Core.Path.{_≡_};
 ghost use mathlib.Core.Bool.{true};
-ghost use lib.ListN.{length};
 ghost use Rattle.label.specs.Fields.{fitsOf};
 ghost use Rattle.requests.specs.Step.{otherWork, stepWith};
 
