@@ -66,7 +66,15 @@ module _ (z : Shelf) (l : bytes.Label) (same : ours z l ≡ true) (fit : fitsOf 
 
 module _ (z : Shelf) (s : State) (img : List ℕ) (in-range : sound s ≡ true) (ours-now : ours z (s .now) ≡ true) (disks : Disks z img) (first : s .cursor .sector ≡ 0) where
   fair-by : (k : Kind) → s .kind ≡ k → ((i : ℕ) → Can z (s .absent) (stampIn s) [] (stageAt k s i)) → Fair z s [] img
-  fair-by k e h = record { in-range = in-range; ours-now = ours-now; disks = disks; narrow = subst (Narrow (z .c) (stageOf s)) (sym first) (first-narrow (z .c) (some-sectors z) (stageOf s)); stages = λ i. subst (λ (x : Kind). Can z (s .absent) (stampIn s) [] (stageAt x s i)) (sym e) (h i) }
+  fair-by k e h =
+      let c : (i : ℕ) → Can z (s .absent) (stampIn s) [] (stageAt (s .kind) s i) = λ i. subst (λ (x : Kind). Can z (s .absent) (stampIn s) [] (stageAt x s i)) (sym e) (h i) in
+      record {
+        in-range = in-range;
+        ours-now = ours-now;
+        disks = disks;
+        narrow = subst (Narrow (z .c) (stageOf s)) (sym first) (first-narrow z (s .absent) (stampIn s) [] (stageOf s) (c (s .cursor .stage)));
+        stages = c;
+      }
 
   -- CREATE
   pub create-fair : s .kind ≡ Creating → Present z (s .absent) (s .marks .present) → Tells z (s .next) → Fair z s [] img

@@ -58,7 +58,7 @@ use Rattle.shelf.specs.Step as Step
 use Rattle.shelf.specs.Limits.{mostStages}
 use Rattle.shelf.specs.declared.state.State.{State}
 use Rattle.shelf.specs.declared.state.Kind.{Kind}
-use Rattle.shelf.specs.declared.state.Kind.the-variants.{Nothing, Idle, Creating, Starting, Labelling, Writing, Beginning}
+use Rattle.shelf.specs.declared.state.Kind.the-variants.{Nothing, Idle, Creating, Starting, Labelling, Writing, Beginning, Filling}
 use Rattle.shelf.specs.declared.state.Answer.{Answer}
 use Rattle.shelf.specs.declared.state.Answer.the-variants as answer
 use Rattle.requests.specs.Begun.{workBytes, begun}
@@ -351,6 +351,7 @@ module _ (z : Shelf) (F : Family z) (first : Machine Sector) where
   idle-is Labelling e = absurd (false≢true e)
   idle-is Writing e = absurd (false≢true e)
   idle-is Beginning e = absurd (false≢true e)
+  idle-is Filling e = absurd (false≢true e)
 
   out-kept : (w : World Sector) (img : List ℕ) (s : State) (d room : ℕ) → Allowed z F (outs (takeOutOf s d img room)) → Tie w img (has s) → Tie w img (handed (has s) (takeOutOf s d img room))
   out-kept w img s d room ok t = by (takeAnswer (s .now) (s .kind) (s .absent) img d room) refl

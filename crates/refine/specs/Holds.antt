@@ -51,7 +51,7 @@ use Rattle.shards.specs.Quorum.{fewOf}
 use Rattle.shards.specs.Code.{zeros-in}
 use Rattle.shards.specs.Even.{any-code}
 use Rattle.shelf.specs.declared.state.State.{State}
-use Rattle.shelf.specs.declared.state.Kind.the-variants.{Nothing, Idle, Creating, Starting, Labelling, Writing, Beginning}
+use Rattle.shelf.specs.declared.state.Kind.the-variants.{Nothing, Idle, Creating, Starting, Labelling, Writing, Beginning, Filling}
 use Rattle.shelf.specs.declared.state.Kind.{Kind}
 use Rattle.shelf.specs.State.{rested}
 use Rattle.shelf.specs.Act.{Move, refuses}
@@ -195,6 +195,7 @@ module _ (z : Shelf) (F : Family z) where
   away-says s Starting p v l e q = or-none (inMask (s .absent) e) (not (ltb e (slots z))) q
   away-says s Labelling p v l e q = or-none (inMask (s .absent) e) (not (ltb e (slots z))) q
   away-says s Writing p v l e q = absurd (false≢true p)
+  away-says s Filling p v l e q = absurd (false≢true p)
   away-says s Beginning p v l e q = or-none (inMask (s .absent) e) (not (ltb e (slots z))) q
 
   touch-says : (s : State) (e : ℕ) (r : Reply Sector) (a : Answer) → Same z a r → Touches a e

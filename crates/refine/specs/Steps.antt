@@ -44,7 +44,7 @@ use Rattle.shelf.specs.declared.state.State.{State}
 use Rattle.shelf.specs.declared.state.Stepped.{Stepped}
 use Rattle.shelf.specs.declared.state.Answer.the-variants as answer
 use Rattle.shelf.specs.declared.stage.Stage.{Stage}
-use Rattle.shelf.specs.declared.stage.Stage.the-variants.{Flush, Give, Wipe, Restore, Log, Store, Clear, Erase, End}
+use Rattle.shelf.specs.declared.stage.Stage.the-variants.{Flush, Give, Wipe, Restore, Log, Store, Clear, Erase, Fill, End}
 use Rattle.refine.specs.Places.{sectorOf, inside, slot-below, sector-below, label-inside, log-inside, strip-is-inside}
 use Rattle.refine.specs.Disks.{Disks, curOf, image-fits, disks-put, cur-put}
 use Rattle.refine.specs.Restored.{restores, piece-is}
@@ -78,6 +78,7 @@ Can z absent a work (Log mask t shards) = Present z absent mask × Striped z mas
 Can z absent a work (Store mask t) = Present z absent mask × Striped z mask t × Works z work
 Can z absent a work (Clear mask) = Present z absent mask
 Can z absent a work (Erase mask odd) = Present z absent mask
+Can z absent a work (Fill mask first count) = ⊥
 Can z absent a work End = Unit {0}
 
 -- sector j is one of those that a stage does on a slot
@@ -92,28 +93,31 @@ pub record Fair (z : Shelf) (s : State) (work img : List ℕ) : Type 0 where
   pub narrow : Narrow (z .c) (stageOf s) (s .cursor .sector)
   pub stages : (i : ℕ) → Can z (s .absent) (stampIn s) work (stageAt (s .kind) s i)
 
--- every stage has a first sector, and few
-pub first-narrow : (c : ℕ) → 0 < c → (x : Stage) → Narrow c x 0
-first-narrow c h (Flush mask) o = omega arith
-first-narrow c h (Give mask zeroed l) o = omega arith
-first-narrow c h (Wipe mask) o = omega arith
-first-narrow c h (Restore mask t) o = h
-first-narrow c h (Log mask t shards) o = omega arith
-first-narrow c h (Store mask t) o = h
-first-narrow c h (Clear mask) o = omega arith
-first-narrow c h (Erase mask odd) o = omega arith
-first-narrow c h End o = absurd (false≢true (sym o))
+-- every stage that can be carried out has a first sector, and few
+module _ (z : Shelf) (absent : ℕ) (a : Stamp) (work : List ℕ) where
+  pub first-narrow : (x : Stage) → Can z absent a work x → Narrow (z .c) x 0
+  first-narrow (Flush mask) h o = omega arith
+  first-narrow (Give mask zeroed l) h o = omega arith
+  first-narrow (Wipe mask) h o = omega arith
+  first-narrow (Restore mask t) h o = some-sectors z
+  first-narrow (Log mask t shards) h o = omega arith
+  first-narrow (Store mask t) h o = some-sectors z
+  first-narrow (Clear mask) h o = omega arith
+  first-narrow (Erase mask odd) h o = omega arith
+  first-narrow (Fill mask first count) h o = absurd h
+  first-narrow End h o = absurd (false≢true (sym o))
 
-few-wide : (c : ℕ) (x : Stage) → widthOf x c ≤ c + 1
-few-wide c (Flush mask) = omega arith
-few-wide c (Give mask zeroed l) = omega arith
-few-wide c (Wipe mask) = omega arith
-few-wide c (Restore mask t) = omega arith
-few-wide c (Log mask t shards) = omega arith
-few-wide c (Store mask t) = omega arith
-few-wide c (Clear mask) = omega arith
-few-wide c (Erase mask odd) = omega arith
-few-wide c End = omega arith
+  few-wide : (x : Stage) → Can z absent a work x → widthOf x (z .c) < z .sectors
+  few-wide (Flush mask) h = omega (arith, limits z .0 .room)
+  few-wide (Give mask zeroed l) h = omega (arith, limits z .0 .room)
+  few-wide (Wipe mask) h = omega (arith, limits z .0 .room)
+  few-wide (Restore mask t) h = omega (arith, limits z .0 .room)
+  few-wide (Log mask t shards) h = omega (arith, limits z .0 .room)
+  few-wide (Store mask t) h = omega (arith, limits z .0 .room)
+  few-wide (Clear mask) h = omega (arith, limits z .0 .room)
+  few-wide (Erase mask odd) h = omega (arith, limits z .0 .room)
+  few-wide (Fill mask first count) h = absurd h
+  few-wide End h = omega (arith, limits z .0 .room)
 
 -- ---- what a step is to be, for a list of what is left
 
@@ -179,11 +183,17 @@ module _ (z : Shelf) (s : State) (work img : List ℕ) (fair : Fair z s work img
   within : (x : Stage) → stageOf s ≡ x → isEnd x ≡ false → s .cursor .sector < widthOf x (z .c)
   within x e o = subst (λ (y : Stage). Narrow (z .c) y (s .cursor .sector)) e (fair .narrow) o
 
-  long : z .c + 1 < s .now .sectors
-  long = omega (arith, ap (λ (g : Geometry). g .sectors) (shelf-geometry z (s .now) (fair .ours-now)), limits z .0 .room)
+  long : s .now .sectors ≡ z .sectors
+  long = ap (λ (g : Geometry). g .sectors) (shelf-geometry z (s .now) (fair .ours-now))
+
+  some-disk : 0 < z .sectors
+  some-disk = omega (arith, limits z .0 .room)
+
+  narrow-at : (i : ℕ) → Narrow (z .c) (stageAt (s .kind) s i) 0
+  narrow-at i = first-narrow z (s .absent) (stampIn s) work (stageAt (s .kind) s i) (fair .stages i)
 
   -- with another cursor in range, on another image of this shelf
-  fair-moved : (to : List ℕ) → Disks z to → (i d j : ℕ) → i ≤ mostStages → j ≤ z .c → Narrow (z .c) (stageAt (s .kind) s i) j → Fair z (moved s i d j) work to
+  fair-moved : (to : List ℕ) → Disks z to → (i d j : ℕ) → i ≤ mostStages → j < z .sectors → Narrow (z .c) (stageAt (s .kind) s i) j → Fair z (moved s i d j) work to
   unfolding sound
   fair-moved to disks i d j a b n =
       record {
@@ -204,8 +214,8 @@ module _ (z : Shelf) (s : State) (work img : List ℕ) (fair : Fair z s work img
       by : (b : Bool) → ltb (s .cursor .sector + 1) count ≡ b → Fair z (cond b (moved s (s .cursor .stage) d (s .cursor .sector + 1)) (moved s (s .cursor .stage) (d + 1) 0)) work to
       by true e =
           let h = ltb-true (s .cursor .sector + 1) count e in
-          fair-moved to disks (s .cursor .stage) d (s .cursor .sector + 1) staged (omega (arith, h, few-wide (z .c) (stageOf s))) (λ o. omega (arith, h))
-      by false e = fair-moved to disks (s .cursor .stage) (d + 1) 0 staged (omega arith) (first-narrow (z .c) (some-sectors z) (stageOf s))
+          fair-moved to disks (s .cursor .stage) d (s .cursor .sector + 1) staged (omega (arith, h, few-wide z (s .absent) (stampIn s) work (stageOf s) (fair .stages (s .cursor .stage)))) (λ o. omega (arith, h))
+      by false e = fair-moved to disks (s .cursor .stage) (d + 1) 0 staged some-disk (narrow-at (s .cursor .stage))
 
   onward-kept : (d count : ℕ) → Moved s (onward s d count)
   unfolding onward
@@ -316,6 +326,7 @@ module _ (z : Shelf) (s : State) (work img : List ℕ) (fair : Fair z s work img
     acts-some (Store mask t) e o h r q = some-rows (λ d i. strip d t i) (z .c) (stored (records z) (keptStrip z work t)) mask h (within (Store mask t) e refl) r q
     acts-some (Clear mask) e o h r q = some-rows log (z .c + 1) (λ k. zeros) mask h (within (Clear mask) e refl) r q
     acts-some (Erase mask odd) e o h r q = some-each (copyAt odd) (λ k. zeros) mask h r q
+    acts-some (Fill mask first count) e o h r q = absurd (can (Fill mask first count) e)
     acts-some End e o h r q = absurd (false≢true (sym o))
 
     -- so it is the first that has
@@ -541,6 +552,7 @@ module _ (z : Shelf) (s : State) (work img : List ℕ) (fair : Fair z s work img
     act-does (Store mask t) e o l = store-does mask t e (has mask l)
     act-does (Clear mask) e o l = clear-does mask e (has mask l)
     act-does (Erase mask odd) e o l = erase-does mask odd e (has mask l)
+    act-does (Fill mask first count) e o l = absurd (can (Fill mask first count) e)
     act-does End e o l = absurd (false≢true (sym o))
 
     -- a stage that has none
@@ -557,6 +569,7 @@ module _ (z : Shelf) (s : State) (work img : List ℕ) (fair : Fair z s work img
     acts-none (Store mask t) l = ap (λ (ds : List ℕ). puts (stored (records z) (keptStrip z work t)) (rowsFrom (λ d i. strip d t i) (z .c) (s .cursor .sector) ds)) (none mask l)
     acts-none (Clear mask) l = ap (λ (ds : List ℕ). puts (λ k. zeros) (rowsFrom log (z .c + 1) (s .cursor .sector) ds)) (none mask l)
     acts-none (Erase mask odd) l = ap (λ (ds : List ℕ). puts (λ k. zeros) (rows (copyAt odd) (0 ∷ []) ds)) (none mask l)
+    acts-none (Fill mask first count) l = refl
     acts-none End l = refl
 
   -- a stage with an action left is not the last
@@ -606,7 +619,7 @@ module _ (z : Shelf) (work img : List ℕ) where
           λ i. ap (λ (b : Bool). cond b [] (actsOf z (stampIn s) work (curOf z img) (stageOf s) (s .cursor .slot) (s .cursor .sector) ++ leftOf z work (curOf z img) i (onStage s))) e
           ∙ ap (λ (a : List (Action Sector)). a ++ leftOf z work (curOf z img) i (onStage s)) none in
           subst (λ (a : List (Action Sector)). Does z work img s m (a ++ l)) (sym none)
-          (does-on s m l skip (r (fair-moved z s work img fair img (fair .disks) (s .cursor .stage + 1) 0 0 (not-over z s work img fair e) (omega arith) (first-narrow (z .c) (some-sectors z) (stageAt (s .kind) s (s .cursor .stage + 1))))))
+          (does-on s m l skip (r (fair-moved z s work img fair img (fair .disks) (s .cursor .stage + 1) 0 0 (not-over z s work img fair e) (some-disk z s work img fair) (narrow-at z s work img fair (s .cursor .stage + 1)))))
 
   does-keeps : (s : State) (m : Move) (l : List (Action Sector)) → Does z work img s m l → Does z work img s (keeps s m) l
   does-keeps s m [] h = ap (keeps s) h

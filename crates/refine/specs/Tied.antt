@@ -28,7 +28,7 @@ use Rattle.shelf.specs.Stage.{stageAt, stageOf}
 use Rattle.shelf.specs.Step.{isEnd, onStage, finished, underWay, sound, stepMove}
 use Rattle.shelf.specs.declared.state.State.{State}
 use Rattle.shelf.specs.declared.state.Kind.{Kind}
-use Rattle.shelf.specs.declared.state.Kind.the-variants.{Nothing, Idle, Creating, Starting, Labelling, Writing, Beginning}
+use Rattle.shelf.specs.declared.state.Kind.the-variants.{Nothing, Idle, Creating, Starting, Labelling, Writing, Beginning, Filling}
 use Rattle.shelf.specs.declared.stage.Stage.{Stage}
 use Rattle.shelf.specs.declared.stage.Stage.the-variants.{Flush, Give, Wipe, Restore, Clear, Erase, End}
 use Rattle.shelf.specs.declared.state.Answer.{Answer}
@@ -70,6 +70,7 @@ memoryBy Starting z s w l = doing starting l (ownOf z s (s .next)) (ownOf z s (s
 memoryBy Labelling z s w l = doing labelling l (ownOf z s (s .now)) (ownOf z s (s .next))
 memoryBy Writing z s w l = w
 memoryBy Beginning z s w l = doing labelling l (ownOf z s (s .now)) (ownOf z s (s .next))
+memoryBy Filling z s w l = doing labelling l (ownOf z s (s .now)) (ownOf z s (s .next))
 
 -- where the write under way is w; it counts for a write alone
 abbrev pub memoryWith : Shelf → Write Sector → State → List ℕ → List ℕ → Memory Sector
@@ -88,6 +89,7 @@ plain Starting = true
 plain Labelling = true
 plain Writing = false
 plain Beginning = true
+plain Filling = false
 
 -- what holds of each stage that does not look there holds of each of theirs
 plain-each : (P : Stage → Type 0) → P End → ((m : ℕ) → P (Flush m)) → ((m o : ℕ) (l : bytes.Label) → P (Give m o l)) → ((m : ℕ) → P (Wipe m)) → ((m t : ℕ) → P (Restore m t))
@@ -99,6 +101,7 @@ plain-each P end flushed give wipe restore clear erase Starting e s i =
     start-each P end s (flushed _) (flushed _) (flushed _) (flushed _) (flushed _) (give _ _ _) (give _ _ _) (give _ _ _) (give _ _ _) (give _ _ _) (λ q. restore _ _) (λ q. wipe _) i
 plain-each P end flushed give wipe restore clear erase Labelling e s i = round-each P end (s .marks .present) (s .next) (give _ _ _) (flushed _) i
 plain-each P end flushed give wipe restore clear erase Writing e s i = absurd (false≢true e)
+plain-each P end flushed give wipe restore clear erase Filling e s i = absurd (false≢true e)
 plain-each P end flushed give wipe restore clear erase Beginning e s i =
     begin-each P end s (flushed _) (flushed _) (flushed _) (flushed _) (flushed _) (erase _ _) (erase _ _) (clear _) (give _ _ _) (give _ _ _) i
 
@@ -141,6 +144,7 @@ module _ (z : Shelf) (work other : List ℕ) where
       by Labelling q = refl
       by Writing q = absurd (false≢true q)
       by Beginning q = refl
+      by Filling q = absurd (false≢true q)
 
 -- ---- the two answers
 
@@ -179,6 +183,7 @@ module _ (z : Shelf) where
     steps-on Labelling e p w a l = refl
     steps-on Writing e p w a l = absurd (false≢true p)
     steps-on Beginning e p w a l = refl
+    steps-on Filling e p w a l = absurd (false≢true p)
 
     -- and with none
     ends : (k : Kind) → underWay k ≡ true → plain k ≡ true → (w : Memory Sector)
@@ -191,6 +196,7 @@ module _ (z : Shelf) where
     ends Labelling e p w = (done labelling, refl, (λ a q. q), (λ v. refl))
     ends Writing e p w = absurd (false≢true p)
     ends Beginning e p w = (done labelling, refl, (λ a q. q), (λ v. refl))
+    ends Filling e p w = absurd (false≢true p)
 
     -- only the cursor moves: the same is remembered, but for what is left
     memory-moved : (t : State) (to : List ℕ) (w : Memory Sector) (l : List (Action Sector)) → plain (s .kind) ≡ true → Moved s t → toDo z t work to ≡ l → memoryOf z t work to ≡ memoryBy (s .kind) z s w l
@@ -205,6 +211,7 @@ module _ (z : Shelf) where
         same Labelling o = refl
         same Writing o = absurd (false≢true o)
         same Beginning o = refl
+        same Filling o = absurd (false≢true o)
 
     abbrev W : Memory Sector
     W = writeMemory z (writeIn z s work) s work (curOf z img)

@@ -23,15 +23,15 @@ use Rattle.codecs.specs.Labels.{sideOf, sector-side, labelOf, encodeLabel}
 use Rattle.codecs.specs.Records.{stampNumber, pieceOf, records}
 use Rattle.shelf.specs.Limits.{mostStages}
 use Rattle.shelf.specs.State.{moved}
-use Rattle.shelf.specs.Stage.{again, roundStage, lateStage, startStage, createStage, writeStage, lastStage, beginStage, stageAt, stageOf}
+use Rattle.shelf.specs.Stage.{again, roundStage, lateStage, startStage, createStage, writeStage, lastStage, beginStage, fillStage, stageAt, stageOf}
 use Rattle.shelf.specs.Act.{oddSector}
 use Rattle.shelf.specs.Step.{seek, isEnd, onStage}
 use Rattle.shelf.specs.declared.state.State.{State}
 use Rattle.shelf.specs.declared.state.Marks.{Marks}
 use Rattle.shelf.specs.declared.state.Kind.{Kind}
-use Rattle.shelf.specs.declared.state.Kind.the-variants.{Nothing, Idle, Creating, Starting, Labelling, Writing, Beginning}
+use Rattle.shelf.specs.declared.state.Kind.the-variants.{Nothing, Idle, Creating, Starting, Labelling, Writing, Beginning, Filling}
 use Rattle.shelf.specs.declared.stage.Stage.{Stage}
-use Rattle.shelf.specs.declared.stage.Stage.the-variants.{Flush, Give, Wipe, Restore, Log, Store, Clear, Erase, End}
+use Rattle.shelf.specs.declared.stage.Stage.the-variants.{Flush, Give, Wipe, Restore, Log, Store, Clear, Erase, Fill, End}
 use Rattle.refine.specs.Places.{copySector, sectorOf}
 use Rattle.refine.specs.Disks.{curOf}
 use Rattle.refine.specs.Keeps.{keptStrip, keptWrite}
@@ -79,6 +79,7 @@ actsOf z a work f (Log mask t shards) d j =
 actsOf z a work f (Store mask t) d j = puts (stored (records z) (keptStrip z work t)) (rowsFrom (λ e i. strip e t i) (z .c) j (slotsFrom (slots z) mask d))
 actsOf z a work f (Clear mask) d j = puts (λ k. zeros) (rowsFrom log (z .c + 1) j (slotsFrom (slots z) mask d))
 actsOf z a work f (Erase mask odd) d j = puts (λ k. zeros) (rows (copyAt odd) (0 ∷ []) (slotsFrom (slots z) mask d))
+actsOf z a work f (Fill mask first count) d j = []
 actsOf z a work f End d j = []
 
 -- the stamp of a state's write
@@ -186,7 +187,7 @@ module _ (mk : ℕ → ℕ → Place) (c : ℕ) where
 
 -- a state with another cursor has the same stages
 pub stage-same : (k : Kind) (s : State) (a b c i : ℕ) → stageAt k (moved s a b c) i ≡ stageAt k s i
-unfolding createStage startStage lateStage beginStage lastStage
+unfolding createStage startStage lateStage beginStage lastStage fillStage
 stage-same Nothing s a b c i = refl
 stage-same Idle s a b c i = refl
 stage-same Creating s a b c i = refl
@@ -194,6 +195,7 @@ stage-same Starting s a b c i = refl
 stage-same Labelling s a b c i = refl
 stage-same Writing s a b c i = refl
 stage-same Beginning s a b c i = refl
+stage-same Filling s a b c i = refl
 
 module _ (P : Stage → Type 0) (end : P End) where
   pick : (b : Bool) (x y : Stage) → P x → P y → P (cond b x y)
@@ -226,6 +228,11 @@ module _ (P : Stage → Type 0) (end : P End) where
         (pick (eqb (i - 5) 1) _ _ redone
         (pick (eqb (i - 5) 2) _ _ ready
         (pick (eqb (i - 5) 3) _ _ prep (round-each (s .marks .present) (s .next) tell present (i - 5 - 4))))))))))
+
+    -- the stages of a rebuild
+    pub fill-each : P (Fill (s .marks .redo) (s .now .mark) (s .marks .stripe)) → P (Flush (s .marks .redo)) → P (Give (s .marks .present) 0 (s .next)) → P (Flush (s .marks .present)) → (i : ℕ) → P (fillStage s i)
+    unfolding fillStage
+    fill-each fill redone tell present i = pick (eqb i 0) _ _ fill (pick (eqb i 1) _ _ redone (round-each (s .marks .present) (s .next) tell present (i - 2)))
 
     pub create-each : P (Flush (s .marks .present)) → P (Give (s .marks .present) 0 (s .next)) → (i : ℕ) → P (createStage s i)
     unfolding createStage
@@ -261,6 +268,7 @@ restores Starting forward = forward
 restores Labelling forward = false
 restores Writing forward = false
 restores Beginning forward = false
+restores Filling forward = false
 
 -- then no stage of the request changes a record; and no strip is restored otherwise
 abbrev pub Redoes : Bool → Stage → Type 0
@@ -272,6 +280,7 @@ Redoes b (Log mask t shards) = b ≡ false
 Redoes b (Store mask t) = Unit {0}
 Redoes b (Clear mask) = b ≡ false
 Redoes b (Erase mask odd) = Unit {0}
+Redoes b (Fill mask first count) = Unit {0}
 Redoes b End = Unit {0}
 
 pub redoes : (k : Kind) (s : State) (i : ℕ) → Redoes (restores k (s .marks .forward)) (stageAt k s i)
@@ -283,6 +292,7 @@ redoes Starting s i = start-each (Redoes (s .marks .forward)) tt s tt tt tt tt t
 redoes Labelling s i = round-each (Redoes false) tt (s .marks .present) (s .next) tt tt i
 redoes Writing s i = write-each (Redoes false) tt (s .marks) refl tt tt i
 redoes Beginning s i = begin-each (Redoes false) tt s tt tt tt tt tt tt tt refl tt tt i
+redoes Filling s i = fill-each (Redoes false) tt s tt tt tt tt i
 
 -- no request has a stage from mostStages - 1 on
 round-over : (i mask : ℕ) (l : bytes.Label) → 2 ≤ i → roundStage i mask l ≡ End
@@ -303,7 +313,7 @@ last-over s i h =
     rw (ne-eqb i 0 (λ q. omega arith), ne-eqb i 1 (λ q. omega arith), ne-eqb i 2 (λ q. omega arith), ne-eqb i 3 (λ q. omega arith), round-over (i - 4) (s .marks .present) (s .next) (omega arith))
 
 pub stage-over : (k : Kind) (s : State) (i : ℕ) → mostStages ≤ suc i → isEnd (stageAt k s i) ≡ true
-unfolding createStage startStage beginStage
+unfolding createStage startStage beginStage fillStage
 stage-over Nothing s i h = refl
 stage-over Idle s i h = refl
 stage-over Creating s i h = rw (ne-eqb i 0 (λ q. omega arith), round-over (i - 1) (s .marks .present) (s .next) (omega arith))
@@ -313,6 +323,7 @@ stage-over Labelling s i h = rw (round-over i (s .marks .present) (s .next) (ome
 stage-over Writing s i h = rw (write-over (s .marks) i (omega arith))
 stage-over Beginning s i h =
     rw (ne-eqb i 0 (λ q. omega arith), ne-eqb i 1 (λ q. omega arith), ne-eqb i 2 (λ q. omega arith), ne-eqb i 3 (λ q. omega arith), ne-eqb i 4 (λ q. omega arith), last-over s (i - 5) (omega arith))
+stage-over Filling s i h = rw (ne-eqb i 0 (λ q. omega arith), ne-eqb i 1 (λ q. omega arith), round-over (i - 2) (s .marks .present) (s .next) (omega arith))
 
 -- ---- what is left
 
@@ -338,6 +349,7 @@ module _ (z : Shelf) where
     acts-same s a h (Store mask t) r d j = refl
     acts-same s a h (Clear mask) r d j = refl
     acts-same s a h (Erase mask odd) r d j = refl
+    acts-same s a h (Fill mask first count) r d j = refl
     acts-same s a h End r d j = refl
 
     pub left-same : (k : ℕ) (s : State) → Alike s f g → leftOf z work g k s ≡ leftOf z work f k s

@@ -293,13 +293,13 @@ module _ (z : Shelf) where
     pub write-fair : s .kind ≡ Writing → s .cursor .sector ≡ 0 → Present z (s .absent) (s .marks .redo) → s .marks .stripe < stripesOf (geometry z) → s .marks .parts < 2 ^ slots z → s .count < counts → Works z work
         → Fair z s work img
     write-fair kind first here stripe shards count works =
+        let c : (i : ℕ) → Can z (s .absent) (stampIn s) work (stageAt (s .kind) s i) =
+        λ i. subst (λ (k : Kind). Can z (s .absent) (stampIn s) work (stageAt k s i)) (sym kind)
+        (write-each (Can z (s .absent) (stampIn s) work) tt (s .marks) (here, (λ d l e. stripe), shards, count, works) (here, (λ d l e. stripe), works) here i) in
         record {
           in-range = in-range;
           ours-now = ours-now;
           disks = disks;
-          narrow = subst (Narrow (z .c) (stageOf s)) (sym first) (first-narrow (z .c) (some-sectors z) (stageOf s));
-          stages =
-              λ i.
-              subst (λ (k : Kind). Can z (s .absent) (stampIn s) work (stageAt k s i)) (sym kind)
-              (write-each (Can z (s .absent) (stampIn s) work) tt (s .marks) (here, (λ d l e. stripe), shards, count, works) (here, (λ d l e. stripe), works) here i);
+          narrow = subst (Narrow (z .c) (stageOf s)) (sym first) (first-narrow z (s .absent) (stampIn s) work (stageOf s) (c (s .cursor .stage)));
+          stages = c;
         }
