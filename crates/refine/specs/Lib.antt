@@ -19,6 +19,7 @@ pub mod Tied
 pub mod Asked
 pub mod WriteList
 pub mod Writes
+pub mod Relabels
 pub mod Requests
 pub mod Ends
 pub mod StartBegins

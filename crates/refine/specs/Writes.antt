@@ -22,7 +22,7 @@ use Rattle.protocol.specs.Machine.{effect}
 use Rattle.protocol.specs.Even.{program-by}
 use Rattle.protocol.specs.Pairs.{no-sets}
 use Rattle.codecs.specs.Sector.{Sector}
-use Rattle.codecs.specs.Shelf.{Shelf, slots, geometry, size, some-sectors}
+use Rattle.codecs.specs.Shelf.{Shelf, slots, geometry, size}
 use Rattle.codecs.specs.Labels.{labelOf, labels, ours}
 use Rattle.codecs.specs.Records.{counts, stampNumber, records}
 use Rattle.codecs.specs.Media.{stamps}

@@ -1,0 +1,147 @@
+-- A request that ends with a label, whatever it does before: begin, and the rebuild. What is left of it, stage by stage, is begin's
+-- list; and each step is the protocol's, whatever the program knew before the request. Assumes nothing.
+use mathlib.Core.Path.{_≡_, refl, sym, ap, ap₂, subst, _∙_}
+use mathlib.Core.Logic.{_⊎_, inl, inr}
+use mathlib.Core.Bool.{Bool, false, cond, not}
+use mathlib.Core.List.{List, [], _∷_, _++_, append-nil}
+use Prim.Native.Nat.{ℕ, suc, _+_}
+use Rattle.label.specs.declared.fields.Label as bytes
+use Rattle.protocol.specs.World.{Image, update, World, Action, put, flush}
+use Rattle.protocol.specs.Program.{Own, Memory, idle, doing, labelling, Reply, did, done, step}
+use Rattle.protocol.specs.Machine.{effect}
+use Rattle.protocol.specs.Even.{program-by}
+use Rattle.codecs.specs.Sector.{Sector}
+use Rattle.codecs.specs.Shelf.{Shelf}
+use Rattle.shelf.specs.Limits.{mostStages}
+use Rattle.shelf.specs.State.{moved}
+use Rattle.shelf.specs.Stage.{roundStage, lastStage, beginStage, stageAt, stageOf}
+use Rattle.shelf.specs.Act.{Move}
+use Rattle.shelf.specs.Step.{isEnd, finished, stepMove}
+use Rattle.shelf.specs.declared.state.State.{State}
+use Rattle.shelf.specs.declared.state.Kind.{Kind}
+use Rattle.shelf.specs.declared.state.Kind.the-variants.{Beginning}
+use Rattle.shelf.specs.declared.stage.Stage.{Stage}
+use Rattle.shelf.specs.declared.stage.Stage.the-variants.{Flush, Give, Clear, Erase}
+use Rattle.refine.specs.Disks.{curOf}
+use Rattle.refine.specs.ToDo.{stampIn, actsOf, leftOf, toDo, stage-same, left-ended}
+use Rattle.refine.specs.Steps.{Fair, Does, step-does}
+use Rattle.refine.specs.Tied.{ownOf, Same, programOf}
+
+module _ (z : Shelf) where
+  -- ---- the steps
+
+  -- the program, with a label change under way, asked for a step: it remembers what is left then, answers the same, and acts as the move
+  -- does; the request goes on, or is done
+  pub record TiedLabel (o : Own) (s : State) (work img : List ℕ) (m : Move) : Type 1 where
+    pub after : Memory Sector
+    pub reply : Reply Sector
+    pub steps : programOf z (doing labelling (toDo z s work img) o (ownOf z s (s .next))) (curOf z img) step ≡ (after, reply)
+    pub answers : Same z (m .stepped .answer) reply
+    pub acts : (v : World Sector) → v .cur ≡ curOf z img → effect v reply .cur ≡ curOf z (m .image)
+    pub goes-on : (Fair z (m .stepped .state) work (m .image) × (m .stepped .state .kind ≡ s .kind)
+        × (after ≡ doing labelling (toDo z (m .stepped .state) work (m .image)) o (ownOf z (m .stepped .state) (m .stepped .state .next))))
+        ⊎ ((m ≡ finished s img) × (after ≡ idle (ownOf z s (s .next))))
+    pub settles : m .stepped .state .next ≡ s .next
+
+  module _ (o : Own) (s : State) (work img : List ℕ) where
+    abbrev N : List (Action Sector) → Memory Sector
+    N l = doing labelling l o (ownOf z s (s .next))
+
+    does : (a : Action Sector) (l : List (Action Sector)) → programOf z (N (a ∷ l)) (curOf z img) step ≡ (N l, did a)
+    unfolding program-by
+    does a l = refl
+
+    ends : programOf z (N []) (curOf z img) step ≡ (idle (ownOf z s (s .next)), done labelling)
+    unfolding program-by
+    ends = refl
+
+    tied-by : (m : Move) (l : List (Action Sector)) → toDo z s work img ≡ l → Does z work img s m l → TiedLabel o s work img m
+    tied-by m [] e d =
+        record {
+          after = idle (ownOf z s (s .next));
+          reply = done labelling;
+          steps = ap (λ (l : List (Action Sector)). programOf z (N l) (curOf z img) step) e ∙ ends;
+          answers = ap (λ (x : Move). x .stepped .answer) d;
+          acts = λ v c. c ∙ sym (ap (λ (x : Move). curOf z (x .image)) d);
+          goes-on = inr (d, refl);
+          settles = ap (λ (x : Move). x .stepped .state .next) d;
+        }
+    tied-by m (put k v ∷ l) e d =
+        record {
+          after = N l;
+          reply = did (put k v);
+          steps = ap (λ (y : List (Action Sector)). programOf z (N y) (curOf z img) step) e ∙ does (put k v) l;
+          answers = (d .here, ap (λ (x : Move). x .stepped .answer) (d .is));
+          acts = λ u c. ap (λ (f : Image Sector). update f k v) c ∙ sym (d .becomes) ∙ sym (ap (λ (x : Move). curOf z (x .image)) (d .is));
+          goes-on =
+              inl
+              (subst
+              (λ (x : Move). Fair z (x .stepped .state) work (x .image) × (x .stepped .state .kind ≡ s .kind) × (N l ≡ doing labelling (toDo z (x .stepped .state) work (x .image)) o (ownOf z (x .stepped .state) (x .stepped .state .next))))
+              (sym (d .is)) (d .fair, ap (λ (x : State). x .kind) (d .kept), sym (ap₂ (λ (y : List (Action Sector)) (x : State). doing labelling y o (ownOf z x (x .next))) (d .rest) (d .kept))));
+          settles = ap (λ (x : Move). x .stepped .state .next) (d .is) ∙ ap (λ (x : State). x .next) (d .kept);
+        }
+    tied-by m (flush e ∷ l) q d =
+        record {
+          after = N l;
+          reply = did (flush e);
+          steps = ap (λ (y : List (Action Sector)). programOf z (N y) (curOf z img) step) q ∙ does (flush e) l;
+          answers = ap (λ (x : Move). x .stepped .answer) (d .is);
+          acts = λ u c. c ∙ sym (ap (λ (x : Move). curOf z (x .image)) (d .is));
+          goes-on =
+              inl
+              (subst
+              (λ (x : Move). Fair z (x .stepped .state) work (x .image) × (x .stepped .state .kind ≡ s .kind) × (N l ≡ doing labelling (toDo z (x .stepped .state) work (x .image)) o (ownOf z (x .stepped .state) (x .stepped .state .next))))
+              (sym (d .is)) (d .fair, ap (λ (x : State). x .kind) (d .kept), sym (ap₂ (λ (y : List (Action Sector)) (x : State). doing labelling y o (ownOf z x (x .next))) (d .rest) (d .kept))));
+          settles = ap (λ (x : Move). x .stepped .state .next) (d .is) ∙ ap (λ (x : State). x .next) (d .kept);
+        }
+
+    -- THE STEP OF SUCH A REQUEST is the program's
+    pub label-tied : Fair z s work img → TiedLabel o s work img (stepMove s work img)
+    label-tied fair = tied-by (stepMove s work img) (toDo z s work img) refl (step-does z work img s fair)
+
+  -- ---- begin's list
+
+  module _ (s : State) (work img : List ℕ) (kind : s .kind ≡ Beginning) where
+    -- what a stage does, from its first slot on
+    abbrev pub X : Stage → List (Action Sector)
+    X x = actsOf z (stampIn s) work (curOf z img) x 0 0
+
+    stage-is : (i : ℕ) → stageOf (moved s i 0 0) ≡ beginStage s i
+    stage-is i = stage-same (s .kind) s i 0 0 i ∙ ap (λ (k : Kind). stageAt k s i) kind
+
+    staged : (i k : ℕ) (x : Stage) → beginStage s i ≡ x → isEnd x ≡ false
+        → leftOf z work (curOf z img) (suc k) (moved s i 0 0) ≡ X x ++ leftOf z work (curOf z img) k (moved s (i + 1) 0 0)
+    unfolding leftOf
+    staged i k x e n =
+        ap (λ (b : Bool). cond b [] (X (stageOf (moved s i 0 0)) ++ leftOf z work (curOf z img) k (moved s (i + 1) 0 0))) (ap isEnd (stage-is i ∙ e) ∙ n)
+        ∙ ap (λ (y : Stage). X y ++ leftOf z work (curOf z img) k (moved s (i + 1) 0 0)) (stage-is i ∙ e)
+
+    -- THE LIST OF BEGIN: a flush; labels of another shelf erased, one copy, flushed, and then the other, flushed; the record cleared, flushed;
+    -- the disk prepared, flushed; and the label told to all, flushed
+    pub begin-list : s .cursor ≡ record { stage = 0; slot = 0; sector = 0 }
+        → toDo z s work img
+        ≡ X (Flush (s .marks .redo)) ++ (X (Erase (s .marks .parts) (s .marks .forward)) ++ (X (Flush (s .marks .parts))
+        ++ (X (Erase (s .marks .late) (not (s .marks .forward))) ++ (X (Flush (s .marks .late))
+        ++ (X (Clear (s .marks .redo)) ++ (X (Flush (s .marks .redo))
+        ++ (X (Give (s .marks .prep) (s .marks .zeroed) (s .now)) ++ (X (Flush (s .marks .prep))
+        ++ (X (Give (s .marks .present) 0 (s .next)) ++ X (Flush (s .marks .present)))))))))))
+    unfolding toDo beginStage lastStage roundStage
+    begin-list first =
+        ap (leftOf z work (curOf z img) mostStages) (λ j. record { now = s .now; next = s .next; absent = s .absent; epoch = s .epoch; count = s .count; marks = s .marks; kind = s .kind; cursor = first j })
+        ∙ staged 0 13 (Flush (s .marks .redo)) refl refl ∙ on (Flush (s .marks .redo))
+        (staged 1 12 (Erase (s .marks .parts) (s .marks .forward)) refl refl ∙ on (Erase (s .marks .parts) (s .marks .forward))
+        (staged 2 11 (Flush (s .marks .parts)) refl refl ∙ on (Flush (s .marks .parts))
+        (staged 3 10 (Erase (s .marks .late) (not (s .marks .forward))) refl refl ∙ on (Erase (s .marks .late) (not (s .marks .forward)))
+        (staged 4 9 (Flush (s .marks .late)) refl refl ∙ on (Flush (s .marks .late))
+        (staged 5 8 (Clear (s .marks .redo)) refl refl ∙ on (Clear (s .marks .redo))
+        (staged 6 7 (Flush (s .marks .redo)) refl refl ∙ on (Flush (s .marks .redo))
+        (staged 7 6 (Give (s .marks .prep) (s .marks .zeroed) (s .now)) refl refl ∙ on (Give (s .marks .prep) (s .marks .zeroed) (s .now))
+        (staged 8 5 (Flush (s .marks .prep)) refl refl ∙ on (Flush (s .marks .prep))
+        (staged 9 4 (Give (s .marks .present) 0 (s .next)) refl refl ∙ on (Give (s .marks .present) 0 (s .next))
+        (staged 10 3 (Flush (s .marks .present)) refl refl ∙ on (Flush (s .marks .present)) over ∙ append-nil (X (Flush (s .marks .present)))))))))))))
+      where
+        on : (x : Stage) {a b : List (Action Sector)} → a ≡ b → X x ++ a ≡ X x ++ b
+        on x e = ap (λ (l : List (Action Sector)). X x ++ l) e
+
+        over : leftOf z work (curOf z img) (suc 2) (moved s 11 0 0) ≡ []
+        over = left-ended z work (curOf z img) 2 (moved s 11 0 0) (ap isEnd (stage-is 11))
