@@ -24,7 +24,7 @@ use Rattle.record.specs.Tail.{tailSector, tailAnswer}
 use Rattle.record.specs.declared.stamp.Stamp.{Stamp}
 use Rattle.record.specs.declared.tail.Tail.{Tail}
 use Rattle.protocol.specs.Log.{Write}
-use Rattle.codecs.specs.Sector.{Sector, Bytes}
+use Rattle.codecs.specs.Sector.{Sector, Bytes, sector-path}
 use Rattle.codecs.specs.Shelf.{Shelf, slots, geometry, some-slots, in-limits, strips-fit}
 use Rattle.codecs.specs.Records.{counts, stampNumber, stampOf, stripBytes, length-strip, strip-part, shardsOf, logOf, endOf}
 use Rattle.codecs.specs.Records as codec
@@ -67,6 +67,30 @@ module _ (v : ℕ → Sector) where
   strip-byte c j p l q =
       sym (getD-drop (j * sectorBytes) (stripBytes v c) p 0) ∙ sym (getD-take sectorBytes (drop (j * sectorBytes) (stripBytes v c)) p 0 q)
       ∙ ap (λ (x : List ℕ). getD x p 0) (strip-part v c j l)
+
+-- ---- a strip that is kept there
+
+module _ (z : Shelf) (work : List ℕ) (t d : ℕ) where
+  -- by its bytes
+  pub kept-bytes : (j : ℕ) (x : Sector) → ((p : ℕ) → p < sectorBytes → getD work (shardOf (slots z) t d * z .c * sectorBytes + (j * sectorBytes + p)) 0 ≡ getD (x .bytes) p 0)
+      → keptStrip z work t d j ≡ x
+  unfolding keptStrip Bytes
+  kept-bytes j x e =
+      sector-path (keptStrip z work t d j) x
+      (ext-getD 0 (keptStrip z work t d j .bytes) (x .bytes) (keptStrip z work t d j .whole ∙ sym (x .whole))
+      (λ p l.
+      let q : p < sectorBytes = omega (arith, keptStrip z work t d j .whole) in
+      byte-of (keptByte z work t d j) (λ i. mod-lt (getD work (shardOf (slots z) t d * z .c * sectorBytes + (j * sectorBytes + i)) 0) (lit< tt)) p q
+      ∙ ap (λ (b : ℕ). b % 256) (e p q) ∙ mod-eq-of-lt (x .small p)))
+
+  -- the shard is the sectors of v in a row
+  pub kept-row : (v : ℕ → Sector) → take (z .c * sectorBytes) (drop (shardOf (slots z) t d * z .c * sectorBytes) work) ≡ stripBytes v (z .c) → (j : ℕ) → j < z .c → keptStrip z work t d j ≡ v j
+  kept-row v e j l =
+      kept-bytes j (v j)
+      (λ p q.
+      let inside : j * sectorBytes + p < z .c * sectorBytes = omega (arith, mul-le-mul-right sectorBytes l, suc-mul j sectorBytes) in
+      sym (getD-take (z .c * sectorBytes) (drop (shardOf (slots z) t d * z .c * sectorBytes) work) (j * sectorBytes + p) 0 inside ∙ getD-drop (shardOf (slots z) t d * z .c * sectorBytes) work (j * sectorBytes + p) 0)
+      ∙ ap (λ (b : List ℕ). getD b (j * sectorBytes + p) 0) e ∙ strip-byte v (z .c) j p l q)
 
 module _ (z : Shelf) (work : List ℕ) (works : Works z work) (t d : ℕ) (stripe : t < stripesOf (geometry z)) (below : d < slots z) where
   abbrev r : ℕ

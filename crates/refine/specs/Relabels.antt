@@ -5,7 +5,6 @@ use mathlib.Core.Logic.{_⊎_, inl, inr}
 use mathlib.Core.Bool.{Bool, false, cond, not}
 use mathlib.Core.List.{List, [], _∷_, _++_, append-nil}
 use Prim.Native.Nat.{ℕ, suc, _+_}
-use Rattle.label.specs.declared.fields.Label as bytes
 use Rattle.protocol.specs.World.{Image, update, World, Action, put, flush}
 use Rattle.protocol.specs.Program.{Own, Memory, idle, doing, labelling, Reply, did, done, step}
 use Rattle.protocol.specs.Machine.{effect}
