@@ -36,13 +36,17 @@ use Rattle.refine.specs.Told.{mask-ext}
 
 -- ---- definitions
 
--- byte p of sector j of slot d's shard of stripe t, as the work area has it (what is missing is 0, what is no byte counts modulo 256)
+-- where byte p of sector j of slot d's shard of stripe t is in the work area
+abbrev pub keptAt : Shelf → ℕ → ℕ → ℕ → ℕ → ℕ
+keptAt z t d j p = shardOf (slots z) t d * z .c * sectorBytes + (j * sectorBytes + p)
+
+-- that byte (what is missing is 0, what is no byte counts modulo 256)
 abbrev pub keptByte : Shelf → List ℕ → ℕ → ℕ → ℕ → ℕ → ℕ
-keptByte z work t d j p = getD work (shardOf (slots z) t d * z .c * sectorBytes + (j * sectorBytes + p)) 0 % 256
+keptByte z work t d j p = getD work (keptAt z t d j p) 0 % 256
 
 -- the strips that the work area keeps
 unfoldable pub keptStrip : Shelf → List ℕ → ℕ → ℕ → ℕ → Sector
-keptStrip z work t d j = Parity.sectorOf (keptByte z work t d j) (λ p. mod-lt (getD work (shardOf (slots z) t d * z .c * sectorBytes + (j * sectorBytes + p)) 0) (lit< tt))
+keptStrip z work t d j = Parity.sectorOf (keptByte z work t d j) (λ p. mod-lt (getD work (keptAt z t d j p) 0) (lit< tt))
 
 -- THE WRITE that the work area and the set of its shards describe
 abbrev pub keptWrite : Shelf → List ℕ → ℕ → ℕ → Write Sector
@@ -80,7 +84,7 @@ module _ (z : Shelf) (work : List ℕ) (t d : ℕ) where
       (ext-getD 0 (keptStrip z work t d j .bytes) (x .bytes) (keptStrip z work t d j .whole ∙ sym (x .whole))
       (λ p l.
       let q : p < sectorBytes = omega (arith, keptStrip z work t d j .whole) in
-      byte-of (keptByte z work t d j) (λ i. mod-lt (getD work (shardOf (slots z) t d * z .c * sectorBytes + (j * sectorBytes + i)) 0) (lit< tt)) p q
+      byte-of (keptByte z work t d j) (λ i. mod-lt (getD work (keptAt z t d j i) 0) (lit< tt)) p q
       ∙ ap (λ (b : ℕ). b % 256) (e p q) ∙ mod-eq-of-lt (x .small p)))
 
   -- the shard is the sectors of v in a row
@@ -119,7 +123,7 @@ module _ (z : Shelf) (work : List ℕ) (works : Works z work) (t d : ℕ) (strip
       (λ i l. let q : i < z .c * sectorBytes = omega (arith, kept-length) in at i q)
     where
       h : (j p : ℕ) → keptByte z work t d j p < 256
-      h j p = mod-lt (getD work (r * z .c * sectorBytes + (j * sectorBytes + p)) 0) (lit< tt)
+      h j p = mod-lt (getD work (keptAt z t d j p) 0) (lit< tt)
 
       at : (i : ℕ) → i < z .c * sectorBytes → getD (keptOf (geometry z) t d work) i 0 ≡ getD (stripBytes (keptStrip z work t d) (z .c)) i 0
       at i q =
