@@ -5,12 +5,19 @@ use mathlib.Core.Logic.{_⊎_, inl, inr}
 use mathlib.Core.Bool.{Bool, false, cond, not}
 use mathlib.Core.List.{List, [], _∷_, _++_, append-nil}
 use Prim.Native.Nat.{ℕ, suc, _+_}
-use Rattle.protocol.specs.World.{Image, update, World, Action, put, flush}
+use native.Mathlib.Omega.{arith}
+use Rattle.label.specs.declared.fields.Label as bytes
+use Rattle.protocol.specs.World.{Place, log, Image, update, World, Action, put, flush}
+use Rattle.protocol.specs.Batch.{puts, flushes}
+use Rattle.protocol.specs.Slots.{from, rows}
+use Rattle.protocol.specs.Walk.{append-assoc}
+use Rattle.protocol.specs.Rebuild.{wipe, wipe-batch, wiped-sectors}
 use Rattle.protocol.specs.Program.{Own, Memory, idle, doing, labelling, Reply, did, done, step}
 use Rattle.protocol.specs.Machine.{effect}
 use Rattle.protocol.specs.Even.{program-by}
-use Rattle.codecs.specs.Sector.{Sector}
-use Rattle.codecs.specs.Shelf.{Shelf}
+use Rattle.codecs.specs.Sector.{Sector, zeros}
+use Rattle.codecs.specs.Shelf.{Shelf, slots}
+use Rattle.codecs.specs.Records.{records}
 use Rattle.shelf.specs.Limits.{mostStages}
 use Rattle.shelf.specs.State.{moved}
 use Rattle.shelf.specs.Stage.{roundStage, lastStage, beginStage, stageAt, stageOf}
@@ -22,7 +29,7 @@ use Rattle.shelf.specs.declared.state.Kind.the-variants.{Beginning}
 use Rattle.shelf.specs.declared.stage.Stage.{Stage}
 use Rattle.shelf.specs.declared.stage.Stage.the-variants.{Flush, Give, Clear, Erase}
 use Rattle.refine.specs.Disks.{curOf}
-use Rattle.refine.specs.ToDo.{stampIn, actsOf, leftOf, toDo, stage-same, left-ended}
+use Rattle.refine.specs.ToDo.{slotsFrom, toldAt, copyAt, given, rows-fresh, stampIn, actsOf, leftOf, toDo, stage-same, left-ended}
 use Rattle.refine.specs.Steps.{Fair, Does, step-does}
 use Rattle.refine.specs.Tied.{ownOf, Same, programOf}
 
@@ -144,3 +151,56 @@ module _ (z : Shelf) where
 
         over : leftOf z work (curOf z img) (suc 2) (moved s 11 0 0) ≡ []
         over = left-ended z work (curOf z img) 2 (moved s 11 0 0) (ap isEnd (stage-is 11))
+
+    -- a stage and its flush, on these slots, as the protocol has them
+    module _ (mask : ℕ) (ds : List ℕ) (are : slotsFrom (slots z) mask 0 ≡ ds) (others : List (Action Sector)) where
+      pub erase-is : (odd : Bool) → X (Erase mask odd) ++ (X (Flush mask) ++ others) ≡ (puts (λ k. zeros) (rows (copyAt odd) (0 ∷ []) ds) ++ flushes ds) ++ others
+      erase-is odd =
+          ap (λ (l : List ℕ). puts (λ k. zeros) (rows (copyAt odd) (0 ∷ []) l) ++ (flushes l ++ others)) are
+          ∙ sym (append-assoc (puts (λ k. zeros) (rows (copyAt odd) (0 ∷ []) ds)) (flushes ds) others)
+
+      pub give-is : (zeroed : ℕ) (l : bytes.Label)
+          → X (Give mask zeroed l) ++ (X (Flush mask) ++ others) ≡ (puts (given z zeroed l) (rows (toldAt l) (0 ∷ []) ds) ++ flushes ds) ++ others
+      give-is zeroed l =
+          ap (λ (x : List ℕ). puts (given z zeroed l) (rows (toldAt l) (0 ∷ []) x) ++ (flushes x ++ others)) are
+          ∙ sym (append-assoc (puts (given z zeroed l) (rows (toldAt l) (0 ∷ []) ds)) (flushes ds) others)
+
+      pub clear-is : X (Clear mask) ++ (X (Flush mask) ++ others) ≡ (puts (λ k. zeros) (rows log (from 0 (suc (z .c))) ds) ++ flushes ds) ++ others
+      clear-is =
+          let n : z .c + 1 ≡ suc (z .c) = omega arith in
+          ap (λ (ks : List Place). puts (λ k. zeros) ks ++ (X (Flush mask) ++ others)) (rows-fresh log (z .c + 1) (slotsFrom (slots z) mask 0))
+          ∙ ap₂ (λ (c : ℕ) (x : List ℕ). puts (λ k. zeros) (rows log (from 0 c) x) ++ (flushes x ++ others)) n are
+          ∙ sym (append-assoc (puts (λ k. zeros) (rows log (from 0 (suc (z .c))) ds)) (flushes ds) others)
+
+    -- so clearing the record of one slot is the protocol's wipe
+    pub wipe-is : (mask d : ℕ) → slotsFrom (slots z) mask 0 ≡ d ∷ [] → (others : List (Action Sector)) → X (Clear mask) ++ (X (Flush mask) ++ others) ≡ wipe (records z) d ++ others
+    unfolding wipe-batch wiped-sectors
+    wipe-is mask d are others = clear-is mask (d ∷ []) are others
+
+    -- zeros over a copy of the label of these slots, or a label to them; each flushed
+    abbrev pub erased : Bool → List ℕ → List (Action Sector)
+    erased odd ds = puts (λ k. zeros) (rows (copyAt odd) (0 ∷ []) ds) ++ flushes ds
+
+    abbrev pub gives : ℕ → bytes.Label → List ℕ → List (Action Sector)
+    gives zeroed l ds = puts (given z zeroed l) (rows (toldAt l) (0 ∷ []) ds) ++ flushes ds
+
+    -- BEGIN OF SLOT d as the protocol's batches: the flush, what is expelled from the one copy and from the other, the wipe, the preparation and
+    -- the round; es, fs, ps and ds are the slots of each
+    pub begin-batches : s .cursor ≡ record { stage = 0; slot = 0; sector = 0 } → (d : ℕ) (es fs ps ds : List ℕ)
+        → slotsFrom (slots z) (s .marks .redo) 0 ≡ d ∷ [] → slotsFrom (slots z) (s .marks .parts) 0 ≡ es → slotsFrom (slots z) (s .marks .late) 0 ≡ fs
+        → slotsFrom (slots z) (s .marks .prep) 0 ≡ ps → slotsFrom (slots z) (s .marks .present) 0 ≡ ds
+        → toDo z s work img
+        ≡ flushes (d ∷ []) ++ (erased (s .marks .forward) es ++ (erased (not (s .marks .forward)) fs
+        ++ (wipe (records z) d ++ (gives (s .marks .zeroed) (s .now) ps ++ gives 0 (s .next) ds))))
+    begin-batches first d es fs ps ds one parts late prep present =
+        begin-list first
+        ∙ ap₂ (λ (a b : List (Action Sector)). a ++ b) (ap (λ (l : List ℕ). flushes l) one)
+        (erase-is (s .marks .parts) es parts _ (s .marks .forward)
+        ∙ ap (λ (l : List (Action Sector)). erased (s .marks .forward) es ++ l)
+        (erase-is (s .marks .late) fs late _ (not (s .marks .forward))
+        ∙ ap (λ (l : List (Action Sector)). erased (not (s .marks .forward)) fs ++ l)
+        (wipe-is (s .marks .redo) d one _
+        ∙ ap (λ (l : List (Action Sector)). wipe (records z) d ++ l)
+        (give-is (s .marks .prep) ps prep _ (s .marks .zeroed) (s .now)
+        ∙ ap (λ (l : List (Action Sector)). gives (s .marks .zeroed) (s .now) ps ++ l)
+        (ap (λ (l : List ℕ). puts (given z 0 (s .next)) (rows (toldAt (s .next)) (0 ∷ []) l) ++ flushes l) present)))))
