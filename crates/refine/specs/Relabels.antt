@@ -1,15 +1,18 @@
 -- A request that ends with a label, whatever it does before: begin, and the rebuild. What is left of it, stage by stage, is begin's
 -- list; and each step is the protocol's, whatever the program knew before the request. Assumes nothing.
 use mathlib.Core.Path.{_≡_, refl, sym, ap, ap₂, subst, _∙_}
-use mathlib.Core.Logic.{_⊎_, inl, inr}
-use mathlib.Core.Bool.{Bool, false, cond, not}
+use mathlib.Core.Logic.{_⊎_, inl, inr, ⊎-elim}
+use mathlib.Core.Bool.{Bool, true, false, cond, not, _&&_}
 use mathlib.Core.List.{List, [], _∷_, _++_, append-nil}
-use Prim.Native.Nat.{ℕ, suc, _+_}
+use Prim.Native.Nat.{ℕ, zero, suc, _+_, _≤_, _<_}
+use native.Mathlib.Nat.{eq-or-lt-of-le}
 use native.Mathlib.Omega.{arith}
+use lib.Dec.{eqb}
+use borrow.Author.Tests.{eq-eqb, ne-eqb}
 use Rattle.label.specs.declared.fields.Label as bytes
 use Rattle.protocol.specs.World.{Place, log, Image, update, World, Action, put, flush}
 use Rattle.protocol.specs.Batch.{puts, flushes}
-use Rattle.protocol.specs.Slots.{from, rows}
+use Rattle.protocol.specs.Slots.{from, keep, rows}
 use Rattle.protocol.specs.Walk.{append-assoc}
 use Rattle.protocol.specs.Rebuild.{wipe, wipe-batch, wiped-sectors}
 use Rattle.protocol.specs.Program.{Own, Memory, idle, doing, labelling, Reply, did, done, step}
@@ -17,21 +20,41 @@ use Rattle.protocol.specs.Machine.{effect}
 use Rattle.protocol.specs.Even.{program-by}
 use Rattle.codecs.specs.Sector.{Sector, zeros}
 use Rattle.codecs.specs.Shelf.{Shelf, slots}
+use Rattle.codecs.specs.Labels.{ours}
 use Rattle.codecs.specs.Records.{records}
 use Rattle.shelf.specs.Limits.{mostStages}
 use Rattle.shelf.specs.State.{moved}
 use Rattle.shelf.specs.Stage.{roundStage, lastStage, beginStage, stageAt, stageOf}
 use Rattle.shelf.specs.Act.{Move}
-use Rattle.shelf.specs.Step.{isEnd, finished, stepMove}
+use Rattle.shelf.specs.Step.{isEnd, finished, sound, stepMove}
 use Rattle.shelf.specs.declared.state.State.{State}
 use Rattle.shelf.specs.declared.state.Kind.{Kind}
 use Rattle.shelf.specs.declared.state.Kind.the-variants.{Beginning}
 use Rattle.shelf.specs.declared.stage.Stage.{Stage}
 use Rattle.shelf.specs.declared.stage.Stage.the-variants.{Flush, Give, Clear, Erase}
-use Rattle.refine.specs.Disks.{curOf}
-use Rattle.refine.specs.ToDo.{slotsFrom, toldAt, copyAt, given, rows-fresh, stampIn, actsOf, leftOf, toDo, stage-same, left-ended}
-use Rattle.refine.specs.Steps.{Fair, Does, step-does}
+use Rattle.refine.specs.Disks.{Disks, curOf}
+use Rattle.refine.specs.Lists.{Says, slots-are}
+use Rattle.refine.specs.ToDo.{slotsFrom, toldAt, copyAt, given, rows-fresh, stampIn, actsOf, leftOf, toDo, stage-same, left-ended, begin-each}
+use Rattle.refine.specs.Steps.{Present, Tells, Can, Narrow, Fair, Does, first-narrow, step-does}
 use Rattle.refine.specs.Tied.{ownOf, Same, programOf}
+
+-- ---- one slot, where it passes a test
+
+keep-none : (p : ℕ → Bool) (d n a : ℕ) → d < a → keep (λ e. eqb e d && p e) (from a n) ≡ []
+keep-none p d zero a l = refl
+keep-none p d (suc n) a l =
+    ap (λ (b : Bool). cond (b && p a) (a ∷ keep (λ e. eqb e d && p e) (from (suc a) n)) (keep (λ e. eqb e d && p e) (from (suc a) n))) (ne-eqb a d (λ q. omega arith)) ∙ keep-none p d n (suc a) (omega arith)
+
+keep-one : (p : ℕ → Bool) (d n a : ℕ) → a ≤ d → d < a + n → keep (λ e. eqb e d && p e) (from a n) ≡ keep p (d ∷ [])
+keep-one p d zero a l h = absurd (omega arith)
+keep-one p d (suc n) a l h =
+    let r : suc a ≤ d → keep (λ e. eqb e d && p e) (from (suc a) n) ≡ keep p (d ∷ []) = λ q. keep-one p d n (suc a) q (omega arith) in
+    ⊎-elim
+    (λ (e : a ≡ d). ap₂ (λ (b : Bool) (l : List ℕ). cond (b && p a) (a ∷ l) l) (eq-eqb a d e) (keep-none p d n (suc a) (omega arith)) ∙ ap (λ (x : ℕ). keep p (x ∷ [])) e)
+    (λ (q : a < d). ap (λ (b : Bool). cond (b && p a) (a ∷ keep (λ e. eqb e d && p e) (from (suc a) n)) (keep (λ e. eqb e d && p e) (from (suc a) n))) (ne-eqb a d (λ e. omega arith)) ∙ r q) (eq-or-lt-of-le l)
+
+pub one-slot : (z : Shelf) (mask d : ℕ) (p : ℕ → Bool) → d < slots z → Says z mask (λ e. eqb e d && p e) → slotsFrom (slots z) mask 0 ≡ keep p (d ∷ [])
+one-slot z mask d p l h = slots-are z mask (λ e. eqb e d && p e) h ∙ keep-one p d (slots z) 0 (omega arith) (omega arith)
 
 module _ (z : Shelf) where
   -- ---- the steps
@@ -204,3 +227,18 @@ module _ (z : Shelf) where
         (give-is (s .marks .prep) ps prep _ (s .marks .zeroed) (s .now)
         ∙ ap (λ (l : List (Action Sector)). gives (s .marks .zeroed) (s .now) ps ++ l)
         (ap (λ (l : List ℕ). puts (given z 0 (s .next)) (rows (toldAt (s .next)) (0 ∷ []) l) ++ flushes l) present)))))
+
+    -- AND IT CAN BE CARRIED OUT: its slots are present, and its labels can be told
+    pub begin-fair : sound s ≡ true → ours z (s .now) ≡ true → Disks z img → s .cursor .sector ≡ 0 → Present z (s .absent) (s .marks .redo) → Present z (s .absent) (s .marks .parts) → Present z (s .absent) (s .marks .late)
+        → Present z (s .absent) (s .marks .prep) → Present z (s .absent) (s .marks .present) → Tells z (s .now) → Tells z (s .next) → Fair z s work img
+    begin-fair in-range ours-now disks first redo parts late prep present now next =
+        let c : (i : ℕ) → Can z (s .absent) (stampIn s) work (stageAt (s .kind) s i) =
+        λ i. subst (λ (k : Kind). Can z (s .absent) (stampIn s) work (stageAt k s i)) (sym kind)
+        (begin-each (Can z (s .absent) (stampIn s) work) tt s redo parts late prep present parts late redo (prep, now) (present, next) i) in
+        record {
+          in-range = in-range;
+          ours-now = ours-now;
+          disks = disks;
+          narrow = subst (Narrow (z .c) (stageOf s)) (sym first) (first-narrow z (s .absent) (stampIn s) work (stageOf s) (c (s .cursor .stage)));
+          stages = c;
+        }
