@@ -10,6 +10,7 @@ pub mod Startup
 pub mod Decide
 pub mod Request
 pub mod Rebuild
+pub mod Strangers
 pub mod Host
 pub mod Count
 pub mod Spare

@@ -8,15 +8,15 @@ use native.Mathlib.Omega.{arith}
 use native.Mathlib.Decide.{ℕ-discrete}
 use lib.Dec.{eqb}
 use borrow.Author.Tests.{eq-eqb, ne-eqb, eqb-true, eqb-false, leb-false}
-use Rattle.protocol.specs.World.{Place, label, log, strip, slot, Image, update, update-other, World, Action, run, after, Possible, Sane, Always, During, sane-after, sane-run, always-after, always-map, during-map, during-start, during-end, during-append, run-append}
+use Rattle.protocol.specs.World.{Place, label, log, strip, slot, Image, update, update-other, World, Action, run, after, Possible, Sane, Always, During, sane-after, sane-run, always-after, always-cur, always-map, during-map, during-start, during-end, during-append, run-append}
 use Rattle.protocol.specs.Batch.{flushes, flushes-during, certain, Each, each-during, each-map, each-batch}
 use Rattle.protocol.specs.Slots.{from, in-from, of-from, of-slots, of-rows}
 use Rattle.protocol.specs.Log.{Write, RecordCodec, Belief}
 use Rattle.protocol.specs.Write.{log-write, store}
-use Rattle.protocol.specs.Label.{Label, Size, belief, Quorum, LabelCodec, round, prep}
+use Rattle.protocol.specs.Label.{Label, foreign, Size, belief, Quorum, LabelCodec, round, prep}
 use Rattle.protocol.specs.Decide.{data-place, Touch, Looked, log-each, strips-each, startup}
 use Rattle.protocol.specs.Request.{outed}
-use Rattle.protocol.specs.Rebuild.{begun, raised, healed, wipe, wipe-batch, wiped-sectors, filled-sectors, flushed-at-begin, begin-flushes, beginning, fill, fill-batch}
+use Rattle.protocol.specs.Rebuild.{begun, raised, healed, wipe, wipe-batch, wiped-sectors, filled-sectors, flushed-at-begin, begin-flushes, beginning, begin-own, fill, fill-batch}
 use Rattle.protocol.specs.Spare.{startup-spares, round-spares, present-in}
 use Rattle.protocol.specs.Restart.{restart}
 use Rattle.protocol.specs.Host.{Host, Code, read, rebuilt, writeOf}
@@ -27,7 +27,7 @@ use Rattle.protocol.specs.Promise.{beyond-in, beyond-none, proper-withou
 use Rattle.protocol.specs.Machine.{Machine, at, effect, Event, Outside, power-cut, program-dies, disk-swapped, Happens, from-outside, from-host, Runs, stays, goes, View, sure, open-write, kept-write}
 use Rattle.protocol.specs.Startup.{M}
 use Rattle.protocol.specs.Swap.{Swapped}
-use Rattle.protocol.specs.Shape.{Shape, Low, Top, Shapes, round-shape, prep-shape}
+use Rattle.protocol.specs.Shape.{Shape, Low, Top, Shapes, calm-own, round-shape, prep-shape}
 use Rattle.protocol.specs.Tidy.{Has, has-low, labels-kept, shape-same, top-same, start-shape}
 
 module _ {X : Type 0} (z : Size) (W : Quorum (z .n)) (C : LabelCodec X (z .n)) (K : RecordCodec X) (E : Code X (z .n) (K .c) W) (S : Stamps) (R : Medium z W C K E S) where
@@ -112,7 +112,9 @@ module _ {X : Type 0} (z : Size) (W : Quorum (z .n)) (C : LabelCodec X (z .n)) (
       let r3 = round-current o o' ds refl fit (λ e m. told-in back e m .0) (λ e j x. in-told back e j x) w2 (sane-run w1 A2 s1)
       (always-map (λ f. P f × ((e : ℕ) → List·Memᴰ e (d ∷ []) → Low C f e q) × Others f) (λ f. P f × ((e : ℕ) → List·Memᴰ e ds → Low C f e q)) w2
       (λ f c. (c .0, λ e m. let y = told-in back e m in one f (c .1) (c .2) e (y .0) (members e (y .1)) (ℕ-discrete e d))) (r2 .1)) in
-      let A3 = round C (begun (o .now) d) ds in (
+      let A3 = round C (begun (o .now) d) ds in
+      let own : (b : Bool) → foreign C seen d b ≡ 0 = λ b. ap (C .strange d b) (agree b) ∙ calm-own C (w .cur) d b (always-cur (Current o) w sane h .0 d i .calm b) in
+      subst (λ (l : List (Action X)). During w l P × Always (run w l) (Current o')) (sym (begin-own K C seen (o .now) d ds own)) (
         during-append P w A0 (A1 ++ (A2 ++ A3)) (during-map (Current o) P w A0 (λ f c. c .0) z0)
             (during-append P w0 A1 (A2 ++ A3) (during-map (λ f. Current o f × Certain f) P w0 A1 (λ f c. c .0 .0) a)
             (during-append P w1 A2 A3 (during-map (λ f. P f × Others f) P w1 A2 (λ f c. c .0) (r2 .0)) (r3 .0))),
