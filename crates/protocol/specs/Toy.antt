@@ -3,7 +3,7 @@
 use Prim.Native.Nat.{ℕ, zero, suc, _+_, _*_, _≤_, _<_}
 use mathlib.Core.Path.{_≡_, refl, sym, ap, ap₂, _∙_, fun-ext}
 use mathlib.Core.Bool.{Bool, true, false, cond, not, _&&_, _||_, Bool·beq, true≢false, false≢true}
-use mathlib.Core.Logic.{_⊎_, ⊎-elim, inl, inr}
+use mathlib.Core.Logic.{_⊎_, ⊎-elim, inl, inr, _≢_}
 use native.Mathlib.Omega.{arith}
 use lib.Dec.{eqb, ltb, leb}
 use borrow.Author.Tests.{leb-true, le-leb, ltb-true, ltb-false, lt-ltb, eq-eqb}
@@ -11,7 +11,7 @@ use Rattle.protocol.specs.Log.{RecordCodec}
 use Rattle.protocol.specs.Write.{both}
 use Rattle.protocol.specs.Label.{Label, Size, Quorum, LabelCodec}
 use Rattle.protocol.specs.Count.{at-most, tally}
-use Rattle.protocol.specs.Host.{all-sound, several, Blocks, set-block, Code}
+use Rattle.protocol.specs.Host.{accused, blames, all-sound, several, Blocks, set-block, Code}
 use Rattle.protocol.specs.Program.{Stamps, Proper, Medium}
 
 -- 3 slots, 1 stripe
@@ -351,6 +351,13 @@ reaches i (suc zero) = eqb 1 i
 reaches i (suc (suc zero)) = true
 reaches i (suc (suc (suc d))) = false
 
+-- a strip from the two others
+abbrev pub from-others : (ℕ → ℕ → Sector) → ℕ → ℕ → Sector
+from-others g zero j = left (g 2 j)
+from-others g (suc zero) j = right (g 2 j)
+from-others g (suc (suc zero)) j = joined (g 0 j) (g 1 j)
+from-others g (suc (suc (suc d))) j = blank
+
 unfoldable pub quorum : Quorum 3
 quorum = at-most 2 1 (omega arith)
 
@@ -383,12 +390,32 @@ code =
       scrub = λ t g. cond (alike (g 2 0) (joined (g 0 0) (g 1 0))) all-sound several;
       scrub-sound = λ t b g h. blameless b g h;
       broad = λ t i h a few. hit i h a few;
+      lies = λ t r. r;
+      mended = λ t g d j. from-others g d j;
+      at-home = λ t bad g i j h e. home bad g i j h e;
+      mends = λ t d b g h e j i. mended-right d b g h e j i;
+      accuses-it = λ t d r b g h e q. absurd (nobody (alike (g 2 0) (joined (g 0 0) (g 1 0))) r q);
     }
   where
     blameless : (b : Blocks Sector) (g : ℕ → ℕ → Sector) → ((d j : ℕ) → d < 3 → j < 1 → g d j ≡ spread b d j) → cond (alike (g 2 0) (joined (g 0 0) (g 1 0))) all-sound several ≡ all-sound
     blameless b g h =
         let e : g 2 0 ≡ joined (g 0 0) (g 1 0) = h 2 0 (omega arith) (omega arith) ∙ sym (ap₂ joined (h 0 0 (omega arith) (omega arith)) (h 1 0 (omega arith) (omega arith))) in
         ap (λ (y : Bool). cond y all-sound several) (ap (λ (y : Sector). alike y (joined (g 0 0) (g 1 0))) e ∙ alike-self (joined (g 0 0) (g 1 0)))
+
+    home : (bad : ℕ → Bool) (g : ℕ → ℕ → Sector) (i j : ℕ) → i < 2 → bad i ≡ false → gather bad g i j ≡ g i j
+    home bad g zero j h e = rw e
+    home bad g (suc zero) j h e = rw e
+    home bad g (suc (suc i)) j h e = absurd (omega arith)
+
+    mended-right : (d : ℕ) (b : Blocks Sector) (g : ℕ → ℕ → Sector) → d < 3 → ((e j : ℕ) → e < 3 → e ≢ d → j < 1 → g e j ≡ spread b e j) → (j : ℕ) → j < 1 → from-others g d j ≡ spread b d j
+    mended-right zero b g h e j i = ap left (e 2 j (omega arith) (λ q. omega arith) i) ∙ left-back (b 0 j) (b 1 j)
+    mended-right (suc zero) b g h e j i = ap right (e 2 j (omega arith) (λ q. omega arith) i) ∙ right-back (b 0 j) (b 1 j)
+    mended-right (suc (suc zero)) b g h e j i = ap₂ joined (e 0 j (omega arith) (λ q. omega arith) i) (e 1 j (omega arith) (λ q. omega arith) i)
+    mended-right (suc (suc (suc d))) b g h e j i = absurd (omega arith)
+
+    nobody : (y : Bool) (r : ℕ) → cond y all-sound several ≡ accused r → ⊥
+    nobody true r q = false≢true (ap blames q)
+    nobody false r q = false≢true (ap blames q)
 
     low : (i d : ℕ) → reaches i d ≡ true → d < 3
     low i zero e = omega arith
