@@ -860,10 +860,12 @@ module _ {X : Type 0} (z : Size) (W : Quorum (z .n)) (C : LabelCodec X (z .n)) (
       let r1 : List Test = record { why = BUSY; holds = false } ∷ r2 in
       let a = first-clear (record { why = BAD_BLOCK; holds = not (ltb t (z .T) && proper z W K E ch) }) r1 e in
       let b = both (ltb t (z .T)) (proper z W K E ch) (yes-of (ltb t (z .T) && proper z W K E ch) (a .0)) in
-      let c = first-clear (record { why = NOT_NOW; holds = not (ltb (suc (o .count)) (S .base (suc (o .epoch)))) }) [] (first-clear (record { why = BUSY; holds = false }) r2 (a .1) .1) in
-      (open-write v (replace v t ch), refl,
-      subst (λ (y : Change X). Invariant z W C K E S R (at w (ask-log z W C K E S R o (writeOf z W K E (o .now) seen t y))) (open-write v (replace v t ch))) (sym (made-as-asked v w o s h t ch (ltb-true t (z .T) (b .0))))
-      (write-busy v w o s h t ch (ltb-true t (z .T) (b .0)) (b .1) (ltb-true (suc (o .count)) (S .base (suc (o .epoch))) (yes-of (ltb (suc (o .count)) (S .base (suc (o .epoch)))) (c .0))))))
+      let c = first-clear (record { why = NOT_NOW; holds = not (ltb (suc (o .count)) (S .base (suc (o .epoch)))) }) [] (first-clear (record { why = BUSY; holds = false }) r2 (a .1) .1) in (
+        open-write v (replace v t ch),
+        refl,
+        subst (λ (y : Change X). Invariant z W C K E S R (at w (ask-log z W C K E S R o (writeOf z W K E (o .now) seen t y))) (open-write v (replace v t ch))) (sym (made-as-asked v w o s h t ch (ltb-true t (z .T) (b .0))))
+            (write-busy v w o s h t ch (ltb-true t (z .T) (b .0)) (b .1) (ltb-true (suc (o .count)) (S .base (suc (o .epoch))) (yes-of (ltb (suc (o .count)) (S .base (suc (o .epoch)))) (c .0)))),
+      ))
   sim-idle w o (take-out d) v s h =
       verdict w (idle o) (take-out d) (sure v) (s, h) (may z W C K E S R false o (take-out d)) (asked-out z W C K E S R o d) accepted
       (λ e. let t = out-tests o d e in (sure v, refl, out-busy v w o s h d (t .0) (t .1) (t .2)))

@@ -21,7 +21,7 @@ use Rattle.shards.specs.Search.{all, all-at, all-of, some, some-of, firs
 use Rattle.shards.specs.Quorum.{fewOf, count-none, count-one}
 use Rattle.shards.specs.Position.{holds, holds-true, holds-is, holds-same, padded, filled-off, filled-is, filled-blind}
 use Rattle.shards.specs.Parity.{byte, sector-ext}
-use Rattle.shards.specs.Code.{position, position-bytes, missingOf, missing-few, missing-has, in-range, blocksFrom, blocks-byte, soundIn, mendedBy, oneMends, scrubOf}
+use Rattle.shards.specs.Strips.{position, position-bytes, missingOf, missing-few, missing-has, in-range, blocksFrom, blocks-byte, soundIn, mendedBy, oneMends, scrubOf}
 
 -- ---- where two shards can be blamed for a position, none is to be
 

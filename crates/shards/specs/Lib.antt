@@ -3,7 +3,8 @@ pub mod Search
 pub mod Quorum
 pub mod Position
 pub mod Parity
-pub mod Code
+pub mod Strips
 pub mod Exact
+pub mod Code
 pub mod Promise
 pub mod Even

@@ -26,7 +26,7 @@ use Rattle.codecs.specs.Records.{stripBytes, length-strip, strip-part}
 use Rattle.shards.specs.Quorum.{fewOf}
 use Rattle.shards.specs.Position.{ascending, ascending-past}
 use Rattle.shards.specs.Parity.{byte}
-use Rattle.shards.specs.Code.{position, missingOf, missing-few, in-range}
+use Rattle.shards.specs.Strips.{position, missingOf, missing-few, in-range}
 
 -- ---- lists of one length, one behind the other
 
