@@ -21,6 +21,8 @@ pub mod Program
 pub mod Machine
 pub mod Invariant
 pub mod Promise
+pub mod Refresh
+pub mod Veil
 pub mod Toy
 pub mod Run
 pub mod Kept
