@@ -23,6 +23,7 @@ pub mod Invariant
 pub mod Promise
 pub mod Refresh
 pub mod Veil
+pub mod Rot
 pub mod Toy
 pub mod Run
 pub mod Kept

@@ -118,7 +118,7 @@ module _ {X : Type 0} (z : Size) (W : Quorum (z .n)) (C : LabelCodec X (z .n)) (
   unfolding mask
   mask-present A f k e = rw e
 
-  mask-agrees : (Q : Label) (A : ℕ → Bool) (f : Image X) → ((d : ℕ) → A d ≡ true → looked z Q d ≡ true → ⊥) → Agrees (belief z Q) f (mask z W C K E S R A f)
+  pub mask-agrees : (Q : Label) (A : ℕ → Bool) (f : Image X) → ((d : ℕ) → A d ≡ true → looked z Q d ≡ true → ⊥) → Agrees (belief z Q) f (mask z W C K E S R A f)
   unfolding belief
   mask-agrees Q A f dark = record { on-log = λ d j l. mask-present A f (log d j) (there d l); on-strip = λ d t j l. mask-present A f (strip d t j) (there d l) }
     where
@@ -129,7 +129,7 @@ module _ {X : Type 0} (z : Size) (W : Quorum (z .n)) (C : LabelCodec X (z .n)) (
           go true e = absurd (dark d e l)
           go false e = e
 
-  quiet-seen : (history : ℕ → Write X) (u : ℕ) (s : Table X) (Q : Label) (A : ℕ → Bool) (f : Image X) → ((d : ℕ) → A d ≡ true → looked z Q d ≡ true → ⊥) → Quiet K (belief z Q) history u s f → Quiet K (belief z Q) history u s (mask z W C K E S R A f)
+  pub quiet-seen : (history : ℕ → Write X) (u : ℕ) (s : Table X) (Q : Label) (A : ℕ → Bool) (f : Image X) → ((d : ℕ) → A d ≡ true → looked z Q d ≡ true → ⊥) → Quiet K (belief z Q) history u s f → Quiet K (belief z Q) history u s (mask z W C K E S R A f)
   unfolding Quiet
   quiet-seen history u s Q A f dark q = old-frame K (belief z Q) (belief z Q) history (within-self (belief z Q)) f (mask z W C K E S R A f) (mask-agrees Q A f dark) u 0 s q
 
@@ -154,7 +154,7 @@ module _ {X : Type 0} (z : Size) (W : Quorum (z .n)) (C : LabelCodec X (z .n)) (
   ready-early v w o h = epoch-grows o (h .epoch-now) (h .u) (omega (arith, h .used, h .early))
 
   -- READY AS LEFT BY A CUT
-  ready-off : (v : Host X) (w : World X) (o : Own) → Sane w → Ready z W C K E S R v w o → Off z W C K E S R (sure v) w
+  pub ready-off : (v : Host X) (w : World X) (o : Own) → Sane w → Ready z W C K E S R v w o → Off z W C K E S R (sure v) w
   ready-off v w o sane h =
       record {
         sane = sane;
@@ -169,11 +169,11 @@ module _ {X : Type 0} (z : Size) (W : Quorum (z .n)) (C : LabelCodec X (z .n)) (
   busy-off k p w l o o' h = record { sane = h .sane; ghost = h .ghost; early = h .early; pends = h .pends; left = during-start (Left z W C K E S R (h .ghost) p) w l (h .during) }
 
   -- what a cut leaves
-  off-cut : (p : View X) (w : World X) (f : Image X) → Possible w f → Off z W C K E S R p w → Off z W C K E S R p (after f)
+  pub off-cut : (p : View X) (w : World X) (f : Image X) → Possible w f → Off z W C K E S R p w → Off z W C K E S R p (after f)
   unfolding Always
   off-cut p w f q h = record { sane = sane-after f; ghost = h .ghost; early = h .early; pends = h .pends; left = always-after (Left z W C K E S R (h .ghost) p) f (h .left f q) }
 
-  memory-off : (w : World X) (m : Memory X) (p : View X) → Invariant z W C K E S R (at w m) p → Off z W C K E S R p w
+  pub memory-off : (w : World X) (m : Memory X) (p : View X) → Invariant z W C K E S R (at w m) p → Off z W C K E S R p w
   memory-off w nothing p h = h
   memory-off w (idle o) (sure v) h = ready-off v w o (h .0) (h .1)
   memory-off w (idle o) (open-write v v') h = absurd h
@@ -721,7 +721,7 @@ module _ {X : Type 0} (z : Size) (W : Quorum (z .n)) (C : LabelCodec X (z .n)) (
         go true e = heal-busy (z .T - o .now .mark) i (omega (arith, h .sound .mark-T)) room
         go false e = raise-busy (at-least-one z W C K E S R b) i (omega (arith, leb-false (z .T) (o .now .mark + at-least-one z W C K E S R b) e)) room
 
-  in-range : (t i : ℕ) (b : Bool) (o : Own) → may z W C K E S R b o (read-block t i) ≡ clear → (t < z .T) × (i < E .k)
+  pub in-range : (t i : ℕ) (b : Bool) (o : Own) → may z W C K E S R b o (read-block t i) ≡ clear → (t < z .T) × (i < E .k)
   in-range t i b o e =
       let a = first-clear (record { why = BAD_BLOCK; holds = not (ltb t (z .T) && ltb i (E .k)) }) [] e in
       let y = both (ltb t (z .T)) (ltb i (E .k)) (yes-of (ltb t (z .T) && ltb i (E .k)) (a .0)) in
@@ -765,7 +765,7 @@ module _ {X : Type 0} (z : Size) (W : Quorum (z .n)) (C : LabelCodec X (z .n)) (
       let b = first-clear (record { why = NOT_NOW; holds = not (leb 1 (R .greatest)) }) [] (a .1) in
       (blank-zeros f (yes-of (blank z W C K E S R f) (a .0)), leb-true 1 (R .greatest) (yes-of (leb 1 (R .greatest)) (b .0)))
 
-  scrub-tests : (t : ℕ) (b : Bool) (o : Own) → may z W C K E S R b o (scrub-stripe t) ≡ clear → (t < z .T) × ((d : ℕ) → d < z .n → o .now .out d ≡ false)
+  pub scrub-tests : (t : ℕ) (b : Bool) (o : Own) → may z W C K E S R b o (scrub-stripe t) ≡ clear → (t < z .T) × ((d : ℕ) → d < z .n → o .now .out d ≡ false)
   scrub-tests t b o e =
       let none = every (λ d. not (o .now .out d)) (from 0 (z .n)) in
       let r1 : List Test = record { why = NOT_NOW; holds = not none } ∷ [] in
@@ -798,7 +798,7 @@ module _ {X : Type 0} (z : Size) (W : Quorum (z .n)) (C : LabelCodec X (z .n)) (
 
   -- with nothing out every stripe is found sound: a write is made as it is asked, and no repair is needed
   module _ (v : Host X) (w : World X) (o : Own) (sane : Sane w) (h : Ready z W C K E S R v w o) where
-    found-sound : (t : ℕ) → t < z .T → ((d : ℕ) → d < z .n → o .now .out d ≡ false) → finding z W C K E S R (mask z W C K E S R (o .absent) (w .cur)) t ≡ all-sound
+    pub found-sound : (t : ℕ) → t < z .T → ((d : ℕ) → d < z .n → o .now .out d ≡ false) → finding z W C K E S R (mask z W C K E S R (o .absent) (w .cur)) t ≡ all-sound
     found-sound t i none = quiet-scrub (h .history) (h .u) (o .now) v (mask z W C K E S R (o .absent) (w .cur)) none (seen-quiet v w o sane h (o .absent) (h .dark)) t i
 
     pub made-as-asked : (t : ℕ) (ch : Change X) → t < z .T → change-made z W C K E S R o (mask z W C K E S R (o .absent) (w .cur)) t ch ≡ ch
@@ -812,7 +812,7 @@ module _ {X : Type 0} (z : Size) (W : Quorum (z .n)) (C : LabelCodec X (z .n)) (
         go true e = ap (λ (x : Finding). cond (unsound x) (whole-change z W K E (o .now) (mask z W C K E S R (o .absent) (w .cur)) t ch) ch) (found-sound t i (λ d j. not-true (o .now .out d) (every-of (λ y. not (o .now .out y)) (from 0 (z .n)) e d (in-from (z .n) 0 d (omega arith) (omega arith)))))
         go false e = refl
 
-    no-repair : (t : ℕ) → may-repair z W C K E S R false o (mask z W C K E S R (o .absent) (w .cur)) t ≡ clear → ⊥
+    pub no-repair : (t : ℕ) → may-repair z W C K E S R false o (mask z W C K E S R (o .absent) (w .cur)) t ≡ clear → ⊥
     no-repair t e = let a = may-repair-tests t o (mask z W C K E S R (o .absent) (w .cur)) e in false≢true (ap blames (sym (found-sound t (a .0) (a .1))) ∙ a .3)
 
   -- EACH REQUEST

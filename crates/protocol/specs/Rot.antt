@@ -1,0 +1,363 @@
+-- THE PROMISE WHERE STRIPS ROT (PROTOCOL, repair).
+use Prim.Native.Nat.{ℕ, suc, _≤_, _<_}
+use mathlib.Core.Path.{_≡_, refl, sym, ap, subst, _∙_, fun-ext}
+use mathlib.Core.Bool.{Bool, true, false, cond, not, _&&_, _||_, true≢false, false≢true}
+use mathlib.Core.Logic.{_⊎_, ⊎-elim, inl, inr, _≢_}
+use mathlib.Core.List.{List, [], _∷_, _++_}
+use native.Mathlib.Omega.{arith}
+use lib.Dec.{eqb, ltb, leb}
+use borrow.Author.Tests.{eq-eqb, ne-eqb, eqb-true, eqb-false, ltb-true, lt-ltb, not-true}
+use Rattle.protocol.specs.World.{Place, label, log, strip, slot, Image, World, Action, act, run, after, Possible, Sane, Always, During, sane-act, sane-run, always-cur, always-map, during-start}
+use Rattle.protocol.specs.Slots.{from, every, slots}
+use Rattle.protocol.specs.Log.{Write, RecordCodec, Belief, Table, Quiet}
+use Rattle.protocol.specs.Write.{log-write, store, store-batch, both}
+use Rattle.protocol.specs.Redo.{whole, completeB, forward, marked, kill-batch, redo, redone}
+use Rattle.protocol.specs.Label.{Label, copy, last-side, expel-batch, prep-batch, Size, believed, belief, Quorum, LabelCodec}
+use Rattle.protocol.specs.Startup.{gone, level-to, again-to, last-to, rounds}
+use Rattle.protocol.specs.Decide.{in-turn, startup, Rest}
+use Rattle.protocol.specs.Host.{Host, Blocks, Finding, blames, unsound, all-sound, accused, several, Change, one-block, all-blocks, changed, replace, Code, table, proper, reached, read, read-through, writeOf, strips-of, mend, accused-slot, repairOf, whole-change, missing}
+use Rattle.protocol.specs.Program.{Stamps, Medium, Verdict, clear, because, Own, Kind, creating, starting, logging, storing, labelling, Memory, nothing, idle, doing, Input, create, start, read-block, write, take-out, begin, rebuild-on, scrub-stripe, repair, step, Reply, accepted, refused, did, safe, done, block, found, new-label, Proper, mask, left-out, beyond, ask-log, all-in, finding, change-made, asked-write, asked-repair, may, also, may-repair, answer, from-nothing, from-idle, from-doing, one-step, meanwhile, scrubbed, unseen, back-in, program}
+use Rattle.protocol.specs.Machine.{Machine, at, effect, Event, cut, dies, swap, ask, Outside, power-cut, program-dies, disk-swapped, Happens, from-outside, from-host, View, sure, open-write, kept-write, list-of, Accepting, Saved, Ended, Gives, Answered}
+use Rattle.protocol.specs.Invariant.{Dark, Ready, Busy, Invariant, Off}
+use Rattle.protocol.specs.Promise.{simulate, ready-off, off-cut, memory-off, quiet-seen, mask-present, found-sound, made-as-asked, no-repair, may-repair-tests}
+use Rattle.protocol.specs.Refresh.{Stored, store-done, refresh}
+use Rattle.protocol.specs.Veil.{Rot, rotten, OneEach, spread, mended, two, mended-one, Agree, Veiled, veiled-act, veiled-run, cleaned, cleaned-possible, veiled-cut, veiled-stored, Decayed, veiled-decay}
+
+module _ {X : Type 0} (z : Size) (W : Quorum (z .n)) (C : LabelCodec X (z .n)) (K : RecordCodec X) (E : Code X (z .n) (K .c) W) (S : Stamps) (R : Medium z W C K E S) where
+  -- WHAT THE PROGRAM LOOKS AT. Start-up and begin look at labels and log sectors alone
+  abbrev bones : Image X → Image X
+  bones f (label d b) = f (label d b)
+  bones f (log d j) = f (log d j)
+  bones f (strip d t j) = K .zeros
+
+  module _ (rot : Rot) (f g : Image X) (same : Agree (K .c) rot f g) where
+    same-bones : bones f ≡ bones g
+    same-bones = fun-ext (λ k. go k)
+      where
+        go : (k : Place) → bones f k ≡ bones g k
+        go (label d b) = same (label d b) refl
+        go (log d j) = same (log d j) refl
+        go (strip d t j) = refl
+
+    -- stripes in which nothing is rotten look the same
+    same-strips : (t : ℕ) → ((d : ℕ) → rot d t ≡ false) → strips-of z W K E f t ≡ strips-of z W K E g t
+    same-strips t none = fun-ext (λ d. fun-ext (λ j. same (strip d t j) (rw (none d))))
+
+    same-all : ((d t : ℕ) → rot d t ≡ false) → f ≡ g
+    same-all none = fun-ext (λ k. go k)
+      where
+        go : (k : Place) → f k ≡ g k
+        go (label d b) = same (label d b) refl
+        go (log d j) = same (log d j) refl
+        go (strip d t j) = same (strip d t j) (rw (none d t))
+
+    mask-same : (A : ℕ → Bool) → Agree (K .c) rot (mask z W C K E S R A f) (mask z W C K E S R A g)
+    unfolding mask
+    mask-same A k e = go (A (slot k))
+      where
+        go : (b : Bool) → cond b (K .zeros) (f k) ≡ cond b (K .zeros) (g k)
+        go true = refl
+        go false = same k e
+
+  start-bones : (A : ℕ → Bool) (f : Image X) → from-nothing z W C K E S R f (start A) ≡ from-nothing z W C K E S R (bones f) (start A)
+  unfolding copy gone left-out startup in-turn rounds level-to again-to last-to prep-batch redo whole completeB forward marked kill-batch store-batch
+  start-bones A f = refl
+
+  begin-bones : (o : Own) (d : ℕ) (f : Image X) → from-idle z W C K E S R o f (begin d) ≡ from-idle z W C K E S R o (bones f) (begin d)
+  unfolding copy last-side expel-batch prep-batch
+  begin-bones o d f = refl
+
+  -- a write looks at its own stripe
+  write-strips : (o : Own) (t : ℕ) (ch : Change X) (f g : Image X) → strips-of z W K E f t ≡ strips-of z W K E g t → asked-write z W C K E S R o f t ch ≡ asked-write z W C K E S R o g t ch
+  unfolding writeOf change-made whole-change read
+  write-strips o t ch f g e = ap (λ (y : ℕ → ℕ → X). written y) e
+    where
+      made : (ℕ → ℕ → X) → Change X
+      made y = cond (all-in z W C K E S R o && unsound (E .scrub t y)) (all-blocks (changed ch (E .blocks t (missing z W K E (o .now) t) (mend z W K E t (E .scrub t y) y)))) ch
+
+      written : (ℕ → ℕ → X) → Memory X
+      written y = ask-log z W C K E S R o (record { stripe = t; changes = reached z W K E t (made y); new = E .shard t (changed (made y) (E .blocks t (missing z W K E (o .now) t) y)) })
+
+  -- THE HOST'S VIEW. What is promised of each answer while the strips rot
+  -- the same list, as far as it goes
+  abbrev pub Listed : Host X → Host X → Type 0
+  Listed a b = (t i j : ℕ) → t < z .T → i < E .k → j < K .c → a t i j ≡ b t i j
+
+  -- block i of stripe t: nothing of the stripe is rotten, or its own slot is believed there and its strip is not
+  abbrev pub Fine : Rot → Label → ℕ → ℕ → Type 0
+  Fine rot Q t i = ((d : ℕ) → rot d t ≡ false) ⊎ ((believed z Q (E .lies t i) t ≡ true) × (rot (E .lies t i) t ≡ false))
+
+  -- a write replaces its entry, also in a rotten stripe; a repair leaves the list as it is
+  abbrev pub RotAccepts : Input X → View X → View X → Type 0
+  RotAccepts create p p' = p' ≡ p
+  RotAccepts (start A) p p' = p' ≡ p
+  RotAccepts (read-block t i) p p' = p' ≡ p
+  RotAccepts (write t ch) (sure v) p' = (v' : Host X) × (p' ≡ open-write v v') × Listed v' (replace v t ch)
+  RotAccepts (write t ch) (open-write v v') p' = ⊥
+  RotAccepts (write t ch) (kept-write v') p' = ⊥
+  RotAccepts (take-out d) p p' = p' ≡ p
+  RotAccepts (begin d) p p' = p' ≡ p
+  RotAccepts (rebuild-on b) p p' = p' ≡ p
+  RotAccepts (scrub-stripe t) p p' = p' ≡ p
+  RotAccepts (repair t) p p' = p' ≡ p
+  RotAccepts step p p' = p' ≡ p
+
+  abbrev pub RotSaved : View X → View X → Type 0
+  RotSaved (sure v) p' = p' ≡ sure v
+  RotSaved (open-write v v') p' = p' ≡ kept-write v'
+  RotSaved (kept-write v') p' = ⊥
+
+  abbrev pub RotEnded : Kind X → View X → View X → Type 0
+  RotEnded creating p p' = Ended creating p p'
+  RotEnded starting p p' = Ended starting p p'
+  RotEnded (logging w) p p' = ⊥
+  RotEnded (storing w) (sure v) p' = p' ≡ sure v
+  RotEnded (storing w) (open-write v v') p' = ⊥
+  RotEnded (storing w) (kept-write v') p' = p' ≡ sure v'
+  RotEnded labelling p p' = Ended labelling p p'
+
+  -- a read gives the list's entry, if the block is fine
+  abbrev pub RotGives : Rot → Label → (ℕ → X) → Input X → View X → View X → Type 0
+  RotGives rot Q b create p p' = ⊥
+  RotGives rot Q b (start A) p p' = ⊥
+  RotGives rot Q b (read-block t i) p p' = (p' ≡ p) × ((j : ℕ) → j < K .c → Fine rot Q t i → b j ≡ list-of p t i j)
+  RotGives rot Q b (write t ch) p p' = ⊥
+  RotGives rot Q b (take-out d) p p' = ⊥
+  RotGives rot Q b (begin d) p p' = ⊥
+  RotGives rot Q b (rebuild-on x) p p' = ⊥
+  RotGives rot Q b (scrub-stripe t) p p' = ⊥
+  RotGives rot Q b (repair t) p p' = ⊥
+  RotGives rot Q b step p p' = ⊥
+
+  -- a scrub finds a stripe sound in which nothing is rotten
+  abbrev pub RotFinds : Rot → Finding → Input X → Type 0
+  RotFinds rot x create = x ≡ all-sound
+  RotFinds rot x (start A) = x ≡ all-sound
+  RotFinds rot x (read-block t i) = x ≡ all-sound
+  RotFinds rot x (write t ch) = x ≡ all-sound
+  RotFinds rot x (take-out d) = x ≡ all-sound
+  RotFinds rot x (begin d) = x ≡ all-sound
+  RotFinds rot x (rebuild-on b) = x ≡ all-sound
+  RotFinds rot x (scrub-stripe t) = ((d : ℕ) → rot d t ≡ false) → x ≡ all-sound
+  RotFinds rot x (repair t) = x ≡ all-sound
+  RotFinds rot x step = x ≡ all-sound
+
+  abbrev pub RotAnswered : Rot → Label → Input X → Reply X → View X → View X → Type 0
+  RotAnswered rot Q i accepted p p' = RotAccepts i p p'
+  RotAnswered rot Q i (refused why) p p' = p' ≡ p
+  RotAnswered rot Q i (did a) p p' = p' ≡ p
+  RotAnswered rot Q i safe p p' = RotSaved p p'
+  RotAnswered rot Q i (done k) p p' = RotEnded k p p'
+  RotAnswered rot Q i (block b) p p' = RotGives rot Q b i p p'
+  RotAnswered rot Q i (found x) p p' = (p' ≡ p) × RotFinds rot x i
+
+  -- what is promised without rot is more
+  accepts-rot : (i : Input X) (p p' : View X) → Accepting i p p' → RotAccepts i p p'
+  accepts-rot create p p' h = h
+  accepts-rot (start A) p p' h = h
+  accepts-rot (read-block t i) p p' h = h
+  accepts-rot (write t ch) (sure v) p' h = (replace v t ch, h, λ a b c x y q. refl)
+  accepts-rot (write t ch) (open-write v v') p' h = h
+  accepts-rot (write t ch) (kept-write v') p' h = h
+  accepts-rot (take-out d) p p' h = h
+  accepts-rot (begin d) p p' h = h
+  accepts-rot (rebuild-on b) p p' h = h
+  accepts-rot (scrub-stripe t) p p' h = h
+  accepts-rot (repair t) p p' h = h
+  accepts-rot step p p' h = h
+
+  ended-rot : (k : Kind X) (p p' : View X) → Ended k p p' → RotEnded k p p'
+  ended-rot creating p p' h = h
+  ended-rot starting p p' h = h
+  ended-rot (logging w) p p' h = h
+  ended-rot (storing w) (sure v) p' h = absurd h
+  ended-rot (storing w) (open-write v v') p' h = h
+  ended-rot (storing w) (kept-write v') p' h = h
+  ended-rot labelling p p' h = h
+
+  saved-rot : (p p' : View X) → Saved p p' → RotSaved p p'
+  saved-rot (sure v) p' h = absurd h
+  saved-rot (open-write v v') p' h = h
+  saved-rot (kept-write v') p' h = h
+
+  gives-rot : (rot : Rot) (Q : Label) (b : ℕ → X) (i : Input X) (p p' : View X) → Gives (K .c) b i p p' → RotGives rot Q b i p p'
+  gives-rot rot Q b create p p' h = h
+  gives-rot rot Q b (start A) p p' h = h
+  gives-rot rot Q b (read-block t i) p p' h = (h .0, λ j g f. h .1 j g)
+  gives-rot rot Q b (write t ch) p p' h = h
+  gives-rot rot Q b (take-out d) p p' h = h
+  gives-rot rot Q b (begin d) p p' h = h
+  gives-rot rot Q b (rebuild-on x) p p' h = h
+  gives-rot rot Q b (scrub-stripe t) p p' h = h
+  gives-rot rot Q b (repair t) p p' h = h
+  gives-rot rot Q b step p p' h = h
+
+  finds-rot : (rot : Rot) (x : Finding) (i : Input X) → x ≡ all-sound → RotFinds rot x i
+  finds-rot rot x create h = h
+  finds-rot rot x (start A) h = h
+  finds-rot rot x (read-block t i) h = h
+  finds-rot rot x (write t ch) h = h
+  finds-rot rot x (take-out d) h = h
+  finds-rot rot x (begin d) h = h
+  finds-rot rot x (rebuild-on b) h = h
+  finds-rot rot x (scrub-stripe t) h = λ n. h
+  finds-rot rot x (repair t) h = h
+  finds-rot rot x step h = h
+
+  answered-rot : (rot : Rot) (Q : Label) (i : Input X) (r : Reply X) (p p' : View X) → Answered (K .c) i r p p' → RotAnswered rot Q i r p p'
+  answered-rot rot Q i accepted p p' h = accepts-rot i p p' h
+  answered-rot rot Q i (refused why) p p' h = h
+  answered-rot rot Q i (did a) p p' h = h
+  answered-rot rot Q i safe p p' h = saved-rot p p' h
+  answered-rot rot Q i (done k) p p' h = ended-rot k p p' h
+  answered-rot rot Q i (block b) p p' h = gives-rot rot Q b i p p' h
+  answered-rot rot Q i (found x) p p' h = (h .0, finds-rot rot x i (h .1))
+
+  -- THE INVARIANT
+  -- a repair under way, on the clean disks: a refresh. l: what is left of its log and strips
+  pub record Mending (v : Host X) (wr : Write X) (c : World X) (l : List (Action X)) (o o' : Own) : Type 0 where
+    pub sane : Sane c
+    pub history : ℕ → Write X
+    pub u : ℕ
+    pub used : u ≤ o' .count
+    pub early : o' .count < S .base (suc (o' .epoch))
+    pub born : 0 < o' .epoch
+    pub epoch-now : o' .epoch ≤ o' .now .generation
+    pub sound : Proper z (o' .now)
+    pub most : o' .now .generation ≤ R .greatest
+    pub dark : Dark z W C K E S R o'
+    pub same-now : o .now ≡ o' .now
+    pub same-absent : o .absent ≡ o' .absent
+    pub during : During c l (Rest z W C K history u (o' .now) (table z W K E v))
+    pub right : (d j : ℕ) → wr .changes d ≡ true → j < K .c → wr .new d j ≡ table z W K E v (wr .stripe) d j
+
+  mending-ready : (v : Host X) (wr : Write X) (c : World X) (l : List (Action X)) (o o' : Own) → Mending v wr c l o o' → Ready z W C K E S R v c o'
+  mending-ready v wr c l o o' h =
+      record {
+        history = h .history;
+        u = h .u;
+        used = h .used;
+        early = h .early;
+        born = h .born;
+        epoch-now = h .epoch-now;
+        sound = h .sound;
+        most = h .most;
+        rest = during-start (Rest z W C K (h .history) (h .u) (o' .now) (table z W K E v)) c l (h .during);
+        dark = h .dark;
+      }
+
+  mending-act : (v : Host X) (wr : Write X) (c : World X) (a : Action X) (l : List (Action X)) (o o' : Own) → Mending v wr c (a ∷ l) o o' → Mending v wr (act c a) l o o'
+  mending-act v wr c a l o o' h =
+      record {
+        sane = sane-act c a (h .sane);
+        history = h .history;
+        u = h .u;
+        used = h .used;
+        early = h .early;
+        born = h .born;
+        epoch-now = h .epoch-now;
+        sound = h .sound;
+        most = h .most;
+        dark = h .dark;
+        same-now = h .same-now;
+        same-absent = h .same-absent;
+        during = h .during .1;
+        right = h .right;
+      }
+
+  -- the strips of a write
+  abbrev pub stores-of : Own → Write X → List (Action X)
+  stores-of o wr = store K (belief z (o .now)) (wr .stripe) (wr .changes) (wr .new)
+
+  abbrev pub StoredBy : Own → Write X → Image X → Type 0
+  StoredBy o wr = Stored K (belief z (o .now)) (wr .stripe) (wr .changes) (wr .new)
+
+  -- the old invariant of the clean disks; a write that leaves the list sure is a repair
+  abbrev pub Holds : Memory X → View X → World X → Type 0
+  Holds nothing p c = Invariant z W C K E S R (at c nothing) p
+  Holds (idle o) p c = Invariant z W C K E S R (at c (idle o)) p
+  Holds (doing creating l o o') p c = Invariant z W C K E S R (at c (doing creating l o o')) p
+  Holds (doing starting l o o') p c = Invariant z W C K E S R (at c (doing starting l o o')) p
+  Holds (doing (logging wr) l o o') (sure v) c = Mending v wr c (l ++ stores-of o wr) o o'
+  Holds (doing (logging wr) l o o') (open-write v v') c = Invariant z W C K E S R (at c (doing (logging wr) l o o')) (open-write v v')
+  Holds (doing (logging wr) l o o') (kept-write v') c = Invariant z W C K E S R (at c (doing (logging wr) l o o')) (kept-write v')
+  Holds (doing (storing wr) l o o') (sure v) c = Mending v wr c l o o'
+  Holds (doing (storing wr) l o o') (open-write v v') c = Invariant z W C K E S R (at c (doing (storing wr) l o o')) (open-write v v')
+  Holds (doing (storing wr) l o o') (kept-write v') c = Invariant z W C K E S R (at c (doing (storing wr) l o o')) (kept-write v')
+  Holds (doing labelling l o o') p c = Invariant z W C K E S R (at c (doing labelling l o o')) p
+
+  inv-holds : (m : Memory X) (p : View X) (c : World X) → Invariant z W C K E S R (at c m) p → Holds m p c
+  inv-holds nothing p c h = h
+  inv-holds (idle o) p c h = h
+  inv-holds (doing creating l o o') p c h = h
+  inv-holds (doing starting l o o') p c h = h
+  inv-holds (doing (logging wr) l o o') (sure v) c h = absurd (h .reads)
+  inv-holds (doing (logging wr) l o o') (open-write v v') c h = h
+  inv-holds (doing (logging wr) l o o') (kept-write v') c h = h
+  inv-holds (doing (storing wr) l o o') (sure v) c h = absurd (h .reads)
+  inv-holds (doing (storing wr) l o o') (open-write v v') c h = h
+  inv-holds (doing (storing wr) l o o') (kept-write v') c h = h
+  inv-holds (doing labelling l o o') p c h = h
+
+  -- what a cut or a program that dies leaves of it
+  holds-off : (m : Memory X) (p : View X) (c : World X) → Holds m p c → Off z W C K E S R p c
+  holds-off nothing p c h = memory-off z W C K E S R c nothing p h
+  holds-off (idle o) p c h = memory-off z W C K E S R c (idle o) p h
+  holds-off (doing creating l o o') p c h = memory-off z W C K E S R c (doing creating l o o') p h
+  holds-off (doing starting l o o') p c h = memory-off z W C K E S R c (doing starting l o o') p h
+  holds-off (doing (logging wr) l o o') (sure v) c h = ready-off z W C K E S R v c o' (h .sane) (mending-ready v wr c (l ++ stores-of o wr) o o' h)
+  holds-off (doing (logging wr) l o o') (open-write v v') c h = memory-off z W C K E S R c (doing (logging wr) l o o') (open-write v v') h
+  holds-off (doing (logging wr) l o o') (kept-write v') c h = memory-off z W C K E S R c (doing (logging wr) l o o') (kept-write v') h
+  holds-off (doing (storing wr) l o o') (sure v) c h = ready-off z W C K E S R v c o' (h .sane) (mending-ready v wr c l o o' h)
+  holds-off (doing (storing wr) l o o') (open-write v v') c h = memory-off z W C K E S R c (doing (storing wr) l o o') (open-write v v') h
+  holds-off (doing (storing wr) l o o') (kept-write v') c h = memory-off z W C K E S R c (doing (storing wr) l o o') (kept-write v') h
+  holds-off (doing labelling l o o') p c h = memory-off z W C K E S R c (doing labelling l o o') p h
+
+  -- while strips are stored: at the end they will be there, on the disks and on the clean ones
+  abbrev pub Stores : Memory X → World X → World X → Type 0
+  Stores nothing w c = Unit {0}
+  Stores (idle o) w c = Unit {0}
+  Stores (doing creating l o o') w c = Unit {0}
+  Stores (doing starting l o o') w c = Unit {0}
+  Stores (doing (logging wr) l o o') w c = Unit {0}
+  Stores (doing (storing wr) l o o') w c = Always (run w l) (StoredBy o wr) × Always (run c l) (StoredBy o wr)
+  Stores (doing labelling l o o') w c = Unit {0}
+
+  -- THE DISKS, with the rotten strips rot: there are clean disks from which they differ in these alone, and the clean ones are as ever
+  pub record Rotten (rot : Rot) (w : World X) (m : Memory X) (p : View X) : Type 1 where
+    pub clean : World X
+    pub veil : Veiled (K .c) rot w clean
+    pub one : OneEach rot
+    pub stores : Stores m w clean
+    pub holds : Holds m p clean
+
+  -- the strips that are rotten after an answer: the acknowledgement of a write or of a repair takes its strips out
+  abbrev pub if-done : Reply X → Rot → Rot → Rot
+  if-done accepted a b = a
+  if-done (refused why) a b = a
+  if-done (did x) a b = a
+  if-done safe a b = a
+  if-done (done k) a b = b
+  if-done (block x) a b = a
+  if-done (found x) a b = a
+
+  abbrev pub rot-after : Rot → Memory X → Reply X → Rot
+  rot-after rot nothing r = rot
+  rot-after rot (idle o) r = rot
+  rot-after rot (doing creating l o o') r = rot
+  rot-after rot (doing starting l o o') r = rot
+  rot-after rot (doing (logging wr) l o o') r = rot
+  rot-after rot (doing (storing wr) l o o') r = if-done r rot (mended rot (belief z (o .now)) (wr .stripe) (wr .changes))
+  rot-after rot (doing labelling l o o') r = rot
+
+  -- the label that reads go by
+  abbrev pub label-of : Memory X → Label
+  label-of nothing = new-label (z .n) 0
+  label-of (idle o) = o .now
+  label-of (doing k l o o') = o .now
+
+  -- what follows an answer
+  pub record Follows (rot : Rot) (w : World X) (m : Memory X) (i : Input X) (p : View X) (x : Memory X × Reply X) : Type 1 where
+    pub view : View X
+    pub told : RotAnswered rot (label-of m) i (x .1) p view
+    pub rests : Rotten (rot-after rot m (x .1)) (effect w (x .1)) (x .0) view
