@@ -16,10 +16,10 @@ use Rattle.protocol.specs.Label.{Label, copy, last-side, expel-batch, pr
 use Rattle.protocol.specs.Startup.{gone, level-to, again-to, last-to, rounds}
 use Rattle.protocol.specs.Decide.{in-turn, startup, Rest}
 use Rattle.protocol.specs.Host.{Host, Blocks, Finding, blames, unsound, all-sound, accused, several, Change, one-block, all-blocks, changed, replace, Code, table, proper, reached, read, read-through, writeOf, strips-of, mend, accused-slot, repairOf, whole-change, missing}
-use Rattle.protocol.specs.Program.{Stamps, Medium, Verdict, clear, because, Own, Kind, creating, starting, logging, storing, labelling, Memory, nothing, idle, doing, Input, create, start, read-block, write, take-out, begin, rebuild-on, scrub-stripe, repair, step, Reply, accepted, refused, did, safe, done, block, found, new-label, Proper, mask, left-out, beyond, ask-log, all-in, finding, change-made, asked-write, asked-repair, may, also, may-repair, answer, from-nothing, from-idle, from-doing, one-step, meanwhile, scrubbed, unseen, back-in, program}
+use Rattle.protocol.specs.Program.{Stamps, Medium, Verdict, clear, because, Own, Kind, creating, starting, logging, storing, labelling, Memory, nothing, idle, doing, Input, create, start, read-block, write, take-out, begin, rebuild-on, scrub-stripe, repair, step, Reply, accepted, refused, did, safe, done, block, found, new-label, Proper, mask, left-out, beyond, ask-log, all-in, finding, change-made, asked-create, may-create, asked-start, may-start, asked-out, asked-begin, asked-on, asked-heal, asked-raise, at-least-one, last-batch, asked-write, asked-repair, may, also, may-repair, answer, from-nothing, from-idle, from-doing, one-step, meanwhile, scrubbed, unseen, back-in, program}
 use Rattle.protocol.specs.Machine.{Machine, at, effect, Event, cut, dies, swap, ask, Outside, power-cut, program-dies, disk-swapped, Happens, from-outside, from-host, View, sure, open-write, kept-write, list-of, Accepting, Saved, Ended, Gives, Answered}
 use Rattle.protocol.specs.Invariant.{Dark, Ready, Busy, Invariant, Off}
-use Rattle.protocol.specs.Promise.{simulate, ready-off, off-cut, memory-off, quiet-seen, mask-present, found-sound, made-as-asked, no-repair, may-repair-tests}
+use Rattle.protocol.specs.Promise.{simulate, in-range, ready-off, off-cut, memory-off, quiet-seen, mask-present, found-sound, made-as-asked, no-repair, may-repair-tests}
 use Rattle.protocol.specs.Refresh.{Stored, store-done, refresh}
 use Rattle.protocol.specs.Veil.{Rot, rotten, OneEach, spread, mended, two, mended-one, Agree, Veiled, veiled-act, veiled-run, cleaned, cleaned-possible, veiled-cut, veiled-stored, Decayed, veiled-decay}
 
@@ -361,3 +361,118 @@ module _ {X : Type 0} (z : Size) (W : Quorum (z .n)) (C : LabelCodec X (z .n)) (
     pub view : View X
     pub told : RotAnswered rot (label-of m) i (x .1) p view
     pub rests : Rotten (rot-after rot m (x .1)) (effect w (x .1)) (x .0) view
+
+  -- EVENTS
+  veiled-effect : (rot : Rot) (w c : World X) (r : Reply X) → Veiled (K .c) rot w c → Veiled (K .c) rot (effect w r) (effect c r)
+  veiled-effect rot w c accepted h = h
+  veiled-effect rot w c (refused why) h = h
+  veiled-effect rot w c (did a) h = veiled-act (K .c) rot w c a h
+  veiled-effect rot w c safe h = h
+  veiled-effect rot w c (done k) h = h
+  veiled-effect rot w c (block b) h = h
+  veiled-effect rot w c (found x) h = h
+
+  plain-answer : (m : Memory X) (y : Verdict) (m' : Memory X) (r : Reply X) (w c : World X) → Stores m w c → Stores m' w c → Stores (answer z W C K E S R m y m' r .0) w c
+  plain-answer m clear m' r w c a b = b
+  plain-answer m (because why) m' r w c a b = a
+
+  plain-nothing : (f : Image X) (i : Input X) (w c : World X) → Stores (from-nothing z W C K E S R f i .0) w c
+  plain-nothing f create w c = plain-answer nothing (may-create z W C K E S R f) (asked-create z W C K E S R) accepted w c tt tt
+  plain-nothing f (start A) w c = plain-answer nothing (may-start z W C K E S R (beyond (z .n) A) f) (asked-start z W C K E S R (beyond (z .n) A) f) accepted w c tt tt
+  plain-nothing f (read-block t i) w c = tt
+  plain-nothing f (write t ch) w c = tt
+  plain-nothing f (take-out d) w c = tt
+  plain-nothing f (begin d) w c = tt
+  plain-nothing f (rebuild-on b) w c = tt
+  plain-nothing f (scrub-stripe t) w c = tt
+  plain-nothing f (repair t) w c = tt
+  plain-nothing f step w c = tt
+
+  plain-idle : (o : Own) (f : Image X) (i : Input X) (w c : World X) → Stores (from-idle z W C K E S R o f i .0) w c
+  plain-idle o f create w c = plain-answer (idle o) (may z W C K E S R false o create) (idle o) accepted w c tt tt
+  plain-idle o f (start A) w c = plain-answer (idle o) (may z W C K E S R false o (start A)) (idle o) accepted w c tt tt
+  plain-idle o f (read-block t i) w c = plain-answer (idle o) (may z W C K E S R false o (read-block t i)) (idle o) (block (read z W K E (o .now) f t i)) w c tt tt
+  plain-idle o f (write t ch) w c = plain-answer (idle o) (may z W C K E S R false o (write t ch)) (asked-write z W C K E S R o f t ch) accepted w c tt tt
+  plain-idle o f (take-out d) w c = plain-answer (idle o) (may z W C K E S R false o (take-out d)) (asked-out z W C K E S R o d) accepted w c tt tt
+  plain-idle o f (begin d) w c = plain-answer (idle o) (may z W C K E S R false o (begin d)) (asked-begin z W C K E S R o f d) accepted w c tt tt
+  plain-idle o f (rebuild-on b) w c = plain-answer (idle o) (may z W C K E S R false o (rebuild-on b)) (asked-on z W C K E S R o f b) accepted w c tt (go (last-batch z W C K E S R o b))
+    where
+      go : (y : Bool) → Stores (cond y (asked-heal z W C K E S R o f) (asked-raise z W C K E S R o f (at-least-one z W C K E S R b))) w c
+      go true = tt
+      go false = tt
+  plain-idle o f (scrub-stripe t) w c = plain-answer (idle o) (may z W C K E S R false o (scrub-stripe t)) (idle o) (found (E .scrub t (λ d j. f (strip d t j)))) w c tt tt
+  plain-idle o f (repair t) w c = plain-answer (idle o) (may-repair z W C K E S R false o f t) (asked-repair z W C K E S R o f t) accepted w c tt tt
+  plain-idle o f step w c = plain-answer (idle o) (may z W C K E S R false o step) (idle o) accepted w c tt tt
+
+  -- where the program does the same on the disks as on the clean ones
+  same-nothing : (rot : Rot) (w : World X) (p : View X) (h : Rotten rot w nothing p) (i : Input X) → program z W C K E S R nothing (w .cur) i ≡ program z W C K E S R nothing (h .clean .cur) i → Follows rot w nothing i p (program z W C K E S R nothing (w .cur) i)
+  unfolding program
+  same-nothing rot w p h i e =
+      let c = h .clean in
+      let x = program z W C K E S R nothing (c .cur) i in
+      let s = simulate z W C K E S R (from-host {w = c} {m = nothing} i) p (h .holds) in
+      subst (Follows rot w nothing i p) (sym e)
+      (record {
+        view = s .0;
+        told = answered-rot rot (label-of nothing) i (x .1) p (s .0) (s .1);
+        rests = record { clean = effect c (x .1); veil = veiled-effect rot w c (x .1) (h .veil); one = h .one; stores = plain-nothing (mask z W C K E S R (unseen z W C K E S R nothing i) (c .cur)) i (effect w (x .1)) (effect c (x .1)); holds = inv-holds (x .0) (s .0) (effect c (x .1)) (s .2) };
+      })
+
+  same-idle : (rot : Rot) (w : World X) (o : Own) (p : View X) (h : Rotten rot w (idle o) p) (i : Input X) → program z W C K E S R (idle o) (w .cur) i ≡ program z W C K E S R (idle o) (h .clean .cur) i → Follows rot w (idle o) i p (program z W C K E S R (idle o) (w .cur) i)
+  unfolding program
+  same-idle rot w o p h i e =
+      let c = h .clean in
+      let x = program z W C K E S R (idle o) (c .cur) i in
+      let s = simulate z W C K E S R (from-host {w = c} {m = idle o} i) p (h .holds) in
+      subst (Follows rot w (idle o) i p) (sym e)
+      (record {
+        view = s .0;
+        told = answered-rot rot (o .now) i (x .1) p (s .0) (s .1);
+        rests = record { clean = effect c (x .1); veil = veiled-effect rot w c (x .1) (h .veil); one = h .one; stores = plain-idle o (mask z W C K E S R (unseen z W C K E S R (idle o) i) (c .cur)) i (effect w (x .1)) (effect c (x .1)); holds = inv-holds (x .0) (s .0) (effect c (x .1)) (s .2) };
+      })
+
+  -- a block that is fine reads the same
+  module _ (rot : Rot) (f g : Image X) (same : Agree (K .c) rot f g) (Q : Label) (t i : ℕ) (ink : i < E .k) where
+    fine-blocks : (a b : ℕ → ℕ → X) → (((d : ℕ) → rot d t ≡ false) → a ≡ b) → (rot (E .lies t i) t ≡ false → (j : ℕ) → a (E .lies t i) j ≡ b (E .lies t i) j) → Fine rot Q t i → (j : ℕ) → E .blocks t (missing z W K E Q t) a i j ≡ E .blocks t (missing z W K E Q t) b i j
+    fine-blocks a b all one (inl none) j = ap (λ (y : ℕ → ℕ → X). E .blocks t (missing z W K E Q t) y i j) (all none)
+    fine-blocks a b all one (inr h) j =
+        let m : missing z W K E Q t (E .lies t i) ≡ false = ap not (h .0) in
+        E .at-home t (missing z W K E Q t) a i j ink m ∙ (one (h .1) j ∙ sym (E .at-home t (missing z W K E Q t) b i j ink m))
+
+    read-alike : Fine rot Q t i → (j : ℕ) → read z W K E Q f t i j ≡ read z W K E Q g t i j
+    unfolding read
+    read-alike = fine-blocks (strips-of z W K E f t) (strips-of z W K E g t) (same-strips rot f g same t) (λ n j. same (strip (E .lies t i) t j) (rw n))
+
+    through-alike : (wr : Write X) → Fine rot Q t i → (j : ℕ) → read-through z W K E wr Q f t i j ≡ read-through z W K E wr Q g t i j
+    unfolding read-through
+    through-alike wr =
+        fine-blocks (λ d j. cond (eqb t (wr .stripe) && wr .changes d) (wr .new d j) (f (strip d t j))) (λ d j. cond (eqb t (wr .stripe) && wr .changes d) (wr .new d j) (g (strip d t j)))
+        (λ none. ap (λ (y : ℕ → ℕ → X). λ d j. cond (eqb t (wr .stripe) && wr .changes d) (wr .new d j) (y d j)) (same-strips rot f g same t none))
+        (λ n j. ap (λ (y : X). cond (eqb t (wr .stripe) && wr .changes (E .lies t i)) (wr .new (E .lies t i) j) y) (same (strip (E .lies t i) t j) (rw n)))
+
+  -- READY
+  idle-read : (rot : Rot) (w : World X) (o : Own) (p : View X) (h : Rotten rot w (idle o) p) (t i : ℕ) (y : Verdict) → may z W C K E S R false o (read-block t i) ≡ y → Follows rot w (idle o) (read-block t i) p (answer z W C K E S R (idle o) y (idle o) (block (read z W K E (o .now) (mask z W C K E S R (o .absent) (w .cur)) t i)))
+  unfolding program
+  idle-read rot w o p h t i (because why) e = record { view = p; told = refl; rests = h }
+  idle-read rot w o p h t i clear e =
+      let c = h .clean in
+      let s = simulate z W C K E S R (from-host {w = c} {m = idle o} (read-block t i)) p (h .holds) in
+      let a = subst (λ (y : Verdict). Answered (K .c) (read-block t i) (answer z W C K E S R (idle o) y (idle o) (block (read z W K E (o .now) (mask z W C K E S R (o .absent) (c .cur)) t i)) .1) p (s .0)) e (s .1) in
+      record {
+        view = p;
+        told = (refl, λ j g f. read-alike rot (mask z W C K E S R (o .absent) (w .cur)) (mask z W C K E S R (o .absent) (c .cur)) (mask-same rot (w .cur) (c .cur) (h .veil .reads) (o .absent)) (o .now) t i (in-range z W C K E S R t i false o e .1) f j ∙ a .1 j g);
+        rests = h;
+      }
+
+  idle-scrub : (rot : Rot) (w : World X) (o : Own) (p : View X) (h : Rotten rot w (idle o) p) (t : ℕ) (y : Verdict) → may z W C K E S R false o (scrub-stripe t) ≡ y → Follows rot w (idle o) (scrub-stripe t) p (answer z W C K E S R (idle o) y (idle o) (found (E .scrub t (λ d j. mask z W C K E S R (o .absent) (w .cur) (strip d t j)))))
+  unfolding program
+  idle-scrub rot w o p h t (because why) e = record { view = p; told = refl; rests = h }
+  idle-scrub rot w o p h t clear e =
+      let c = h .clean in
+      let s = simulate z W C K E S R (from-host {w = c} {m = idle o} (scrub-stripe t)) p (h .holds) in
+      let a = subst (λ (y : Verdict). Answered (K .c) (scrub-stripe t) (answer z W C K E S R (idle o) y (idle o) (found (E .scrub t (λ d j. mask z W C K E S R (o .absent) (c .cur) (strip d t j)))) .1) p (s .0)) e (s .1) in
+      record {
+        view = p;
+        told = (refl, λ none. ap (E .scrub t) (same-strips rot (mask z W C K E S R (o .absent) (w .cur)) (mask z W C K E S R (o .absent) (c .cur)) (mask-same rot (w .cur) (c .cur) (h .veil .reads) (o .absent)) t none) ∙ a .1);
+        rests = h;
+      }
