@@ -6,16 +6,16 @@ use mathlib.Core.Logic.{_⊎_, ⊎-elim, inl, inr, _≢_}
 use mathlib.Core.List.{List, [], _∷_, _++_}
 use native.Mathlib.Omega.{arith}
 use lib.Dec.{eqb, ltb, leb}
-use borrow.Author.Tests.{eq-eqb, ne-eqb, eqb-true, eqb-false, ltb-true, lt-ltb, not-true}
+use borrow.Author.Tests.{eq-eqb, ne-eqb, eqb-true, eqb-false, ltb-true, ltb-false, lt-ltb, not-true}
 use Rattle.protocol.specs.World.{Place, label, log, strip, slot, Image, World, Action, act, run, after, Possible, Sane, Always, During, sane-act, sane-run, always-cur, always-map, during-start}
 use Rattle.protocol.specs.Slots.{from, every, slots}
 use Rattle.protocol.specs.Log.{Write, RecordCodec, Belief, Table, Quiet}
 use Rattle.protocol.specs.Write.{log-write, store, store-batch, both}
 use Rattle.protocol.specs.Redo.{whole, completeB, forward, marked, kill-batch, redo, redone}
-use Rattle.protocol.specs.Label.{Label, copy, last-side, expel-batch, prep-batch, Size, believed, belief, Quorum, LabelCodec}
+use Rattle.protocol.specs.Label.{Label, copy, last-side, expel-batch, prep-batch, Size, believed, believe-is, belief, Quorum, LabelCodec}
 use Rattle.protocol.specs.Startup.{gone, level-to, again-to, last-to, rounds}
 use Rattle.protocol.specs.Decide.{in-turn, startup, Rest}
-use Rattle.protocol.specs.Host.{Host, Blocks, Finding, blames, unsound, all-sound, accused, several, Change, one-block, all-blocks, changed, replace, Code, table, proper, reached, read, read-through, writeOf, strips-of, mend, accused-slot, repairOf, whole-change, missing}
+use Rattle.protocol.specs.Host.{Host, Blocks, Finding, blames, unsound, all-sound, accused, several, Change, one-block, all-blocks, changed, set-block, replace, Code, table, few-missing, proper, reached, read, read-through, writeOf, strips-of, mend, accused-slot, repairOf, whole-change, missing}
 use Rattle.protocol.specs.Program.{Stamps, Medium, Verdict, clear, because, Own, Kind, creating, starting, logging, storing, labelling, Memory, nothing, idle, doing, Input, create, start, read-block, write, take-out, begin, rebuild-on, scrub-stripe, repair, step, Reply, accepted, refused, did, safe, done, block, found, new-label, Proper, mask, left-out, beyond, ask-log, all-in, finding, change-made, asked-create, may-create, asked-start, may-start, asked-out, asked-begin, asked-on, asked-heal, asked-raise, at-least-one, last-batch, asked-write, asked-repair, may, also, may-repair, answer, from-nothing, from-idle, from-doing, one-step, meanwhile, scrubbed, unseen, back-in, program}
 use Rattle.protocol.specs.Machine.{Machine, at, effect, Event, cut, dies, swap, ask, Outside, power-cut, program-dies, disk-swapped, Happens, from-outside, from-host, View, sure, open-write, kept-write, list-of, Accepting, Saved, Ended, Gives, Answered}
 use Rattle.protocol.specs.Invariant.{Dark, Ready, Busy, Invariant, Off}
@@ -476,3 +476,148 @@ module _ {X : Type 0} (z : Size) (W : Quorum (z .n)) (C : LabelCodec X (z .n)) (
         told = (refl, λ none. ap (E .scrub t) (same-strips rot (mask z W C K E S R (o .absent) (w .cur)) (mask z W C K E S R (o .absent) (c .cur)) (mask-same rot (w .cur) (c .cur) (h .veil .reads) (o .absent)) t none) ∙ a .1);
         rests = h;
       }
+
+  -- A ROTTEN STRIPE, with nothing out: all its strips but one are the list's
+  clean-strips : (v : Host X) (c : World X) (o : Own) → Sane c → Ready z W C K E S R v c o → ((d : ℕ) → d < z .n → o .now .out d ≡ false) → (t : ℕ) → t < z .T → (d j : ℕ) → d < z .n → j < K .c → mask z W C K E S R (o .absent) (c .cur) (strip d t j) ≡ E .shard t (v t) d j
+  unfolding Quiet table belief
+  clean-strips v c o sane h none t inT d j i g =
+      let rest = always-cur (Rest z W C K (h .history) (h .u) (o .now) (table z W K E v)) c sane (h .rest) in
+      let q = quiet-seen z W C K E S R (h .history) (h .u) (table z W K E v) (o .now) (o .absent) (c .cur) (h .dark) (rest .quiet) in
+      q .strips d t j (believe-is z (o .now) d t i inT (inl (none d i))) g
+
+  blamed : (x : Finding) → blames x ≡ true → (r : ℕ) × (x ≡ accused r)
+  blamed all-sound e = absurd (false≢true e)
+  blamed (accused r) e = (r, refl)
+  blamed several e = absurd (false≢true e)
+
+  module _ (rot : Rot) (w : World X) (o : Own) (v : Host X) (h : Rotten rot w (idle o) (sure v)) (none : (d : ℕ) → d < z .n → o .now .out d ≡ false) (t : ℕ) (inT : t < z .T) where
+    abbrev seen : Image X
+    seen = mask z W C K E S R (o .absent) (w .cur)
+
+    abbrev seen-c : Image X
+    seen-c = mask z W C K E S R (o .absent) (h .clean .cur)
+
+    agree : Agree (K .c) rot seen seen-c
+    agree = mask-same rot (w .cur) (h .clean .cur) (h .veil .reads) (o .absent)
+
+    -- a strip that is not rotten is the list's
+    strip-right : (d j : ℕ) → d < z .n → rot d t ≡ false → j < K .c → seen (strip d t j) ≡ E .shard t (v t) d j
+    strip-right d j i n g = agree (strip d t j) (rw n) ∙ clean-strips v (h .clean) o (h .holds .0) (h .holds .1) none t inT d j i g
+
+    module _ (r : ℕ) (acc : finding z W C K E S R seen t ≡ accused r) where
+      -- whoever is not accused is not rotten
+      others : (d : ℕ) → d < z .n → d ≢ E .lies t r → rot d t ≡ false
+      others d i n = go (rot d t) refl
+        where
+          go : (b : Bool) → rot d t ≡ b → rot d t ≡ false
+          go true q = absurd (n (sym (E .accuses-it t d r (v t) (strips-of z W K E seen t) i (λ e j k m g. strip-right e j k (off e m (rot e t) refl) g) acc)))
+            where
+              off : (e : ℕ) → e ≢ d → (b : Bool) → rot e t ≡ b → rot e t ≡ false
+              off e m true y = absurd (m (h .one e d t y q))
+              off e m false y = y
+          go false q = q
+
+      right-but : (d j : ℕ) → d < z .n → d ≢ E .lies t r → j < K .c → strips-of z W K E seen t d j ≡ E .shard t (v t) d j
+      right-but d j i n g = strip-right d j i (others d i n) g
+
+      in-shelf : E .lies t r < z .n
+      in-shelf = go (ltb (E .lies t r) (z .n)) refl
+        where
+          go : (b : Bool) → ltb (E .lies t r) (z .n) ≡ b → E .lies t r < z .n
+          go true q = ltb-true (E .lies t r) (z .n) q
+          go false q = absurd (true≢false (ap blames (sym acc ∙ E .scrub-sound t (v t) (strips-of z W K E seen t) (λ d j i g. right-but d j i (λ y. omega (arith, ltb-false (E .lies t r) (z .n) q, y)) g))))
+
+      mended-is : (j : ℕ) → j < K .c → E .mended t (strips-of z W K E seen t) (E .lies t r) j ≡ E .shard t (v t) (E .lies t r) j
+      mended-is = E .mends t (E .lies t r) (v t) (strips-of z W K E seen t) in-shelf (λ d j i n g. right-but d j i n g)
+
+      -- with the accused one mended, all are
+      mend-right : (d j : ℕ) → d < z .n → j < K .c → mend z W K E t (finding z W C K E S R seen t) (strips-of z W K E seen t) d j ≡ E .shard t (v t) d j
+      mend-right d j i g = ap (λ (x : Finding). mend z W K E t x (strips-of z W K E seen t) d j) acc ∙ go (eqb d (E .lies t r)) refl
+        where
+          go : (b : Bool) → eqb d (E .lies t r) ≡ b → cond b (E .mended t (strips-of z W K E seen t) d) (strips-of z W K E seen t d) j ≡ E .shard t (v t) d j
+          go true q = let y : d ≡ E .lies t r = eqb-true d (E .lies t r) q in subst (λ (x : ℕ). E .mended t (strips-of z W K E seen t) x j ≡ E .shard t (v t) x j) (sym y) (mended-is j g)
+          go false q = right-but d j i (eqb-false d (E .lies t r) q) g
+
+      -- REPAIR: on the clean disks a refresh
+      abbrev wr : Write X
+      wr = repairOf z W K E seen t (E .lies t r)
+
+      abbrev σ : ℕ
+      σ = suc (o .count)
+
+      abbrev o' : Own
+      o' = record { now = o .now; absent = o .absent; epoch = o .epoch; count = suc (o .count) }
+
+      history' : ℕ → Write X
+      history' τ = cond (eqb τ σ) wr (h .holds .1 .history τ)
+
+      at-σ : history' σ ≡ wr
+      unfolding history'
+      at-σ = rw (eq-eqb (suc (o .count)) (suc (o .count)) refl)
+
+      below : (τ : ℕ) → τ ≤ h .holds .1 .u → h .holds .1 .history τ ≡ history' τ
+      unfolding history'
+      below τ q = rw (ne-eqb τ (suc (o .count)) (λ e. omega (arith, h .holds .1 .used)))
+
+      wr-right : (d j : ℕ) → wr .changes d ≡ true → j < K .c → wr .new d j ≡ table z W K E v (wr .stripe) d j
+      unfolding repairOf table
+      wr-right d j e g = let y : d ≡ E .lies t r = eqb-true d (E .lies t r) e in subst (λ (x : ℕ). E .mended t (strips-of z W K E seen t) x j ≡ E .shard t (v t) x j) (sym y) (mended-is j g)
+
+      wr-fits : σ < S .base (suc (o .epoch)) → K .Fits σ wr
+      unfolding repairOf
+      wr-fits room =
+          let q = h .holds .1 in
+          R .fits-record σ wr (omega (arith, room, S .grows (suc (o .epoch)) (suc (R .greatest)) (omega (arith, q .epoch-now, q .most)))) inT (λ d e. subst (λ (x : ℕ). x < z .n) (sym (eqb-true d (E .lies t r) e)) in-shelf)
+
+      mends-now : σ < S .base (suc (o .epoch)) → Mending v wr (h .clean) (log-write K (belief z (o .now)) σ wr ++ stores-of o wr) o o'
+      mends-now room =
+          let q = h .holds .1 in
+          let during = refresh z W C K (q .history) history' (q .u) σ (table z W K E v) (o .now) (omega (arith, q .used)) below (subst (λ (y : Write X). (d j : ℕ) → y .changes d ≡ true → j < K .c → y .new d j ≡ table z W K E v (y .stripe) d j) (sym at-σ) wr-right) (subst (K .Fits σ) (sym at-σ) (wr-fits room)) (h .clean) (h .holds .0) (q .rest) in
+          record {
+            sane = h .holds .0;
+            history = history';
+            u = σ;
+            used = omega arith;
+            early = room;
+            born = q .born;
+            epoch-now = q .epoch-now;
+            sound = q .sound;
+            most = q .most;
+            dark = q .dark;
+            same-now = refl;
+            same-absent = refl;
+            during = subst (λ (y : Write X). During (h .clean) (log-write K (belief z (o .now)) σ y ++ stores-of o y) (Rest z W C K history' σ (o .now) (table z W K E v))) at-σ during;
+            right = wr-right;
+          }
+
+      -- A WRITE INTO IT: the whole stripe, with what the list has
+      abbrev whole-of : Change X → Blocks X
+      whole-of ch = changed ch (E .blocks t (missing z W K E (o .now) t) (mend z W K E t (finding z W C K E S R seen t) (strips-of z W K E seen t)))
+
+      blocks-right : (i j : ℕ) → i < E .k → j < K .c → E .blocks t (missing z W K E (o .now) t) (mend z W K E t (finding z W C K E S R seen t) (strips-of z W K E seen t)) i j ≡ v t i j
+      blocks-right i j a b =
+          let rest = always-cur (Rest z W C K (h .holds .1 .history) (h .holds .1 .u) (o .now) (table z W K E v)) (h .clean) (h .holds .0) (h .holds .1 .rest) in
+          E .back t (missing z W K E (o .now) t) (v t) (mend z W K E t (finding z W C K E S R seen t) (strips-of z W K E seen t)) (few-missing z W K E (o .now) t inT (rest .labels .few-Q)) (λ d l n m g. mend-right d l n g) i j a b
+
+      whole-right : (ch : Change X) → Listed (replace v t (all-blocks (whole-of ch))) (replace v t ch)
+      unfolding replace set-block
+      whole-right ch u i j a b g = go (eqb u t)
+        where
+          one : (l : ℕ) (x : ℕ → X) (q : Bool) → cond q x (E .blocks t (missing z W K E (o .now) t) (mend z W K E t (finding z W C K E S R seen t) (strips-of z W K E seen t)) i) j ≡ cond q x (v t i) j
+          one l x true = refl
+          one l x false = blocks-right i j b g
+
+          in-stripe : (ch : Change X) → changed ch (E .blocks t (missing z W K E (o .now) t) (mend z W K E t (finding z W C K E S R seen t) (strips-of z W K E seen t))) i j ≡ changed ch (v t) i j
+          in-stripe (one-block l x) = one l x (eqb i l)
+          in-stripe (all-blocks x) = refl
+
+          go : (q : Bool) → cond q (whole-of ch) (v u) i j ≡ cond q (changed ch (v t)) (v u) i j
+          go true = in-stripe ch
+          go false = refl
+
+      made-whole : (ch : Change X) → all-in z W C K E S R o ≡ true → change-made z W C K E S R o seen t ch ≡ all-blocks (whole-of ch)
+      unfolding change-made whole-change
+      made-whole ch e = ap (λ (b : Bool). cond b (all-blocks (whole-of ch)) ch) (two-true (all-in z W C K E S R o) (unsound (finding z W C K E S R seen t)) e (ap unsound acc))
+        where
+          two-true : (a b : Bool) → a ≡ true → b ≡ true → (a && b) ≡ true
+          two-true a b p q = rw (p, q)
