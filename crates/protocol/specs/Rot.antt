@@ -8,7 +8,7 @@ use native.Mathlib.Omega.{arith}
 use lib.Dec.{eqb, ltb, leb}
 use borrow.Author.Tests.{eq-eqb, ne-eqb, eqb-true, eqb-false, ltb-true, ltb-false, lt-ltb, not-true}
 use Rattle.protocol.specs.World.{Place, label, log, strip, slot, Image, World, Action, act, run, after, Possible, Sane, Always, During, sane-act, sane-run, always-cur, always-map, during-start}
-use Rattle.protocol.specs.Slots.{from, every, slots}
+use Rattle.protocol.specs.Slots.{from, in-from, every-of}
 use Rattle.protocol.specs.Log.{Write, RecordCodec, Belief, Table, Quiet}
 use Rattle.protocol.specs.Write.{log-write, store, store-batch, both}
 use Rattle.protocol.specs.Redo.{whole, completeB, forward, marked, kill-batch, redo, redone}
@@ -16,7 +16,7 @@ use Rattle.protocol.specs.Label.{Label, copy, last-side, expel-batch, pr
 use Rattle.protocol.specs.Startup.{gone, level-to, again-to, last-to, rounds}
 use Rattle.protocol.specs.Decide.{in-turn, startup, Rest}
 use Rattle.protocol.specs.Host.{Host, Blocks, Finding, blames, unsound, all-sound, accused, several, Change, one-block, all-blocks, changed, set-block, replace, Code, table, few-missing, proper, reached, read, read-through, writeOf, strips-of, mend, accused-slot, repairOf, whole-change, missing}
-use Rattle.protocol.specs.Program.{Stamps, Medium, Verdict, clear, because, Own, Kind, creating, starting, logging, storing, labelling, Memory, nothing, idle, doing, Input, create, start, read-block, write, take-out, begin, rebuild-on, scrub-stripe, repair, step, Reply, accepted, refused, did, safe, done, block, found, new-label, Proper, mask, left-out, beyond, ask-log, all-in, finding, change-made, asked-create, may-create, asked-start, may-start, asked-out, asked-begin, asked-on, asked-heal, asked-raise, at-least-one, last-batch, asked-write, asked-repair, may, also, may-repair, answer, from-nothing, from-idle, from-doing, one-step, meanwhile, scrubbed, unseen, back-in, program}
+use Rattle.protocol.specs.Program.{Stamps, Medium, BAD_BLOCK, BUSY, NOT_NOW, Verdict, clear, because, Own, Kind, creating, starting, logging, storing, labelling, Memory, nothing, idle, doing, Input, create, start, read-block, write, take-out, begin, rebuild-on, scrub-stripe, repair, step, Reply, accepted, refused, did, safe, done, block, found, new-label, Proper, mask, left-out, beyond, ask-log, all-in, finding, change-made, asked-create, may-create, asked-start, may-start, asked-out, asked-begin, asked-on, asked-heal, asked-raise, at-least-one, last-batch, asked-write, asked-repair, may, also, may-repair, answer, from-nothing, from-idle, from-doing, one-step, meanwhile, scrubbed, unseen, back-in, program}
 use Rattle.protocol.specs.Machine.{Machine, at, effect, Event, cut, dies, swap, ask, Outside, power-cut, program-dies, disk-swapped, Happens, from-outside, from-host, View, sure, open-write, kept-write, list-of, Accepting, Saved, Ended, Gives, Answered}
 use Rattle.protocol.specs.Invariant.{Dark, Ready, Busy, Invariant, Off}
 use Rattle.protocol.specs.Promise.{simulate, in-range, ready-off, off-cut, memory-off, quiet-seen, mask-present, found-sound, made-as-asked, no-repair, may-repair-tests}
@@ -621,3 +621,120 @@ module _ {X : Type 0} (z : Size) (W : Quorum (z .n)) (C : LabelCodec X (z .n)) (
         where
           two-true : (a b : Bool) → a ≡ true → b ≡ true → (a && b) ≡ true
           two-true a b p q = rw (p, q)
+
+  is-clear : Verdict → Bool
+  is-clear clear = true
+  is-clear (because why) = false
+
+  -- a repair is accepted: on the clean disks it is a refresh, and the list stays
+  idle-repair : (rot : Rot) (w : World X) (o : Own) (v : Host X) (h : Rotten rot w (idle o) (sure v)) (t : ℕ) (y : Verdict) → may-repair z W C K E S R false o (mask z W C K E S R (o .absent) (w .cur)) t ≡ y → Follows rot w (idle o) (repair t) (sure v) (answer z W C K E S R (idle o) y (asked-repair z W C K E S R o (mask z W C K E S R (o .absent) (w .cur)) t) accepted)
+  idle-repair rot w o v h t (because why) e = record { view = sure v; told = refl; rests = h }
+  idle-repair rot w o v h t clear e =
+      let a = may-repair-tests z W C K E S R t o (mask z W C K E S R (o .absent) (w .cur)) e in
+      let b = blamed (finding z W C K E S R (mask z W C K E S R (o .absent) (w .cur)) t) (a .3) in
+      let m = mends-now rot w o v h (a .1) t (a .0) (b .0) (b .1) (a .2) in
+      subst (λ (x : Finding). Follows rot w (idle o) (repair t) (sure v) (ask-log z W C K E S R o (repairOf z W K E (mask z W C K E S R (o .absent) (w .cur)) t (accused-slot z W K E t x)), accepted)) (sym (b .1))
+      (record { view = sure v; told = refl; rests = record { clean = h .clean; veil = h .veil; one = h .one; stores = tt; holds = m } })
+
+  -- the tests of a write, for the whole stripe
+  tests-whole : (o : Own) (t : ℕ) (ch : Change X) (b : Blocks X) → may z W C K E S R false o (write t ch) ≡ clear → (t < z .T) × (may z W C K E S R false o (write t (all-blocks b)) ≡ clear)
+  unfolding is-clear
+  tests-whole o t ch b e = go (ltb t (z .T)) refl (proper z W K E ch) (ltb (suc (o .count)) (S .base (suc (o .epoch)))) e
+    where
+      go : (x : Bool) → ltb t (z .T) ≡ x → (q s : Bool) → cond (not (x && q)) (because BAD_BLOCK) (cond (not s) (because NOT_NOW) clear) ≡ clear → (t < z .T) × (cond (not (x && true)) (because BAD_BLOCK) (cond (not s) (because NOT_NOW) clear) ≡ clear)
+      go true p true true h = (ltb-true t (z .T) p, refl)
+      go true p true false h = absurd (false≢true (ap is-clear h))
+      go true p false s h = absurd (false≢true (ap is-clear h))
+      go false p q s h = absurd (false≢true (ap is-clear h))
+
+  all-in-of : (o : Own) → all-in z W C K E S R o ≡ true → (d : ℕ) → d < z .n → o .now .out d ≡ false
+  all-in-of o e d i = not-true (o .now .out d) (every-of (λ x. not (o .now .out x)) (from 0 (z .n)) e d (in-from (z .n) 0 d (omega arith) (omega arith)))
+
+  -- a write into a rotten stripe is accepted
+  idle-whole : (rot : Rot) (w : World X) (o : Own) (v : Host X) (h : Rotten rot w (idle o) (sure v)) (t : ℕ) (ch : Change X) → all-in z W C K E S R o ≡ true → blames (finding z W C K E S R (mask z W C K E S R (o .absent) (w .cur)) t) ≡ true → (y : Verdict) → may z W C K E S R false o (write t ch) ≡ y → Follows rot w (idle o) (write t ch) (sure v) (answer z W C K E S R (idle o) y (asked-write z W C K E S R o (mask z W C K E S R (o .absent) (w .cur)) t ch) accepted)
+  unfolding program writeOf
+  idle-whole rot w o v h t ch all bl (because why) e = record { view = sure v; told = refl; rests = h }
+  idle-whole rot w o v h t ch all bl clear e =
+      let c = h .clean in
+      let seen = mask z W C K E S R (o .absent) (w .cur) in
+      let seen-c = mask z W C K E S R (o .absent) (c .cur) in
+      let b = blamed (finding z W C K E S R seen t) bl in
+      let none = all-in-of o all in
+      let y : Blocks X = changed ch (E .blocks t (missing z W K E (o .now) t) (mend z W K E t (finding z W C K E S R seen t) (strips-of z W K E seen t))) in
+      let q = tests-whole o t ch y e in
+      let made = made-whole rot w o v h none t (q .0) (b .0) (b .1) ch all in
+      let listed = whole-right rot w o v h none t (q .0) (b .0) (b .1) ch in
+      let s = simulate z W C K E S R (from-host {w = c} {m = idle o} (write t (all-blocks y))) (sure v) (h .holds) in
+      let s' : Accepting (write t (all-blocks y)) (sure v) (s .0) × Invariant z W C K E S R (at c (ask-log z W C K E S R o (writeOf z W K E (o .now) seen-c t (change-made z W C K E S R o seen-c t (all-blocks y))))) (s .0) =
+      subst (λ (g : Verdict). Answered (K .c) (write t (all-blocks y)) (answer z W C K E S R (idle o) g (asked-write z W C K E S R o seen-c t (all-blocks y)) accepted .1) (sure v) (s .0) × Invariant z W C K E S R (at (effect c (answer z W C K E S R (idle o) g (asked-write z W C K E S R o seen-c t (all-blocks y)) accepted .1)) (answer z W C K E S R (idle o) g (asked-write z W C K E S R o seen-c t (all-blocks y)) accepted .0)) (s .0)) (q .1) (s .1, s .2) in
+      let i1 = subst (λ (g : Change X). Invariant z W C K E S R (at c (ask-log z W C K E S R o (writeOf z W K E (o .now) seen-c t g))) (s .0)) (made-as-asked z W C K E S R v c o (h .holds .0) (h .holds .1) t (all-blocks y) (q .0)) (s' .1) in
+      subst (λ (g : Change X). Follows rot w (idle o) (write t ch) (sure v) (ask-log z W C K E S R o (writeOf z W K E (o .now) seen t g), accepted)) (sym made)
+      (record {
+        view = s .0;
+        told = (replace v t (all-blocks y), s' .0, listed);
+        rests = record { clean = c; veil = h .veil; one = h .one; stores = tt; holds = inv-holds (ask-log z W C K E S R o (writeOf z W K E (o .now) seen t (all-blocks y))) (s .0) c i1 };
+      })
+
+  -- WHAT IS LEFT OUT of the promise while strips are rotten: create, rebuild on, and a write into a rotten stripe with something out or nobody accused
+  abbrev pub Allowed : Rot → Memory X → Image X → Input X → Type 0
+  Allowed rot nothing f create = (d t : ℕ) → rot d t ≡ false
+  Allowed rot nothing f (start A) = Unit {0}
+  Allowed rot nothing f (read-block t i) = Unit {0}
+  Allowed rot nothing f (write t ch) = Unit {0}
+  Allowed rot nothing f (take-out d) = Unit {0}
+  Allowed rot nothing f (begin d) = Unit {0}
+  Allowed rot nothing f (rebuild-on b) = Unit {0}
+  Allowed rot nothing f (scrub-stripe t) = Unit {0}
+  Allowed rot nothing f (repair t) = Unit {0}
+  Allowed rot nothing f step = Unit {0}
+  Allowed rot (idle o) f create = Unit {0}
+  Allowed rot (idle o) f (start A) = Unit {0}
+  Allowed rot (idle o) f (read-block t i) = Unit {0}
+  Allowed rot (idle o) f (write t ch) = ((d : ℕ) → rot d t ≡ false) ⊎ ((all-in z W C K E S R o ≡ true) × (blames (finding z W C K E S R (mask z W C K E S R (o .absent) f) t) ≡ true))
+  Allowed rot (idle o) f (take-out d) = Unit {0}
+  Allowed rot (idle o) f (begin d) = Unit {0}
+  Allowed rot (idle o) f (rebuild-on b) = (d t : ℕ) → rot d t ≡ false
+  Allowed rot (idle o) f (scrub-stripe t) = Unit {0}
+  Allowed rot (idle o) f (repair t) = Unit {0}
+  Allowed rot (idle o) f step = Unit {0}
+  Allowed rot (doing k l o o') f i = Unit {0}
+
+  host-nothing : (rot : Rot) (w : World X) (p : View X) → Rotten rot w nothing p → (i : Input X) → Allowed rot nothing (w .cur) i → Follows rot w nothing i p (program z W C K E S R nothing (w .cur) i)
+  unfolding program
+  host-nothing rot w p h create a = same-nothing rot w p h create (ap (λ (f : Image X). program z W C K E S R nothing f create) (same-all rot (w .cur) (h .clean .cur) (h .veil .reads) a))
+  host-nothing rot w p h (start A) a =
+      let m = mask-same rot (w .cur) (h .clean .cur) (h .veil .reads) (beyond (z .n) A) in
+      let f = mask z W C K E S R (beyond (z .n) A) (w .cur) in
+      let g = mask z W C K E S R (beyond (z .n) A) (h .clean .cur) in
+      same-nothing rot w p h (start A) (start-bones A f ∙ (ap (λ (y : Image X). from-nothing z W C K E S R y (start A)) (same-bones rot f g m) ∙ sym (start-bones A g)))
+  host-nothing rot w p h (read-block t i) a = same-nothing rot w p h (read-block t i) refl
+  host-nothing rot w p h (write t ch) a = same-nothing rot w p h (write t ch) refl
+  host-nothing rot w p h (take-out d) a = same-nothing rot w p h (take-out d) refl
+  host-nothing rot w p h (begin d) a = same-nothing rot w p h (begin d) refl
+  host-nothing rot w p h (rebuild-on b) a = same-nothing rot w p h (rebuild-on b) refl
+  host-nothing rot w p h (scrub-stripe t) a = same-nothing rot w p h (scrub-stripe t) refl
+  host-nothing rot w p h (repair t) a = same-nothing rot w p h (repair t) refl
+  host-nothing rot w p h step a = same-nothing rot w p h step refl
+
+  host-idle : (rot : Rot) (w : World X) (o : Own) (v : Host X) → Rotten rot w (idle o) (sure v) → (i : Input X) → Allowed rot (idle o) (w .cur) i → Follows rot w (idle o) i (sure v) (program z W C K E S R (idle o) (w .cur) i)
+  unfolding program
+  host-idle rot w o v h create a = same-idle rot w o (sure v) h create refl
+  host-idle rot w o v h (start A) a = same-idle rot w o (sure v) h (start A) refl
+  host-idle rot w o v h (read-block t i) a = idle-read rot w o (sure v) h t i (may z W C K E S R false o (read-block t i)) refl
+  host-idle rot w o v h (write t ch) (inl none) =
+      let m = mask-same rot (w .cur) (h .clean .cur) (h .veil .reads) (o .absent) in
+      let f = mask z W C K E S R (o .absent) (w .cur) in
+      let g = mask z W C K E S R (o .absent) (h .clean .cur) in
+      same-idle rot w o (sure v) h (write t ch) (ap (λ (y : Memory X). answer z W C K E S R (idle o) (may z W C K E S R false o (write t ch)) y accepted) (write-strips o t ch f g (same-strips rot f g m t none)))
+  host-idle rot w o v h (write t ch) (inr a) = idle-whole rot w o v h t ch (a .0) (a .1) (may z W C K E S R false o (write t ch)) refl
+  host-idle rot w o v h (take-out d) a = same-idle rot w o (sure v) h (take-out d) refl
+  host-idle rot w o v h (begin d) a =
+      let A = back-in z W C K E S R (o .absent) d in
+      let m = mask-same rot (w .cur) (h .clean .cur) (h .veil .reads) A in
+      let f = mask z W C K E S R A (w .cur) in
+      let g = mask z W C K E S R A (h .clean .cur) in
+      same-idle rot w o (sure v) h (begin d) (begin-bones o d f ∙ (ap (λ (y : Image X). from-idle z W C K E S R o y (begin d)) (same-bones rot f g m) ∙ sym (begin-bones o d g)))
+  host-idle rot w o v h (rebuild-on b) a = same-idle rot w o (sure v) h (rebuild-on b) (ap (λ (f : Image X). program z W C K E S R (idle o) f (rebuild-on b)) (same-all rot (w .cur) (h .clean .cur) (h .veil .reads) a))
+  host-idle rot w o v h (scrub-stripe t) a = idle-scrub rot w o (sure v) h t (may z W C K E S R false o (scrub-stripe t)) refl
+  host-idle rot w o v h (repair t) a = idle-repair rot w o v h t (may-repair z W C K E S R false o (mask z W C K E S R (o .absent) (w .cur)) t) refl
+  host-idle rot w o v h step a = same-idle rot w o (sure v) h step refl
