@@ -15,8 +15,8 @@ use Rattle.protocol.specs.Redo.{whole, completeB, forward, marked, kill-
 use Rattle.protocol.specs.Label.{Label, copy, last-side, expel-batch, prep-batch, Size, believed, believe-is, belief, Quorum, LabelCodec}
 use Rattle.protocol.specs.Startup.{gone, level-to, again-to, last-to, rounds}
 use Rattle.protocol.specs.Decide.{in-turn, startup, Rest}
-use Rattle.protocol.specs.Host.{Host, Blocks, Finding, blames, unsound, all-sound, accused, several, Change, one-block, all-blocks, changed, set-block, replace, Code, table, few-missing, proper, reached, read, read-through, writeOf, strips-of, mend, accused-slot, repairOf, whole-change, missing}
-use Rattle.protocol.specs.Program.{Stamps, Medium, BAD_BLOCK, BUSY, NOT_NOW, Verdict, clear, because, Own, Kind, creating, starting, logging, storing, labelling, Memory, nothing, idle, doing, Input, create, start, read-block, write, take-out, begin, rebuild-on, scrub-stripe, repair, step, Reply, accepted, refused, did, safe, done, block, found, new-label, Proper, mask, left-out, beyond, ask-log, all-in, finding, change-made, asked-create, may-create, asked-start, may-start, asked-out, asked-begin, asked-on, asked-heal, asked-raise, at-least-one, last-batch, asked-write, asked-repair, may, also, may-repair, answer, from-nothing, from-idle, from-doing, one-step, meanwhile, scrubbed, unseen, back-in, program}
+use Rattle.protocol.specs.Host.{Host, Blocks, Finding, blames, unsound, all-sound, accused, several, Change, one-block, all-blocks, changed, set-block, replace, Code, table, few-missing, proper, reached, read, read-through, read-right, writeOf, strips-of, mend, accused-slot, repairOf, whole-change, missing}
+use Rattle.protocol.specs.Program.{Stamps, Medium, Refusal, BAD_BLOCK, BUSY, NOT_NOW, Verdict, clear, because, Own, Kind, creating, starting, logging, storing, labelling, Memory, nothing, idle, doing, Input, create, start, read-block, write, take-out, begin, rebuild-on, scrub-stripe, repair, step, Reply, accepted, refused, did, safe, done, block, found, new-label, Proper, mask, left-out, beyond, ask-log, all-in, finding, change-made, asked-create, may-create, asked-start, may-start, asked-out, asked-begin, asked-on, asked-heal, asked-raise, at-least-one, last-batch, asked-write, asked-repair, may, also, may-repair, answer, from-nothing, from-idle, from-doing, one-step, meanwhile, scrubbed, unseen, back-in, program}
 use Rattle.protocol.specs.Machine.{Machine, at, effect, Event, cut, dies, swap, ask, Outside, power-cut, program-dies, disk-swapped, Happens, from-outside, from-host, View, sure, open-write, kept-write, list-of, Accepting, Saved, Ended, Gives, Answered}
 use Rattle.protocol.specs.Invariant.{Dark, Ready, Busy, Invariant, Off}
 use Rattle.protocol.specs.Promise.{simulate, in-range, ready-off, off-cut, memory-off, quiet-seen, mask-present, found-sound, made-as-asked, no-repair, may-repair-tests}
@@ -738,3 +738,133 @@ module _ {X : Type 0} (z : Size) (W : Quorum (z .n)) (C : LabelCodec X (z .n)) (
   host-idle rot w o v h (scrub-stripe t) a = idle-scrub rot w o (sure v) h t (may z W C K E S R false o (scrub-stripe t)) refl
   host-idle rot w o v h (repair t) a = idle-repair rot w o v h t (may-repair z W C K E S R false o (mask z W C K E S R (o .absent) (w .cur)) t) refl
   host-idle rot w o v h step a = same-idle rot w o (sure v) h step refl
+
+  -- UNDER WAY
+  unfoldable ends-it : Reply X → Bool
+  ends-it accepted = false
+  ends-it (refused why) = false
+  ends-it (did a) = false
+  ends-it safe = false
+  ends-it (done k) = true
+  ends-it (block b) = false
+  ends-it (found x) = false
+
+  not-ended : (r : Reply X) (a b : Rot) → ends-it r ≡ false → if-done r a b ≡ a
+  unfolding ends-it
+  not-ended accepted a b e = refl
+  not-ended (refused why) a b e = refl
+  not-ended (did x) a b e = refl
+  not-ended safe a b e = refl
+  not-ended (done k) a b e = absurd (true≢false e)
+  not-ended (block x) a b e = refl
+  not-ended (found x) a b e = refl
+
+  rot-kept : (rot : Rot) (k : Kind X) (l : List (Action X)) (o o' : Own) (r : Reply X) → ends-it r ≡ false → rot-after rot (doing k l o o') r ≡ rot
+  rot-kept rot creating l o o' r e = refl
+  rot-kept rot starting l o o' r e = refl
+  rot-kept rot (logging wr) l o o' r e = refl
+  rot-kept rot (storing wr) l o o' r e = not-ended r rot (mended rot (belief z (o .now)) (wr .stripe) (wr .changes)) e
+  rot-kept rot labelling l o o' r e = refl
+
+  -- an answer that is no step
+  module _ (rot : Rot) (w : World X) (k : Kind X) (l : List (Action X)) (o o' : Own) (p : View X) (h : Rotten rot w (doing k l o o') p) (i : Input X) where
+    refuse : (why : Refusal) → Follows rot w (doing k l o o') i p (doing k l o o', refused why)
+    unfolding ends-it
+    refuse why = record { view = p; told = refl; rests = subst (λ (y : Rot). Rotten y w (doing k l o o') p) (sym (rot-kept rot k l o o' (refused why) refl)) h }
+
+    gives : (b : ℕ → X) → RotGives rot (o .now) b i p p → Follows rot w (doing k l o o') i p (doing k l o o', block b)
+    unfolding ends-it
+    gives b t = record { view = p; told = t; rests = subst (λ (y : Rot). Rotten y w (doing k l o o') p) (sym (rot-kept rot k l o o' (block b) refl)) h }
+
+    finds : (x : Finding) → RotFinds rot x i → Follows rot w (doing k l o o') i p (doing k l o o', found x)
+    unfolding ends-it
+    finds x t = record { view = p; told = (refl, t); rests = subst (λ (y : Rot). Rotten y w (doing k l o o') p) (sym (rot-kept rot k l o o' (found x) refl)) h }
+
+  read-over : (wr : Write X) (Q : Label) (f : Image X) (v : Host X) (t i j : ℕ) → W .few (missing z W K E Q t) ≡ true → ((d l : ℕ) → d < z .n → missing z W K E Q t d ≡ false → l < K .c → cond (eqb t (wr .stripe) && wr .changes d) (wr .new d l) (f (strip d t l)) ≡ E .shard t (v t) d l) → i < E .k → j < K .c → read-through z W K E wr Q f t i j ≡ v t i j
+  unfolding read-through
+  read-over wr Q f v t i j few right b g = E .back t (missing z W K E Q t) (v t) (λ d l. cond (eqb t (wr .stripe) && wr .changes d) (wr .new d l) (f (strip d t l))) few right i j b g
+
+  -- what a repair under way reads on the clean disks
+  module _ (v : Host X) (wr : Write X) (c : World X) (l : List (Action X)) (o o' : Own) (h : Mending v wr c l o o') where
+    mending-quiet : Quiet K (belief z (o' .now)) (h .history) (h .u) (table z W K E v) (mask z W C K E S R (o' .absent) (c .cur))
+    mending-quiet =
+        let rest = always-cur (Rest z W C K (h .history) (h .u) (o' .now) (table z W K E v)) c (h .sane) (during-start (Rest z W C K (h .history) (h .u) (o' .now) (table z W K E v)) c l (h .during)) in
+        quiet-seen z W C K E S R (h .history) (h .u) (table z W K E v) (o' .now) (o' .absent) (c .cur) (h .dark) (rest .quiet)
+
+    mending-few : W .few (o' .now .out) ≡ true
+    mending-few = always-cur (Rest z W C K (h .history) (h .u) (o' .now) (table z W K E v)) c (h .sane) (during-start (Rest z W C K (h .history) (h .u) (o' .now) (table z W K E v)) c l (h .during)) .labels .few-Q
+
+    -- in the words of o
+    back-to : (P : Label → (ℕ → Bool) → Type 0) → P (o' .now) (o' .absent) → P (o .now) (o .absent)
+    back-to P x = subst (λ (q : Label). P q (o .absent)) (sym (h .same-now)) (subst (λ (A : ℕ → Bool). P (o' .now) A) (sym (h .same-absent)) x)
+
+    mending-read : (t i j : ℕ) → t < z .T → i < E .k → j < K .c → read z W K E (o .now) (mask z W C K E S R (o .absent) (c .cur)) t i j ≡ v t i j
+    mending-read t i j a b g = back-to (λ q A. read z W K E q (mask z W C K E S R A (c .cur)) t i j ≡ v t i j) (read-right z W K E (h .history) (h .u) (o' .now) v (mask z W C K E S R (o' .absent) (c .cur)) mending-few mending-quiet t i j a b g)
+
+    -- with the mended strip laid over
+    over-right : (t d j : ℕ) → believed z (o' .now) d t ≡ true → j < K .c → cond (eqb t (wr .stripe) && wr .changes d) (wr .new d j) (mask z W C K E S R (o' .absent) (c .cur) (strip d t j)) ≡ E .shard t (v t) d j
+    unfolding Quiet table belief
+    over-right t d j b g = go (eqb t (wr .stripe)) refl (wr .changes d) refl
+      where
+        go : (x : Bool) → eqb t (wr .stripe) ≡ x → (y : Bool) → wr .changes d ≡ y → cond (x && y) (wr .new d j) (mask z W C K E S R (o' .absent) (c .cur) (strip d t j)) ≡ E .shard t (v t) d j
+        go true p true r = h .right d j r g ∙ ap (λ (u : ℕ). E .shard u (v u) d j) (sym (eqb-true t (wr .stripe) p))
+        go true p false r = mending-quiet .strips d t j b g
+        go false p y r = mending-quiet .strips d t j b g
+
+    mending-through : (t i j : ℕ) → t < z .T → i < E .k → j < K .c → read-through z W K E wr (o .now) (mask z W C K E S R (o .absent) (c .cur)) t i j ≡ v t i j
+    mending-through t i j a b g = back-to (λ q A. read-through z W K E wr q (mask z W C K E S R A (c .cur)) t i j ≡ v t i j) (through t i j a b g)
+      where
+        sees : (x : Bool) → not x ≡ false → x ≡ true
+        sees true e = refl
+        sees false e = sym e
+
+        through : (t i j : ℕ) → t < z .T → i < E .k → j < K .c → read-through z W K E wr (o' .now) (mask z W C K E S R (o' .absent) (c .cur)) t i j ≡ v t i j
+        through t i j a b g =
+            read-over wr (o' .now) (mask z W C K E S R (o' .absent) (c .cur)) v t i j
+            (few-missing z W K E (o' .now) t a mending-few) (λ d y n m x. over-right t d y (sees (believed z (o' .now) d t) m) x) b g
+
+    mending-scrub : (t : ℕ) → t < z .T → ((d : ℕ) → d < z .n → o .now .out d ≡ false) → E .scrub t (λ d j. mask z W C K E S R (o .absent) (c .cur) (strip d t j)) ≡ all-sound
+    mending-scrub t i none =
+        back-to (λ q A. ((d : ℕ) → d < z .n → q .out d ≡ false) → E .scrub t (λ d j. mask z W C K E S R A (c .cur) (strip d t j)) ≡ all-sound)
+        (λ n. found-sound z W C K E S R v c o' (h .sane) (mending-ready v wr c l o o' h) t i n) none
+
+    mending-over : (t : ℕ) → t < z .T → ((d : ℕ) → d < z .n → o .now .out d ≡ false) → E .scrub t (λ d j. cond (eqb t (wr .stripe) && wr .changes d) (wr .new d j) (mask z W C K E S R (o .absent) (c .cur) (strip d t j))) ≡ all-sound
+    mending-over t i none =
+        back-to (λ q A. ((d : ℕ) → d < z .n → q .out d ≡ false) → E .scrub t (λ d j. cond (eqb t (wr .stripe) && wr .changes d) (wr .new d j) (mask z W C K E S R A (c .cur) (strip d t j))) ≡ all-sound)
+        (λ n. E .scrub-sound t (v t) (λ d j. cond (eqb t (wr .stripe) && wr .changes d) (wr .new d j) (mask z W C K E S R (o' .absent) (c .cur) (strip d t j))) (λ d j y g. over-right t d j (believe-is z (o' .now) d t y i (inl (n d y))) g)) none
+
+  -- a read meanwhile
+  module _ (rot : Rot) (w : World X) (l : List (Action X)) (o o' : Own) (t i : ℕ) (e : may z W C K E S R true o (read-block t i) ≡ clear) where
+    abbrev seen-w : Image X
+    seen-w = mask z W C K E S R (o .absent) (w .cur)
+
+    range : (t < z .T) × (i < E .k)
+    range = in-range z W C K E S R t i true o e
+
+    module _ (c : World X) (veil : Veiled (K .c) rot w c) where
+      same-w : Agree (K .c) rot (mask z W C K E S R (o .absent) (w .cur)) (mask z W C K E S R (o .absent) (c .cur))
+      same-w = mask-same rot (w .cur) (c .cur) (veil .reads) (o .absent)
+
+      by-read : (p : View X) → ((j : ℕ) → j < K .c → read z W K E (o .now) (mask z W C K E S R (o .absent) (c .cur)) t i j ≡ list-of p t i j) → RotGives rot (o .now) (read z W K E (o .now) seen-w t i) (read-block t i) p p
+      by-read p g = (refl, λ j b f. read-alike rot seen-w (mask z W C K E S R (o .absent) (c .cur)) same-w (o .now) t i (range .1) f j ∙ g j b)
+
+      by-through : (wr : Write X) (p : View X) → ((j : ℕ) → j < K .c → read-through z W K E wr (o .now) (mask z W C K E S R (o .absent) (c .cur)) t i j ≡ list-of p t i j) → RotGives rot (o .now) (read-through z W K E wr (o .now) seen-w t i) (read-block t i) p p
+      by-through wr p g = (refl, λ j b f. through-alike rot seen-w (mask z W C K E S R (o .absent) (c .cur)) same-w (o .now) t i (range .1) wr f j ∙ g j b)
+
+      -- as the clean disks answer
+      clean-read : (k : Kind X) (p : View X) → Invariant z W C K E S R (at c (doing k l o o')) p → (p' : View X) × Answered (K .c) (read-block t i) (meanwhile z W C K E S R k o (mask z W C K E S R (o .absent) (c .cur)) t i clear) p p'
+      unfolding program
+      clean-read k p h =
+          let s = simulate z W C K E S R (from-host {w = c} {m = doing k l o o'} (read-block t i)) p h in
+          (s .0, subst (λ (y : Verdict). Answered (K .c) (read-block t i) (meanwhile z W C K E S R k o (mask z W C K E S R (o .absent) (c .cur)) t i y) p (s .0)) e (s .1))
+
+    doing-read : (k : Kind X) (p : View X) (h : Rotten rot w (doing k l o o') p) → Follows rot w (doing k l o o') (read-block t i) p (doing k l o o', meanwhile z W C K E S R k o seen-w t i clear)
+    doing-read creating p h = refuse rot w creating l o o' p h (read-block t i) NOT_NOW
+    doing-read starting p h = refuse rot w starting l o o' p h (read-block t i) NOT_NOW
+    doing-read (logging wr) (sure v) h = gives rot w (logging wr) l o o' (sure v) h (read-block t i) (read z W K E (o .now) seen-w t i) (by-read (h .clean) (h .veil) (sure v) (λ j g. mending-read v wr (h .clean) (l ++ stores-of o wr) o o' (h .holds) t i j (range .0) (range .1) g))
+    doing-read (logging wr) (open-write v v') h = gives rot w (logging wr) l o o' (open-write v v') h (read-block t i) (read z W K E (o .now) seen-w t i) (by-read (h .clean) (h .veil) (open-write v v') (clean-read (h .clean) (h .veil) (logging wr) (open-write v v') (h .holds) .1 .1))
+    doing-read (logging wr) (kept-write v') h = absurd (h .holds .reads)
+    doing-read (storing wr) (sure v) h = gives rot w (storing wr) l o o' (sure v) h (read-block t i) (read-through z W K E wr (o .now) seen-w t i) (by-through (h .clean) (h .veil) wr (sure v) (λ j g. mending-through v wr (h .clean) l o o' (h .holds) t i j (range .0) (range .1) g))
+    doing-read (storing wr) (open-write v v') h = absurd (h .holds .reads)
+    doing-read (storing wr) (kept-write v') h = gives rot w (storing wr) l o o' (kept-write v') h (read-block t i) (read-through z W K E wr (o .now) seen-w t i) (by-through (h .clean) (h .veil) wr (kept-write v') (clean-read (h .clean) (h .veil) (storing wr) (kept-write v') (h .holds) .1 .1))
+    doing-read labelling p h = gives rot w labelling l o o' p h (read-block t i) (read z W K E (o .now) seen-w t i) (by-read (h .clean) (h .veil) p (clean-read (h .clean) (h .veil) labelling p (h .holds) .1 .1))
