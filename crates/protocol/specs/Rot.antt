@@ -15,11 +15,12 @@ use Rattle.protocol.specs.Redo.{whole, completeB, forward, marked, kill-
 use Rattle.protocol.specs.Label.{Label, copy, last-side, expel-batch, prep-batch, Size, believed, believe-is, belief, Quorum, LabelCodec}
 use Rattle.protocol.specs.Startup.{gone, level-to, again-to, last-to, rounds}
 use Rattle.protocol.specs.Decide.{in-turn, startup, Rest}
+use Rattle.protocol.specs.Request.{outed}
 use Rattle.protocol.specs.Host.{Host, Blocks, Finding, blames, unsound, all-sound, accused, several, Change, one-block, all-blocks, changed, set-block, replace, Code, table, few-missing, proper, reached, read, read-through, read-right, writeOf, strips-of, mend, accused-slot, repairOf, whole-change, missing}
-use Rattle.protocol.specs.Program.{Stamps, Medium, Refusal, BAD_BLOCK, BUSY, NOT_NOW, Verdict, clear, because, Own, Kind, creating, starting, logging, storing, labelling, Memory, nothing, idle, doing, Input, create, start, read-block, write, take-out, begin, rebuild-on, scrub-stripe, repair, step, Reply, accepted, refused, did, safe, done, block, found, new-label, Proper, mask, left-out, beyond, ask-log, all-in, finding, change-made, asked-create, may-create, asked-start, may-start, asked-out, asked-begin, asked-on, asked-heal, asked-raise, at-least-one, last-batch, asked-write, asked-repair, may, also, may-repair, answer, from-nothing, from-idle, from-doing, one-step, meanwhile, scrubbed, unseen, back-in, program}
+use Rattle.protocol.specs.Program.{Stamps, Medium, Refusal, TOO_FEW, BAD_BLOCK, BUSY, NOT_NOW, Verdict, clear, because, Own, Kind, creating, starting, logging, storing, labelling, Memory, nothing, idle, doing, Input, create, start, read-block, write, take-out, begin, rebuild-on, scrub-stripe, repair, step, Reply, accepted, refused, did, safe, done, block, found, new-label, Proper, mask, left-out, beyond, ask-log, all-in, finding, change-made, asked-create, may-create, asked-start, may-start, asked-out, asked-begin, asked-on, asked-heal, asked-raise, at-least-one, last-batch, asked-write, asked-repair, may, also, may-repair, answer, from-nothing, from-idle, from-doing, one-step, meanwhile, scrubbed, unseen, back-in, program}
 use Rattle.protocol.specs.Machine.{Machine, at, effect, Event, cut, dies, swap, ask, Outside, power-cut, program-dies, disk-swapped, Happens, from-outside, from-host, View, sure, open-write, kept-write, list-of, Accepting, Saved, Ended, Gives, Answered}
 use Rattle.protocol.specs.Invariant.{Dark, Ready, Busy, Invariant, Off}
-use Rattle.protocol.specs.Promise.{simulate, in-range, ready-off, off-cut, memory-off, quiet-seen, mask-present, found-sound, made-as-asked, no-repair, may-repair-tests}
+use Rattle.protocol.specs.Promise.{simulate, in-range, scrub-tests, ready-off, off-cut, memory-off, quiet-seen, mask-present, found-sound, made-as-asked, no-repair, may-repair-tests}
 use Rattle.protocol.specs.Refresh.{Stored, store-done, refresh}
 use Rattle.protocol.specs.Veil.{Rot, rotten, OneEach, spread, mended, two, mended-one, Agree, Veiled, veiled-act, veiled-run, cleaned, cleaned-possible, veiled-cut, veiled-stored, Decayed, veiled-decay}
 
@@ -868,3 +869,189 @@ module _ {X : Type 0} (z : Size) (W : Quorum (z .n)) (C : LabelCodec X (z .n)) (
     doing-read (storing wr) (open-write v v') h = absurd (h .holds .reads)
     doing-read (storing wr) (kept-write v') h = gives rot w (storing wr) l o o' (kept-write v') h (read-block t i) (read-through z W K E wr (o .now) seen-w t i) (by-through (h .clean) (h .veil) wr (kept-write v') (clean-read (h .clean) (h .veil) (storing wr) (kept-write v') (h .holds) .1 .1))
     doing-read labelling p h = gives rot w labelling l o o' p h (read-block t i) (read z W K E (o .now) seen-w t i) (by-read (h .clean) (h .veil) p (clean-read (h .clean) (h .veil) labelling p (h .holds) .1 .1))
+
+  -- a scrub meanwhile
+  module _ (rot : Rot) (w : World X) (l : List (Action X)) (o o' : Own) (t : ℕ) (e : may z W C K E S R true o (scrub-stripe t) ≡ clear) where
+    abbrev strips-w : ℕ → ℕ → X
+    strips-w d j = mask z W C K E S R (o .absent) (w .cur) (strip d t j)
+
+    module _ (c : World X) (veil : Veiled (K .c) rot w c) where
+      abbrev strips-c : ℕ → ℕ → X
+      strips-c d j = mask z W C K E S R (o .absent) (c .cur) (strip d t j)
+
+      as-clean : ((d : ℕ) → rot d t ≡ false) → strips-w ≡ strips-c
+      as-clean none = same-strips rot (mask z W C K E S R (o .absent) (w .cur)) (mask z W C K E S R (o .absent) (c .cur)) (mask-same rot (w .cur) (c .cur) (veil .reads) (o .absent)) t none
+
+      by-strips : E .scrub t strips-c ≡ all-sound → ((d : ℕ) → rot d t ≡ false) → E .scrub t strips-w ≡ all-sound
+      by-strips q none = ap (E .scrub t) (as-clean none) ∙ q
+
+      by-over : (wr : Write X) → E .scrub t (λ d j. cond (eqb t (wr .stripe) && wr .changes d) (wr .new d j) (strips-c d j)) ≡ all-sound → ((d : ℕ) → rot d t ≡ false) → E .scrub t (λ d j. cond (eqb t (wr .stripe) && wr .changes d) (wr .new d j) (strips-w d j)) ≡ all-sound
+      by-over wr q none = ap (λ (y : ℕ → ℕ → X). E .scrub t (λ d j. cond (eqb t (wr .stripe) && wr .changes d) (wr .new d j) (y d j))) (as-clean none) ∙ q
+
+      clean-scrub : (k : Kind X) (p : View X) → Invariant z W C K E S R (at c (doing k l o o')) p → (p' : View X) × Answered (K .c) (scrub-stripe t) (scrubbed z W C K E S R k o (mask z W C K E S R (o .absent) (c .cur)) t clear) p p'
+      unfolding program
+      clean-scrub k p h =
+          let s = simulate z W C K E S R (from-host {w = c} {m = doing k l o o'} (scrub-stripe t)) p h in
+          (s .0, subst (λ (y : Verdict). Answered (K .c) (scrub-stripe t) (scrubbed z W C K E S R k o (mask z W C K E S R (o .absent) (c .cur)) t y) p (s .0)) e (s .1))
+
+    doing-scrub : (k : Kind X) (p : View X) (h : Rotten rot w (doing k l o o') p) → Follows rot w (doing k l o o') (scrub-stripe t) p (doing k l o o', scrubbed z W C K E S R k o (mask z W C K E S R (o .absent) (w .cur)) t clear)
+    doing-scrub creating p h = refuse rot w creating l o o' p h (scrub-stripe t) NOT_NOW
+    doing-scrub starting p h = refuse rot w starting l o o' p h (scrub-stripe t) NOT_NOW
+    doing-scrub (logging wr) (sure v) h = let a = scrub-tests z W C K E S R t true o e in finds rot w (logging wr) l o o' (sure v) h (scrub-stripe t) (E .scrub t strips-w) (by-strips (h .clean) (h .veil) (mending-scrub v wr (h .clean) (l ++ stores-of o wr) o o' (h .holds) t (a .0) (a .1)))
+    doing-scrub (logging wr) (open-write v v') h = finds rot w (logging wr) l o o' (open-write v v') h (scrub-stripe t) (E .scrub t strips-w) (by-strips (h .clean) (h .veil) (clean-scrub (h .clean) (h .veil) (logging wr) (open-write v v') (h .holds) .1 .1))
+    doing-scrub (logging wr) (kept-write v') h = absurd (h .holds .reads)
+    doing-scrub (storing wr) (sure v) h = let a = scrub-tests z W C K E S R t true o e in finds rot w (storing wr) l o o' (sure v) h (scrub-stripe t) (E .scrub t (λ d j. cond (eqb t (wr .stripe) && wr .changes d) (wr .new d j) (strips-w d j))) (by-over (h .clean) (h .veil) wr (mending-over v wr (h .clean) l o o' (h .holds) t (a .0) (a .1)))
+    doing-scrub (storing wr) (open-write v v') h = absurd (h .holds .reads)
+    doing-scrub (storing wr) (kept-write v') h = finds rot w (storing wr) l o o' (kept-write v') h (scrub-stripe t) (E .scrub t (λ d j. cond (eqb t (wr .stripe) && wr .changes d) (wr .new d j) (strips-w d j))) (by-over (h .clean) (h .veil) wr (clean-scrub (h .clean) (h .veil) (storing wr) (kept-write v') (h .holds) .1 .1))
+    doing-scrub labelling p h = finds rot w labelling l o o' p h (scrub-stripe t) (E .scrub t strips-w) (by-strips (h .clean) (h .veil) (clean-scrub (h .clean) (h .veil) labelling p (h .holds) .1 .1))
+
+  -- A STEP: the same action on the disks and on the clean ones
+  inv-act : (k : Kind X) (p : View X) (c : World X) (a : Action X) (l : List (Action X)) (o o' : Own) → Invariant z W C K E S R (at c (doing k (a ∷ l) o o')) p → Invariant z W C K E S R (at (act c a) (doing k l o o')) p
+  unfolding program
+  inv-act k p c a l o o' h = let s = simulate z W C K E S R (from-host {w = c} {m = doing k (a ∷ l) o o'} step) p h in subst (Invariant z W C K E S R (at (act c a) (doing k l o o'))) (s .1) (s .2)
+
+  holds-act : (k : Kind X) (p : View X) (c : World X) (a : Action X) (l : List (Action X)) (o o' : Own) → Holds (doing k (a ∷ l) o o') p c → Holds (doing k l o o') p (act c a)
+  holds-act creating p c a l o o' h = inv-act creating p c a l o o' h
+  holds-act starting p c a l o o' h = inv-act starting p c a l o o' h
+  holds-act (logging wr) (sure v) c a l o o' h = mending-act v wr c a (l ++ stores-of o wr) o o' h
+  holds-act (logging wr) (open-write v v') c a l o o' h = inv-act (logging wr) (open-write v v') c a l o o' h
+  holds-act (logging wr) (kept-write v') c a l o o' h = inv-act (logging wr) (kept-write v') c a l o o' h
+  holds-act (storing wr) (sure v) c a l o o' h = mending-act v wr c a l o o' h
+  holds-act (storing wr) (open-write v v') c a l o o' h = inv-act (storing wr) (open-write v v') c a l o o' h
+  holds-act (storing wr) (kept-write v') c a l o o' h = inv-act (storing wr) (kept-write v') c a l o o' h
+  holds-act labelling p c a l o o' h = inv-act labelling p c a l o o' h
+
+  stores-act : (k : Kind X) (w c : World X) (a : Action X) (l : List (Action X)) (o o' : Own) → Stores (doing k (a ∷ l) o o') w c → Stores (doing k l o o') (act w a) (act c a)
+  stores-act creating w c a l o o' h = tt
+  stores-act starting w c a l o o' h = tt
+  stores-act (logging wr) w c a l o o' h = tt
+  stores-act (storing wr) w c a l o o' h = h
+  stores-act labelling w c a l o o' h = tt
+
+  step-act : (rot : Rot) (w : World X) (k : Kind X) (a : Action X) (l : List (Action X)) (o o' : Own) (p : View X) → Rotten rot w (doing k (a ∷ l) o o') p → Follows rot w (doing k (a ∷ l) o o') step p (doing k l o o', did a)
+  unfolding ends-it
+  step-act rot w k a l o o' p h =
+      record {
+        view = p;
+        told = refl;
+        rests = subst (λ (y : Rot). Rotten y (act w a) (doing k l o o') p) (sym (rot-kept rot k (a ∷ l) o o' (did a) refl))
+            (record { clean = act (h .clean) a; veil = veiled-act (K .c) rot w (h .clean) a (h .veil); one = h .one; stores = stores-act k w (h .clean) a l o o' (h .stores); holds = holds-act k p (h .clean) a l o o' (h .holds) });
+      }
+
+  step-end : (rot : Rot) (w : World X) (k : Kind X) (o o' : Own) (p : View X) → Rotten rot w (doing k [] o o') p → Follows rot w (doing k [] o o') step p (one-step z W C K E S R k [] o o')
+  unfolding program
+  step-end rot w creating o o' p h =
+      let s = simulate z W C K E S R (from-host {w = h .clean} {m = doing creating [] o o'} step) p (h .holds) in
+      record { view = s .0; told = s .1; rests = record { clean = h .clean; veil = h .veil; one = h .one; stores = tt; holds = s .2 } }
+  step-end rot w starting o o' p h =
+      let s = simulate z W C K E S R (from-host {w = h .clean} {m = doing starting [] o o'} step) p (h .holds) in
+      record { view = s .0; told = s .1; rests = record { clean = h .clean; veil = h .veil; one = h .one; stores = tt; holds = s .2 } }
+  step-end rot w (logging wr) o o' (sure v) h =
+      let B = belief z (o .now) in
+      record {
+        view = sure v;
+        told = refl;
+        rests = record {
+          clean = h .clean;
+          veil = h .veil;
+          one = h .one;
+          stores = (store-done K B (wr .stripe) (wr .changes) (wr .new) w (h .veil .sane), store-done K B (wr .stripe) (wr .changes) (wr .new) (h .clean) (h .holds .sane));
+          holds = h .holds;
+        };
+      }
+  step-end rot w (logging wr) o o' (open-write v v') h =
+      let B = belief z (o .now) in
+      let s = simulate z W C K E S R (from-host {w = h .clean} {m = doing (logging wr) [] o o'} step) (open-write v v') (h .holds) in
+      record {
+        view = s .0;
+        told = s .1;
+        rests = record {
+          clean = h .clean;
+          veil = h .veil;
+          one = h .one;
+          stores = (store-done K B (wr .stripe) (wr .changes) (wr .new) w (h .veil .sane), store-done K B (wr .stripe) (wr .changes) (wr .new) (h .clean) (h .holds .sane));
+          holds = inv-holds (doing (storing wr) (stores-of o wr) o o') (s .0) (h .clean) (s .2);
+        };
+      }
+  step-end rot w (logging wr) o o' (kept-write v') h = absurd (h .holds .ends)
+  step-end rot w (storing wr) o o' (sure v) h =
+      let B = belief z (o .now) in
+      record {
+        view = sure v;
+        told = refl;
+        rests = record {
+          clean = h .clean;
+          veil = veiled-stored (K .c) K refl rot B (wr .stripe) (wr .changes) (wr .new) w (h .clean) (h .holds .sane) (h .stores .0) (h .stores .1) (h .veil);
+          one = mended-one rot B (wr .stripe) (wr .changes) (h .one);
+          stores = tt;
+          holds = (h .holds .sane, mending-ready v wr (h .clean) [] o o' (h .holds));
+        };
+      }
+  step-end rot w (storing wr) o o' (open-write v v') h = absurd (h .holds .ends)
+  step-end rot w (storing wr) o o' (kept-write v') h =
+      let B = belief z (o .now) in
+      let s = simulate z W C K E S R (from-host {w = h .clean} {m = doing (storing wr) [] o o'} step) (kept-write v') (h .holds) in
+      record {
+        view = s .0;
+        told = s .1;
+        rests = record {
+          clean = h .clean;
+          veil = veiled-stored (K .c) K refl rot B (wr .stripe) (wr .changes) (wr .new) w (h .clean) (h .holds .sane) (h .stores .0) (h .stores .1) (h .veil);
+          one = mended-one rot B (wr .stripe) (wr .changes) (h .one);
+          stores = tt;
+          holds = s .2;
+        };
+      }
+  step-end rot w labelling o o' p h =
+      let s = simulate z W C K E S R (from-host {w = h .clean} {m = doing labelling [] o o'} step) p (h .holds) in
+      record { view = s .0; told = s .1; rests = record { clean = h .clean; veil = h .veil; one = h .one; stores = tt; holds = s .2 } }
+
+  step-any : (rot : Rot) (w : World X) (k : Kind X) (l : List (Action X)) (o o' : Own) (p : View X) → Rotten rot w (doing k l o o') p → Follows rot w (doing k l o o') step p (one-step z W C K E S R k l o o')
+  step-any rot w k [] o o' p h = step-end rot w k o o' p h
+  step-any rot w k (a ∷ l) o o' p h = step-act rot w k a l o o' p h
+
+  host-doing : (rot : Rot) (w : World X) (k : Kind X) (l : List (Action X)) (o o' : Own) (p : View X) → Rotten rot w (doing k l o o') p → (i : Input X) → Follows rot w (doing k l o o') i p (program z W C K E S R (doing k l o o') (w .cur) i)
+  unfolding program
+  host-doing rot w k l o o' p h create = refuse rot w k l o o' p h create BUSY
+  host-doing rot w k l o o' p h (start A) = refuse rot w k l o o' p h (start A) BUSY
+  host-doing rot w k l o o' p h (read-block t i) = go (may z W C K E S R true o (read-block t i)) refl
+    where
+      go : (y : Verdict) → may z W C K E S R true o (read-block t i) ≡ y → Follows rot w (doing k l o o') (read-block t i) p (doing k l o o', meanwhile z W C K E S R k o (mask z W C K E S R (o .absent) (w .cur)) t i y)
+      go clear e = doing-read rot w l o o' t i e k p h
+      go (because why) e = refuse rot w k l o o' p h (read-block t i) why
+  host-doing rot w k l o o' p h (write t ch) = go (not (ltb t (z .T) && proper z W K E ch))
+    where
+      go : (b : Bool) → Follows rot w (doing k l o o') (write t ch) p (answer z W C K E S R (doing k l o o') (cond b (because BAD_BLOCK) (because BUSY)) (doing k l o o') accepted)
+      go true = refuse rot w k l o o' p h (write t ch) BAD_BLOCK
+      go false = refuse rot w k l o o' p h (write t ch) BUSY
+  host-doing rot w k l o o' p h (take-out d) = go (not (W .few (outed (z .n) (o .now) d .out))) (not (ltb d (z .n)))
+    where
+      go : (a b : Bool) → Follows rot w (doing k l o o') (take-out d) p (answer z W C K E S R (doing k l o o') (cond a (because TOO_FEW) (cond b (because BAD_BLOCK) (because BUSY))) (doing k l o o') accepted)
+      go true b = refuse rot w k l o o' p h (take-out d) TOO_FEW
+      go false true = refuse rot w k l o o' p h (take-out d) BAD_BLOCK
+      go false false = refuse rot w k l o o' p h (take-out d) BUSY
+  host-doing rot w k l o o' p h (begin d) = go (not (ltb d (z .n)))
+    where
+      go : (b : Bool) → Follows rot w (doing k l o o') (begin d) p (answer z W C K E S R (doing k l o o') (cond b (because BAD_BLOCK) (because BUSY)) (doing k l o o') accepted)
+      go true = refuse rot w k l o o' p h (begin d) BAD_BLOCK
+      go false = refuse rot w k l o o' p h (begin d) BUSY
+  host-doing rot w k l o o' p h (rebuild-on b) = refuse rot w k l o o' p h (rebuild-on b) BUSY
+  host-doing rot w k l o o' p h (scrub-stripe t) = go (may z W C K E S R true o (scrub-stripe t)) refl
+    where
+      go : (y : Verdict) → may z W C K E S R true o (scrub-stripe t) ≡ y → Follows rot w (doing k l o o') (scrub-stripe t) p (doing k l o o', scrubbed z W C K E S R k o (mask z W C K E S R (o .absent) (w .cur)) t y)
+      go clear e = doing-scrub rot w l o o' t e k p h
+      go (because why) e = refuse rot w k l o o' p h (scrub-stripe t) why
+  host-doing rot w k l o o' p h (repair t) = go (not (ltb t (z .T)))
+    where
+      go : (b : Bool) → Follows rot w (doing k l o o') (repair t) p (answer z W C K E S R (doing k l o o') (also z W C K E S R (cond b (because BAD_BLOCK) (because BUSY)) (not (blames (finding z W C K E S R (mask z W C K E S R (o .absent) (w .cur)) t)))) (doing k l o o') accepted)
+      go true = refuse rot w k l o o' p h (repair t) BAD_BLOCK
+      go false = refuse rot w k l o o' p h (repair t) BUSY
+  host-doing rot w k l o o' p h step = step-any rot w k l o o' p h
+
+  -- EACH THING THAT THE HOST ASKS
+  pub rot-host : (rot : Rot) (w : World X) (m : Memory X) (p : View X) → Rotten rot w m p → (i : Input X) → Allowed rot m (w .cur) i → Follows rot w m i p (program z W C K E S R m (w .cur) i)
+  rot-host rot w nothing p h i a = host-nothing rot w p h i a
+  rot-host rot w (idle o) (sure v) h i a = host-idle rot w o v h i a
+  rot-host rot w (idle o) (open-write v v') h i a = absurd (h .holds)
+  rot-host rot w (idle o) (kept-write v') h i a = absurd (h .holds)
+  rot-host rot w (doing k l o o') p h i a = host-doing rot w k l o o' p h i
