@@ -12,17 +12,18 @@ use Rattle.protocol.specs.Slots.{from, in-from, every-of}
 use Rattle.protocol.specs.Log.{Write, RecordCodec, Belief, Table, Quiet}
 use Rattle.protocol.specs.Write.{log-write, store, store-batch, both}
 use Rattle.protocol.specs.Redo.{whole, completeB, forward, marked, kill-batch, redo, redone}
-use Rattle.protocol.specs.Label.{Label, copy, last-side, expel-batch, prep-batch, Size, believed, believe-is, belief, Quorum, LabelCodec}
+use Rattle.protocol.specs.Label.{Label, copy, last-side, expel-batch, prep-batch, Size, looked, believed, believe-is, belief, Quorum, LabelCodec}
 use Rattle.protocol.specs.Startup.{gone, level-to, again-to, last-to, rounds}
 use Rattle.protocol.specs.Decide.{in-turn, startup, Rest}
 use Rattle.protocol.specs.Request.{outed}
+use Rattle.protocol.specs.Swap.{Swapped}
 use Rattle.protocol.specs.Host.{Host, Blocks, Finding, blames, unsound, all-sound, accused, several, Change, one-block, all-blocks, changed, set-block, replace, Code, table, few-missing, proper, reached, read, read-through, read-right, writeOf, strips-of, mend, accused-slot, repairOf, whole-change, missing}
 use Rattle.protocol.specs.Program.{Stamps, Medium, Refusal, TOO_FEW, BAD_BLOCK, BUSY, NOT_NOW, Verdict, clear, because, Own, Kind, creating, starting, logging, storing, labelling, Memory, nothing, idle, doing, Input, create, start, read-block, write, take-out, begin, rebuild-on, scrub-stripe, repair, step, Reply, accepted, refused, did, safe, done, block, found, new-label, Proper, mask, left-out, beyond, ask-log, all-in, finding, change-made, asked-create, may-create, asked-start, may-start, asked-out, asked-begin, asked-on, asked-heal, asked-raise, at-least-one, last-batch, asked-write, asked-repair, may, also, may-repair, answer, from-nothing, from-idle, from-doing, one-step, meanwhile, scrubbed, unseen, back-in, program}
 use Rattle.protocol.specs.Machine.{Machine, at, effect, Event, cut, dies, swap, ask, Outside, power-cut, program-dies, disk-swapped, Happens, from-outside, from-host, View, sure, open-write, kept-write, list-of, Accepting, Saved, Ended, Gives, Answered}
 use Rattle.protocol.specs.Invariant.{Dark, Ready, Busy, Invariant, Off}
 use Rattle.protocol.specs.Promise.{simulate, in-range, scrub-tests, ready-off, off-cut, memory-off, quiet-seen, mask-present, found-sound, made-as-asked, no-repair, may-repair-tests}
 use Rattle.protocol.specs.Refresh.{Stored, store-done, refresh}
-use Rattle.protocol.specs.Veil.{Rot, rotten, OneEach, spread, mended, two, mended-one, Agree, Veiled, veiled-act, veiled-run, cleaned, cleaned-possible, veiled-cut, veiled-stored, Decayed, veiled-decay}
+use Rattle.protocol.specs.Veil.{Rot, rotten, OneEach, spread, mended, either, two, mended-one, Agree, Veiled, veiled-act, veiled-run, cleaned, cleaned-agrees, cleaned-possible, veiled-cut, veiled-stored, Decayed, veiled-decay}
 
 module _ {X : Type 0} (z : Size) (W : Quorum (z .n)) (C : LabelCodec X (z .n)) (K : RecordCodec X) (E : Code X (z .n) (K .c) W) (S : Stamps) (R : Medium z W C K E S) where
   -- WHAT THE PROGRAM LOOKS AT. Start-up and begin look at labels and log sectors alone
@@ -1055,3 +1056,197 @@ module _ {X : Type 0} (z : Size) (W : Quorum (z .n)) (C : LabelCodec X (z .n)) (
   rot-host rot w (idle o) (open-write v v') h i a = absurd (h .holds)
   rot-host rot w (idle o) (kept-write v') h i a = absurd (h .holds)
   rot-host rot w (doing k l o o') p h i a = host-doing rot w k l o o' p h i
+
+  -- WHAT HAPPENS FROM OUTSIDE
+  rot-cut : (rot : Rot) (w : World X) (m : Memory X) (p : View X) (f : Image X) → Possible w f → Rotten rot w m p → Rotten rot (after f) nothing p
+  rot-cut rot w m p f q h =
+      let c = h .clean in
+      let off = holds-off m p c (h .holds) in
+      record {
+        clean = after (cleaned (K .c) rot c f);
+        veil = veiled-cut (K .c) rot w c f (h .veil);
+        one = h .one;
+        stores = tt;
+        holds = off-cut z W C K E S R p c (cleaned (K .c) rot c f) (cleaned-possible (K .c) rot w c f (h .veil) (off .sane) q) off;
+      }
+
+  rot-dies : (rot : Rot) (w : World X) (m : Memory X) (p : View X) → Rotten rot w m p → Rotten rot w nothing p
+  rot-dies rot w m p h = record { clean = h .clean; veil = h .veil; one = h .one; stores = tt; holds = holds-off m p (h .clean) (h .holds) }
+
+  -- another disk in a slot that is not looked at: the clean disks get the same one
+  module _ (rot : Rot) (w w' c : World X) (d g : ℕ) (veil : Veiled (K .c) rot w c) (sane : Sane c) (s : Swapped C d g w w') where
+    hidden : Place → Bool
+    hidden k = rotten (K .c) rot k && not (eqb (slot k) d)
+
+    swapped-in : World X
+    swapped-in = record { cur = λ k. cond (hidden k) (c .cur k) (w' .cur k); may = λ k x. cond (hidden k) (c .may k x) (w' .may k x) }
+
+    seen-hidden : (k : Place) → hidden k ≡ false → rotten (K .c) rot k ≡ true → slot k ≡ d
+    unfolding hidden
+    seen-hidden k e r = go (eqb (slot k) d) refl
+      where
+        off : (a b : Bool) → a ≡ true → (a && not b) ≡ false → b ≡ true
+        off true true p q = refl
+        off true false p q = absurd (true≢false q)
+        off false b p q = absurd (false≢true p)
+
+        go : (b : Bool) → eqb (slot k) d ≡ b → slot k ≡ d
+        go true q = eqb-true (slot k) d q
+        go false q = absurd (true≢false (sym (off (rotten (K .c) rot k) (eqb (slot k) d) r e) ∙ q))
+
+    swapped-sane : Sane swapped-in
+    unfolding Sane Possible swapped-in
+    swapped-sane k = go (hidden k)
+      where
+        go : (b : Bool) → cond b (c .may k (cond b (c .cur k) (w' .cur k))) (w' .may k (cond b (c .cur k) (w' .cur k)))
+        go true = sane k
+        go false = s .sane k
+
+    swapped-veil : Veiled (K .c) rot w' swapped-in
+    unfolding swapped-in hidden
+    swapped-veil =
+        record {
+          sane = s .sane;
+          reads = λ k e. rw e;
+          allows = λ k x e m. rw e m;
+        }
+
+    clean-swapped : Swapped C d g c swapped-in
+    unfolding swapped-in hidden Possible Sane copy
+    clean-swapped =
+        record {
+          sane = swapped-sane;
+          others = λ k n x m. other k n x (rotten (K .c) rot k) refl (hidden k) refl m;
+          older = λ f p b. s .older (λ k. cond (hidden k) (w' .cur k) (f k)) (λ k. back f p k (hidden k) refl) b;
+        }
+      where
+        other : (k : Place) → slot k ≢ d → (x : X) → (r : Bool) → rotten (K .c) rot k ≡ r → (b : Bool) → hidden k ≡ b → cond b (c .may k x) (w' .may k x) → c .may k x
+        other k n x r q true e m = m
+        other k n x true q false e m = absurd (n (seen-hidden k e q))
+        other k n x false q false e m = veil .allows k x q (s .others k n x m)
+
+        back : (f : Image X) → ((k : Place) → cond (hidden k) (c .may k (f k)) (w' .may k (f k))) → (k : Place) (b : Bool) → hidden k ≡ b → w' .may k (cond (hidden k) (w' .cur k) (f k))
+        back f p k true e = rw e (s .sane k)
+        back f p k false e = let y : cond (hidden k) (c .may k (f k)) (w' .may k (f k)) = p k in rw e (subst (λ (b : Bool). cond b (c .may k (f k)) (w' .may k (f k))) e y)
+
+  rot-swap : (rot : Rot) (w w' : World X) (o : Own) (d : ℕ) (p : View X) → looked z (o .now) d ≡ false → Swapped C d (o .now .generation) w w' → Rotten rot w (idle o) p → Rotten rot w' (idle o) p
+  rot-swap rot w w' o d p a s h =
+      let c = h .clean in
+      let sane = holds-off (idle o) p c (h .holds) .sane in
+      let c' = swapped-in rot w w' c d (o .now .generation) (h .veil) sane s in
+      let r = simulate z W C K E S R (from-outside (disk-swapped {w = c} {w' = c'} {o = o} d a (clean-swapped rot w w' c d (o .now .generation) (h .veil) sane s))) p (h .holds) in
+      record { clean = c'; veil = swapped-veil rot w w' c d (o .now .generation) (h .veil) sane s; one = h .one; stores = tt; holds = subst (λ (y : View X). Invariant z W C K E S R (at c' (idle o)) y) (r .1) (r .2) }
+
+  -- A STRIP ROTS: one in which nothing is being written, of a stripe in which no other is rotten
+  abbrev pub Still : Memory X → ℕ → Type 0
+  Still nothing t = Unit {0}
+  Still (idle o) t = Unit {0}
+  Still (doing creating l o o') t = Unit {0}
+  Still (doing starting l o o') t = Unit {0}
+  Still (doing (logging wr) l o o') t = wr .stripe ≢ t
+  Still (doing (storing wr) l o o') t = wr .stripe ≢ t
+  Still (doing labelling l o o') t = Unit {0}
+
+  stored-decay : (d t u : ℕ) (w w' : World X) → Sane w → Decayed (K .c) d t w w' → u ≢ t → (l : List (Action X)) (B : Belief) (ch : ℕ → Bool) (new : ℕ → ℕ → X) → Always (run w l) (Stored K B u ch new) → Always (run w' l) (Stored K B u ch new)
+  unfolding Always
+  stored-decay d t u w w' sane h n l B ch new a f p e j x y i =
+      let none : Rot = λ e u. false in
+      let self : Veiled (K .c) none w w = record { sane = sane; reads = λ k q. refl; allows = λ k x q m. m } in
+      let v = veiled-run (K .c) (spread none d t) w' w l (veiled-decay (K .c) none d t w w' w h self) in
+      let q = cleaned-possible (K .c) (spread none d t) (run w' l) (run w l) f v (sane-run w l sane) p in
+      let off : rotten (K .c) (spread none d t) (strip e u j) ≡ false = rw (ne-eqb u t n) (last (eqb e d)) in
+      cleaned-agrees (K .c) (spread none d t) (run w l) f (strip e u j) off ∙ a (cleaned (K .c) (spread none d t) (run w l) f) q e j x y i
+    where
+      last : (b : Bool) → ((b && false) && ltb j (K .c)) ≡ false
+      last true = refl
+      last false = refl
+
+  spread-one : (rot : Rot) (d t : ℕ) → OneEach rot → ((e : ℕ) → rot e t ≡ true → e ≡ d) → OneEach (spread rot d t)
+  spread-one rot d t one alone a b u p q = ⊎-elim (λ x. ⊎-elim (λ y. one a b u x y) (λ y. both-old a b u x y) (either (rot b u) (eqb b d && eqb u t) q)) (λ x. ⊎-elim (λ y. sym (both-old b a u y x)) (λ y. let s = two (eqb a d) (eqb u t) x in let r = two (eqb b d) (eqb u t) y in eqb-true a d (s .0) ∙ sym (eqb-true b d (r .0))) (either (rot b u) (eqb b d && eqb u t) q)) (either (rot a u) (eqb a d && eqb u t) p)
+    where
+      both-old : (a b u : ℕ) → rot a u ≡ true → (eqb b d && eqb u t) ≡ true → a ≡ b
+      both-old a b u x y = let s = two (eqb b d) (eqb u t) y in alone a (subst (λ (v : ℕ). rot a v ≡ true) (eqb-true u t (s .1)) x) ∙ sym (eqb-true b d (s .0))
+
+  stores-decay : (m : Memory X) (d t : ℕ) (w w' c : World X) → Sane w → Decayed (K .c) d t w w' → Still m t → Stores m w c → Stores m w' c
+  stores-decay nothing d t w w' c s h q a = tt
+  stores-decay (idle o) d t w w' c s h q a = tt
+  stores-decay (doing creating l o o') d t w w' c s h q a = tt
+  stores-decay (doing starting l o o') d t w w' c s h q a = tt
+  stores-decay (doing (logging wr) l o o') d t w w' c s h q a = tt
+  stores-decay (doing (storing wr) l o o') d t w w' c s h q a = (stored-decay d t (wr .stripe) w w' s h q l (belief z (o .now)) (wr .changes) (wr .new) (a .0), a .1)
+  stores-decay (doing labelling l o o') d t w w' c s h q a = tt
+
+  rot-decays : (rot : Rot) (w w' : World X) (m : Memory X) (p : View X) (d t : ℕ) → Decayed (K .c) d t w w' → ((e : ℕ) → rot e t ≡ true → e ≡ d) → Still m t → Rotten rot w m p → Rotten (spread rot d t) w' m p
+  rot-decays rot w w' m p d t q alone still h =
+      record {
+        clean = h .clean;
+        veil = veiled-decay (K .c) rot d t w w' (h .clean) q (h .veil);
+        one = spread-one rot d t (h .one) alone;
+        stores = stores-decay m d t w w' (h .clean) (h .veil .sane) q still (h .stores);
+        holds = h .holds;
+      }
+
+  -- THE MACHINE WITH ROT, and the rotten strips beside it
+  pub data RotHappens : Rot → Machine X → Event X → Rot → Machine X → Type 1 where
+    cut-off : {rot : Rot} {w : World X} {m : Memory X} (f : Image X) → Possible w f → RotHappens rot (at w m) cut rot (at (after f) nothing)
+    died : {rot : Rot} {w : World X} {m : Memory X} → RotHappens rot (at w m) dies rot (at w nothing)
+    swapped : {rot : Rot} {w w' : World X} {o : Own} (d : ℕ) → looked z (o .now) d ≡ false → Swapped C d (o .now .generation) w w' → RotHappens rot (at w (idle o)) swap rot (at w' (idle o))
+    asked : {rot : Rot} {w : World X} {m : Memory X} (i : Input X) → Allowed rot m (w .cur) i → RotHappens rot (at w m) (ask i (program z W C K E S R m (w .cur) i .1)) (rot-after rot m (program z W C K E S R m (w .cur) i .1)) (at (effect w (program z W C K E S R m (w .cur) i .1)) (program z W C K E S R m (w .cur) i .0))
+
+  pub data RotRuns : Rot → Machine X → Rot → Machine X → Type 1 where
+    stays : {rot : Rot} {m : Machine X} → RotRuns rot m rot m
+    goes : {rot rot' rot'' : Rot} {m m' m'' : Machine X} {e : Event X} → RotHappens rot m e rot' m' → RotRuns rot' m' rot'' m'' → RotRuns rot m rot'' m''
+    decays : {rot rot'' : Rot} {w w' : World X} {m : Memory X} {m'' : Machine X} (d t : ℕ) → Decayed (K .c) d t w w' → ((e : ℕ) → rot e t ≡ true → e ≡ d) → Still m t → RotRuns (spread rot d t) (at w' m) rot'' m'' → RotRuns rot (at w m) rot'' m''
+
+  abbrev pub RottenAt : Rot → Machine X → View X → Type 1
+  RottenAt rot (at w m) p = Rotten rot w m p
+
+  -- how an event may change the view
+  abbrev pub RotGoes : {rot rot' : Rot} {m m' : Machine X} {e : Event X} → RotHappens rot m e rot' m' → View X → View X → Type 0
+  RotGoes (cut-off f q) p p' = p' ≡ p
+  RotGoes died p p' = p' ≡ p
+  RotGoes (swapped d a s) p p' = p' ≡ p
+  RotGoes (asked {rot = rot} {w = w} {m = m} i a) p p' = RotAnswered rot (label-of m) i (program z W C K E S R m (w .cur) i .1) p p'
+
+  abbrev pub RotViews : {rot rot' : Rot} {m m' : Machine X} → RotRuns rot m rot' m' → View X → View X → Type 0
+  RotViews stays p q = q ≡ p
+  RotViews (goes s r) p q = (p' : View X) × RotGoes s p p' × RotViews r p' q
+  RotViews (decays d t a b c r) p q = RotViews r p q
+
+  pub record Onward {rot rot' : Rot} {m m' : Machine X} {e : Event X} (s : RotHappens rot m e rot' m') (p : View X) : Type 1 where
+    pub view : View X
+    pub told : RotGoes s p view
+    pub rests : RottenAt rot' m' view
+
+  -- EACH EVENT
+  pub rot-simulate : {rot rot' : Rot} {m m' : Machine X} {e : Event X} (s : RotHappens rot m e rot' m') (p : View X) → RottenAt rot m p → Onward s p
+  rot-simulate (cut-off {rot = rot} {w = w} {m = m} f q) p h = record { view = p; told = refl; rests = rot-cut rot w m p f q h }
+  rot-simulate (died {rot = rot} {w = w} {m = m}) p h = record { view = p; told = refl; rests = rot-dies rot w m p h }
+  rot-simulate (swapped {rot = rot} {w = w} {w' = w'} {o = o} d a s) p h = record { view = p; told = refl; rests = rot-swap rot w w' o d p a s h }
+  rot-simulate (asked {rot = rot} {w = w} {m = m} i a) p h = let f = rot-host rot w m p h i a in record { view = f .view; told = f .told; rests = f .rests }
+
+  pub record Promised {rot rot' : Rot} {m m' : Machine X} (r : RotRuns rot m rot' m') (p : View X) : Type 1 where
+    pub view : View X
+    pub told : RotViews r p view
+    pub rests : RottenAt rot' m' view
+
+  -- THE PROMISE, for any sequence of events while strips rot
+  pub rot-promise : {rot rot' : Rot} {m m' : Machine X} (r : RotRuns rot m rot' m') (p : View X) → RottenAt rot m p → Promised r p
+  rot-promise stays p h = record { view = p; told = refl; rests = h }
+  rot-promise (goes s r) p h =
+      let a = rot-simulate s p h in
+      let b = rot-promise r (a .view) (a .rests) in
+      record { view = b .view; told = (a .view, a .told, b .told); rests = b .rests }
+  rot-promise (decays {rot = rot} {w = w} {w' = w'} {m = m} d t q alone still r) p h =
+      let b = rot-promise r p (rot-decays rot w w' m p d t q alone still h) in
+      record { view = b .view; told = b .told; rests = b .rests }
+
+  -- it begins with any shelf that is ready, or off, as ever
+  abbrev pub no-rot : Rot
+  no-rot d t = false
+
+  pub rot-ready : (w : World X) (o : Own) (v : Host X) → Sane w → Ready z W C K E S R v w o → Rotten no-rot w (idle o) (sure v)
+  rot-ready w o v sane h = record { clean = w; veil = record { sane = sane; reads = λ k e. refl; allows = λ k x e m. m }; one = λ d e t a b. absurd (false≢true a); stores = tt; holds = (sane, h) }
+
+  pub rot-off : (w : World X) (p : View X) → Off z W C K E S R p w → Rotten no-rot w nothing p
+  rot-off w p h = record { clean = w; veil = record { sane = h .sane; reads = λ k e. refl; allows = λ k x e m. m }; one = λ d e t a b. absurd (false≢true a); stores = tt; holds = h }
