@@ -24,6 +24,7 @@ pub mod Promise
 pub mod Refresh
 pub mod Veil
 pub mod Rot
+pub mod Repaired
 pub mod Toy
 pub mod Run
 pub mod Kept

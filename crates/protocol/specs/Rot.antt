@@ -27,13 +27,13 @@ use Rattle.protocol.specs.Veil.{Rot, rotten, OneEach, spread, mended, ei
 
 module _ {X : Type 0} (z : Size) (W : Quorum (z .n)) (C : LabelCodec X (z .n)) (K : RecordCodec X) (E : Code X (z .n) (K .c) W) (S : Stamps) (R : Medium z W C K E S) where
   -- WHAT THE PROGRAM LOOKS AT. Start-up and begin look at labels and log sectors alone
-  abbrev bones : Image X → Image X
+  abbrev pub bones : Image X → Image X
   bones f (label d b) = f (label d b)
   bones f (log d j) = f (log d j)
   bones f (strip d t j) = K .zeros
 
   module _ (rot : Rot) (f g : Image X) (same : Agree (K .c) rot f g) where
-    same-bones : bones f ≡ bones g
+    pub same-bones : bones f ≡ bones g
     same-bones = fun-ext (λ k. go k)
       where
         go : (k : Place) → bones f k ≡ bones g k
@@ -53,7 +53,7 @@ module _ {X : Type 0} (z : Size) (W : Quorum (z .n)) (C : LabelCodec X (z .n)) (
         go (log d j) = same (log d j) refl
         go (strip d t j) = same (strip d t j) (rw (none d t))
 
-    mask-same : (A : ℕ → Bool) → Agree (K .c) rot (mask z W C K E S R A f) (mask z W C K E S R A g)
+    pub mask-same : (A : ℕ → Bool) → Agree (K .c) rot (mask z W C K E S R A f) (mask z W C K E S R A g)
     unfolding mask
     mask-same A k e = go (A (slot k))
       where
@@ -222,6 +222,8 @@ module _ {X : Type 0} (z : Size) (W : Quorum (z .n)) (C : LabelCodec X (z .n)) (
     pub history : ℕ → Write X
     pub u : ℕ
     pub used : u ≤ o' .count
+    pub stamped : u ≡ o' .count
+    pub last : history u ≡ wr
     pub early : o' .count < S .base (suc (o' .epoch))
     pub born : 0 < o' .epoch
     pub epoch-now : o' .epoch ≤ o' .now .generation
@@ -255,6 +257,8 @@ module _ {X : Type 0} (z : Size) (W : Quorum (z .n)) (C : LabelCodec X (z .n)) (
         history = h .history;
         u = h .u;
         used = h .used;
+        stamped = h .stamped;
+        last = h .last;
         early = h .early;
         born = h .born;
         epoch-now = h .epoch-now;
@@ -493,10 +497,10 @@ module _ {X : Type 0} (z : Size) (W : Quorum (z .n)) (C : LabelCodec X (z .n)) (
   blamed several e = absurd (false≢true e)
 
   module _ (rot : Rot) (w : World X) (o : Own) (v : Host X) (h : Rotten rot w (idle o) (sure v)) (none : (d : ℕ) → d < z .n → o .now .out d ≡ false) (t : ℕ) (inT : t < z .T) where
-    abbrev seen : Image X
+    abbrev pub seen : Image X
     seen = mask z W C K E S R (o .absent) (w .cur)
 
-    abbrev seen-c : Image X
+    abbrev pub seen-c : Image X
     seen-c = mask z W C K E S R (o .absent) (h .clean .cur)
 
     agree : Agree (K .c) rot seen seen-c
@@ -522,7 +526,7 @@ module _ {X : Type 0} (z : Size) (W : Quorum (z .n)) (C : LabelCodec X (z .n)) (
       right-but : (d j : ℕ) → d < z .n → d ≢ E .lies t r → j < K .c → strips-of z W K E seen t d j ≡ E .shard t (v t) d j
       right-but d j i n g = strip-right d j i (others d i n) g
 
-      in-shelf : E .lies t r < z .n
+      pub in-shelf : E .lies t r < z .n
       in-shelf = go (ltb (E .lies t r) (z .n)) refl
         where
           go : (b : Bool) → ltb (E .lies t r) (z .n) ≡ b → E .lies t r < z .n
@@ -541,13 +545,13 @@ module _ {X : Type 0} (z : Size) (W : Quorum (z .n)) (C : LabelCodec X (z .n)) (
           go false q = right-but d j i (eqb-false d (E .lies t r) q) g
 
       -- REPAIR: on the clean disks a refresh
-      abbrev wr : Write X
+      abbrev pub wr : Write X
       wr = repairOf z W K E seen t (E .lies t r)
 
-      abbrev σ : ℕ
+      abbrev pub σ : ℕ
       σ = suc (o .count)
 
-      abbrev o' : Own
+      abbrev pub o' : Own
       o' = record { now = o .now; absent = o .absent; epoch = o .epoch; count = suc (o .count) }
 
       history' : ℕ → Write X
@@ -561,7 +565,7 @@ module _ {X : Type 0} (z : Size) (W : Quorum (z .n)) (C : LabelCodec X (z .n)) (
       unfolding history'
       below τ q = rw (ne-eqb τ (suc (o .count)) (λ e. omega (arith, h .holds .1 .used)))
 
-      wr-right : (d j : ℕ) → wr .changes d ≡ true → j < K .c → wr .new d j ≡ table z W K E v (wr .stripe) d j
+      pub wr-right : (d j : ℕ) → wr .changes d ≡ true → j < K .c → wr .new d j ≡ table z W K E v (wr .stripe) d j
       unfolding repairOf table
       wr-right d j e g = let y : d ≡ E .lies t r = eqb-true d (E .lies t r) e in subst (λ (x : ℕ). E .mended t (strips-of z W K E seen t) x j ≡ E .shard t (v t) x j) (sym y) (mended-is j g)
 
@@ -571,7 +575,7 @@ module _ {X : Type 0} (z : Size) (W : Quorum (z .n)) (C : LabelCodec X (z .n)) (
           let q = h .holds .1 in
           R .fits-record σ wr (omega (arith, room, S .grows (suc (o .epoch)) (suc (R .greatest)) (omega (arith, q .epoch-now, q .most)))) inT (λ d e. subst (λ (x : ℕ). x < z .n) (sym (eqb-true d (E .lies t r) e)) in-shelf)
 
-      mends-now : σ < S .base (suc (o .epoch)) → Mending v wr (h .clean) (log-write K (belief z (o .now)) σ wr ++ stores-of o wr) o o'
+      pub mends-now : σ < S .base (suc (o .epoch)) → Mending v wr (h .clean) (log-write K (belief z (o .now)) σ wr ++ stores-of o wr) o o'
       mends-now room =
           let q = h .holds .1 in
           let during = refresh z W C K (q .history) history' (q .u) σ (table z W K E v) (o .now) (omega (arith, q .used)) below (subst (λ (y : Write X). (d j : ℕ) → y .changes d ≡ true → j < K .c → y .new d j ≡ table z W K E v (y .stripe) d j) (sym at-σ) wr-right) (subst (K .Fits σ) (sym at-σ) (wr-fits room)) (h .clean) (h .holds .0) (q .rest) in
@@ -580,6 +584,8 @@ module _ {X : Type 0} (z : Size) (W : Quorum (z .n)) (C : LabelCodec X (z .n)) (
             history = history';
             u = σ;
             used = omega arith;
+            stamped = refl;
+            last = at-σ;
             early = room;
             born = q .born;
             epoch-now = q .epoch-now;
