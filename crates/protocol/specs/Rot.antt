@@ -569,7 +569,7 @@ module _ {X : Type 0} (z : Size) (W : Quorum (z .n)) (C : LabelCodec X (z .n)) (
       unfolding repairOf table
       wr-right d j e g = let y : d ≡ E .lies t r = eqb-true d (E .lies t r) e in subst (λ (x : ℕ). E .mended t (strips-of z W K E seen t) x j ≡ E .shard t (v t) x j) (sym y) (mended-is j g)
 
-      wr-fits : σ < S .base (suc (o .epoch)) → K .Fits σ wr
+      pub wr-fits : σ < S .base (suc (o .epoch)) → K .Fits σ wr
       unfolding repairOf
       wr-fits room =
           let q = h .holds .1 in
