@@ -14,7 +14,7 @@ use Rattle.protocol.specs.Slots.{in-rows, of-rows, rows-slots}
 use Rattle.protocol.specs.Log.{Write, RecordCodec, Belief, Table, Complete, Quiet}
 use Rattle.protocol.specs.Write.{involved, in-involved, of-involved, log-write, log-batch, logged, logged-sectors, logged-in, store, store-batch, stored, stored-sectors}
 use Rattle.protocol.specs.Redo.{key, lead, tail, whole, completeB, redone, forward, marked, kill-batch, redo, key-look, key-top, key-seen, the-strip, forward-is, whole-is, redo-forward}
-use Rattle.protocol.specs.Label.{Label, copy, prep-batch, Size, believed, belief, Quorum, LabelCodec}
+use Rattle.protocol.specs.Label.{Label, copy, prep-batch, Size, believed, believe-is, belief, Quorum, LabelCodec}
 use Rattle.protocol.specs.Startup.{Shelf, gone, level-to, again-to, last-to, rounds}
 use Rattle.protocol.specs.Host.{Host, accused, Code, table, repairOf}
 use Rattle.protocol.specs.Program.{Stamps, Medium, clear, Own, idle, beyond, mask, left-out, flushed-first, may-start, finding}
@@ -204,3 +204,43 @@ module _ {X : Type 0} (z : Size) (W : Quorum (z .n)) (C : LabelCodec X (z .n)) (
         (store-done K (belief z N) (hist .stripe) (hist .changes) (redone K (belief z N) g) w2 s2)) in
         subst (λ (l : List (Action X)). Always (run (after f) (fl ++ l)) P) (sym list-same)
         (subst (λ (x : World X). Always x P) (sym (run-append (after f) fl (startup z C K A' g) ∙ startup-runs A' g w0)) a)
+
+    abbrev pub its-log : List (Action X)
+    its-log = log-write K (belief z (o .now)) (suc (o .count)) repairing
+
+    abbrev pub its-strips : List (Action X)
+    its-strips = stores-of z W C K E S R o repairing
+
+    d-believed : belief z (o .now) .believe d (repairing .stripe) ≡ true
+    unfolding belief
+    d-believed =
+        let i = in-shelf z W C K E S R rot w o v h none t inT r acc in
+        subst (λ (x : ℕ). believed z (o .now) d x ≡ true) (sym its-stripe) (believe-is z (o .now) d t i inT (inl (none d i)))
+
+    -- CUT WHILE THE LOG IS WRITTEN: as found (G: what was known of the strip)
+    pub repair-found : (G : (ℕ → X) → Type 0) → Always w (λ f. G (λ j. f (strip d t j))) → During w its-log (λ f. G (λ j. f (strip d t j)))
+    repair-found G h0 = as-found K (belief z (o .now)) (suc (o .count)) repairing d t G w (h .veil .sane) h0
+
+    -- CUT WHILE THE STRIP IS STORED: repaired, by the next start-up that takes the slot in
+    pub repair-kept : During (run w its-log) its-strips (Repairs v d t)
+    repair-kept =
+        let c = h .clean in
+        let B = belief z (o .now) in
+        let w1 = run w its-log in
+        let c1 = run c its-log in
+        let Rec : Image X → Type 0 = Recorded K (suc (o .count)) repairing d in
+        let Re : Image X → Type 0 = Rest z W C K (m .history) (suc (o .count)) (o .now) (table z W K E v) in
+        let s1 = sane-run w its-log (h .veil .sane) in
+        let a : During w1 its-strips Rec = recorded-on K B (suc (o .count)) repairing d (repairing .stripe) (repairing .changes) (repairing .new) w1 s1 (recorded K B (suc (o .count)) repairing d d-believed d-changes w (h .veil .sane)) in
+        let b : During c1 its-strips Re = during-after Re c its-log its-strips (subst (λ (u : ℕ). During c (its-log ++ its-strips) (Rest z W C K (m .history) u (o .now) (table z W K E v))) (m .stamped) (m .during)) in
+        during-map (λ f. Rec f × ((g : Image X) × Agree (K .c) rot f g × Re g)) (Repairs v d t) w1 its-strips (λ f x. start-repairs f (x .1 .0) (x .0) (x .1 .1) (x .1 .2))
+        (during-veiled (K .c) rot Rec Re w1 c1 its-strips (veiled-run (K .c) rot w c its-log (h .veil)) (sane-run c its-log (m .sane)) a b)
+
+    -- CARRIED OUT: the strip is the list's, whatever a cut leaves then
+    pub repair-done : Always (run (run w its-log) its-strips) (λ f. (j : ℕ) → j < K .c → f (strip d t j) ≡ E .shard t (v t) d j)
+    repair-done =
+        let B = belief z (o .now) in
+        let w1 = run w its-log in
+        always-map (Stored K B (repairing .stripe) (repairing .changes) (repairing .new)) (λ f. (j : ℕ) → j < K .c → f (strip d t j) ≡ E .shard t (v t) d j) (run w1 its-strips)
+        (λ f q j i. subst (λ (y : ℕ). f (strip d y j) ≡ repairing .new d j) its-stripe (q d j d-believed d-changes i) ∙ its-new j i)
+        (store-done K B (repairing .stripe) (repairing .changes) (repairing .new) w1 (sane-run w its-log (h .veil .sane)))
