@@ -2,7 +2,7 @@
 use Prim.Native.Nat.{ℕ, _<_}
 use mathlib.Core.Path.{_≡_, refl, sym, ap, _∙_}
 use mathlib.Core.Bool.{Bool, true, false, cond, not, _&&_, true≢false}
-use mathlib.Core.Logic.{inl, _≢_}
+use mathlib.Core.Logic.{_⊎_, inl, _≢_}
 use native.Mathlib.Decide.{ℕ-discrete}
 use lib.Dec.{eqb, ltb}
 use borrow.Author.Tests.{eq-eqb, ne-eqb, eqb-true, eqb-false, not-true, ltb-true, lt-ltb}
@@ -58,6 +58,7 @@ unsound several = true
 -- (shard t b d: the strip of slot d in stripe t for the blocks b. blocks t bad g: the blocks from the strips g of the slots that are not bad.)
 -- A scrub accuses a shard: lies t r is the slot where shard r of stripe t lies; block i is shard i, and reads as that strip while its slot is not bad. mended t g d: the
 -- strip of slot d, from the other strips. Where all strips but that of d are those of some blocks, nobody else is accused, and mended is the strip of these blocks.
+-- sharp: the code can tell whom to blame (m >= 2). Then the stripe is sound and the strip of d is right too, or somebody is accused.
 pub record Code (X : Type 0) (n c : ℕ) (W : Quorum n) : Type 0 where
   pub k : ℕ
   pub shard : ℕ → Blocks X → ℕ → ℕ → X
@@ -75,6 +76,8 @@ pub record Code (X : Type 0) (n c : ℕ) (W : Quorum n) : Type 0 where
   pub at-home : (t : ℕ) (bad : ℕ → Bool) (g : ℕ → ℕ → X) (i j : ℕ) → i < k → bad (lies t i) ≡ false → blocks t bad g i j ≡ g (lies t i) j
   pub mends : (t d : ℕ) (b : Blocks X) (g : ℕ → ℕ → X) → d < n → ((e j : ℕ) → e < n → e ≢ d → j < c → g e j ≡ shard t b e j) → (j : ℕ) → j < c → mended t g d j ≡ shard t b d j
   pub accuses-it : (t d r : ℕ) (b : Blocks X) (g : ℕ → ℕ → X) → d < n → ((e j : ℕ) → e < n → e ≢ d → j < c → g e j ≡ shard t b e j) → scrub t g ≡ accused r → lies t r ≡ d
+  pub sharp : Bool
+  pub tells : sharp ≡ true → (t d : ℕ) (b : Blocks X) (g : ℕ → ℕ → X) → d < n → ((e j : ℕ) → e < n → e ≢ d → j < c → g e j ≡ shard t b e j) → ((j : ℕ) → j < c → g d j ≡ shard t b d j) ⊎ ((r : ℕ) × (scrub t g ≡ accused r))
 
 module _ {X : Type 0} (z : Size) (W : Quorum (z .n)) (K : RecordCodec X) (E : Code X (z .n) (K .c) W) where
   -- the strips that a list asks for

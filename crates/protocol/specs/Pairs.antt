@@ -164,6 +164,8 @@ code-for test E ok W sub =
       at-home = E .at-home;
       mends = E .mends;
       accuses-it = E .accuses-it;
+      sharp = E .sharp;
+      tells = E .tells;
     }
 
 module _ {X : Type 0} (z : Size) (C : LabelCodec X (z .n)) (K : RecordCodec X) (E : Code X (z .n) (K .c) (no-sets (z .n))) (S : Stamps) (R : Medium z (no-sets (z .n)) C K E S) (test : (ℕ → Bool) → Bool) (ok : Mends test E) where

@@ -777,7 +777,7 @@ module _ {X : Type 0} (z : Size) (W : Quorum (z .n)) (C : LabelCodec X (z .n)) (
   unfolding Quiet
   quiet-scrub history u Q v f none q t i = scrub-old z W K E history u 0 Q v f none q t i
 
-  repair-tests : (t : ℕ) (o : Own) → may z W C K E S R false o (repair t) ≡ clear → (t < z .T) × ((d : ℕ) → d < z .n → o .now .out d ≡ false) × (suc (o .count) < S .base (suc (o .epoch)))
+  pub repair-tests : (t : ℕ) (o : Own) → may z W C K E S R false o (repair t) ≡ clear → (t < z .T) × ((d : ℕ) → d < z .n → o .now .out d ≡ false) × (suc (o .count) < S .base (suc (o .epoch)))
   repair-tests t o e =
       let none = all-in z W C K E S R o in
       let left = ltb (suc (o .count)) (S .base (suc (o .epoch))) in

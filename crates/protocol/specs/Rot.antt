@@ -21,7 +21,7 @@ use Rattle.protocol.specs.Host.{Host, Blocks, Finding, blames, unsound, 
 use Rattle.protocol.specs.Program.{Stamps, Medium, Refusal, TOO_FEW, BAD_BLOCK, BUSY, NOT_NOW, Verdict, clear, because, Own, Kind, creating, starting, logging, storing, labelling, Memory, nothing, idle, doing, Input, create, start, read-block, write, take-out, begin, rebuild-on, scrub-stripe, repair, step, Reply, accepted, refused, did, safe, done, block, found, new-label, Proper, mask, left-out, beyond, ask-log, all-in, finding, change-made, asked-create, may-create, asked-start, may-start, asked-out, asked-begin, asked-on, asked-heal, asked-raise, at-least-one, last-batch, asked-write, asked-repair, may, also, may-repair, answer, from-nothing, from-idle, from-doing, one-step, meanwhile, scrubbed, unseen, back-in, program}
 use Rattle.protocol.specs.Machine.{Machine, at, effect, Event, cut, dies, swap, ask, Outside, power-cut, program-dies, disk-swapped, Happens, from-outside, from-host, View, sure, open-write, kept-write, list-of, Accepting, Saved, Ended, Gives, Answered}
 use Rattle.protocol.specs.Invariant.{Dark, Ready, Busy, Invariant, Off}
-use Rattle.protocol.specs.Promise.{simulate, in-range, scrub-tests, ready-off, off-cut, memory-off, quiet-seen, mask-present, found-sound, made-as-asked, no-repair, may-repair-tests}
+use Rattle.protocol.specs.Promise.{simulate, in-range, scrub-tests, repair-tests, ready-off, off-cut, memory-off, quiet-seen, mask-present, found-sound, made-as-asked, no-repair, may-repair-tests}
 use Rattle.protocol.specs.Refresh.{Stored, store-done, refresh}
 use Rattle.protocol.specs.Veil.{Rot, rotten, OneEach, spread, mended, either, two, mended-one, Agree, Veiled, veiled-act, veiled-run, cleaned, cleaned-agrees, cleaned-possible, veiled-cut, veiled-stored, Decayed, veiled-decay}
 
@@ -643,6 +643,19 @@ module _ {X : Type 0} (z : Size) (W : Quorum (z .n)) (C : LabelCodec X (z .n)) (
       let m = mends-now rot w o v h (a .1) t (a .0) (b .0) (b .1) (a .2) in
       subst (λ (x : Finding). Follows rot w (idle o) (repair t) (sure v) (ask-log z W C K E S R o (repairOf z W K E (mask z W C K E S R (o .absent) (w .cur)) t (accused-slot z W K E t x)), accepted)) (sym (b .1))
       (record { view = sure v; told = refl; rests = record { clean = h .clean; veil = h .veil; one = h .one; stores = tt; holds = m } })
+
+  -- A REPAIR IS ACCEPTED where one strip of the stripe is rotten, nothing is out, a stamp is left and the code can tell whom to blame; or the strip is the list's (healed by
+  -- start-up). So a repair that was cut is mended by another one.
+  pub accepts-repair : (rot : Rot) (w : World X) (o : Own) (v : Host X) (h : Rotten rot w (idle o) (sure v)) (t d : ℕ) → E .sharp ≡ true → rot d t ≡ true → d < z .n → may z W C K E S R false o (repair t) ≡ clear → (may-repair z W C K E S R false o (mask z W C K E S R (o .absent) (w .cur)) t ≡ clear) ⊎ ((j : ℕ) → j < K .c → mask z W C K E S R (o .absent) (w .cur) (strip d t j) ≡ E .shard t (v t) d j)
+  accepts-repair rot w o v h t d sharp r i e =
+      let a = repair-tests z W C K E S R t o e in
+      let seen = mask z W C K E S R (o .absent) (w .cur) in
+      ⊎-elim (λ q. inr q) (λ q. inl (ap (λ (y : Verdict). also z W C K E S R y (not (blames (finding z W C K E S R seen t)))) e ∙ ap (λ (x : Finding). also z W C K E S R clear (not (blames x))) (q .1)))
+      (E .tells sharp t d (v t) (strips-of z W K E seen t) i (λ e j k m g. strip-right rot w o v h (a .1) t (a .0) e j k (off e m (rot e t) refl) g))
+    where
+      off : (e : ℕ) → e ≢ d → (b : Bool) → rot e t ≡ b → rot e t ≡ false
+      off e m true y = absurd (m (h .one e d t y r))
+      off e m false y = y
 
   -- the tests of a write, for the whole stripe
   tests-whole : (o : Own) (t : ℕ) (ch : Change X) (b : Blocks X) → may z W C K E S R false o (write t ch) ≡ clear → (t < z .T) × (may z W C K E S R false o (write t (all-blocks b)) ≡ clear)

@@ -395,6 +395,8 @@ code =
       at-home = λ t bad g i j h e. home bad g i j h e;
       mends = λ t d b g h e j i. mended-right d b g h e j i;
       accuses-it = λ t d r b g h e q. absurd (nobody (alike (g 2 0) (joined (g 0 0) (g 1 0))) r q);
+      sharp = false;
+      tells = λ e. absurd (false≢true e);
     }
   where
     blameless : (b : Blocks Sector) (g : ℕ → ℕ → Sector) → ((d j : ℕ) → d < 3 → j < 1 → g d j ≡ spread b d j) → cond (alike (g 2 0) (joined (g 0 0) (g 1 0))) all-sound several ≡ all-sound

@@ -1,8 +1,9 @@
 -- The shelf's code at real sectors, as the protocol asks for it: the strips of Strips, and what a scrub and a mended strip are where all shards of a
 -- stripe but one are right. Assumes nothing.
-use mathlib.Core.Path.{_≡_, refl, sym, ap, _∙_}
-use mathlib.Core.Bool.{Bool, true, false, true≢false, false≢true}
-use mathlib.Core.Logic.{_≢_}
+use mathlib.Core.Path.{_≡_, refl, sym, ap, subst, _∙_}
+use mathlib.Core.Bool.{Bool, true, false, cond, true≢false, false≢true}
+use mathlib.Core.List.{[], _∷_}
+use mathlib.Core.Logic.{_≢_, _⊎_, inl, inr}
 use Prim.Native.Nat.{ℕ, _+_, _≤_, _<_}
 use native.Mathlib.Omega.{arith}
 use native.Mathlib.Decide.{ℕ-discrete}
@@ -10,15 +11,17 @@ use lib.Dec.{eqb, leb}
 use borrow.Author.Tests.{eq-eqb, ne-eqb, eqb-false, leb-true, le-leb}
 use Rattle.disk.specs.Limits.{sectorBytes}
 use Rattle.disk.specs.Geometry.{slotOf, shardOf, slot-lt, shard-lt, shard-slot, slot-shard}
+use Rattle.codeword.specs.Stripe.{has}
+use Rattle.codeword.specs.Unique.{unique}
 use Rattle.codeword.specs.Mend.{Mended, put, put-at, put-off}
 use Rattle.protocol.specs.Host.{Blocks, Finding, all-sound, accused, several, blames, Code}
 use Rattle.codecs.specs.Sector.{Sector, zeros}
 use Rattle.codecs.specs.Shelf.{Shelf, slots, some-slots}
 use Rattle.shards.specs.Quorum.{fewOf, count-few, count-one, quorum}
 use Rattle.shards.specs.Position.{holds-same}
-use Rattle.shards.specs.Parity.{byte, byte-small, shardSector, sectors-hold}
-use Rattle.shards.specs.Strips.{shardIn, touchedIn, position, blocksFrom, scrubOf, in-range, shard-there, stripe-there, touched-inside, shard-equal, shard-kept, zeros-in, blocks-back, scrub-holds, scrub-right, touched-broad}
-use Rattle.shards.specs.Exact.{Sound, Blames, scrub-accuses, scrub-several, blocks-there}
+use Rattle.shards.specs.Parity.{byte, byte-small, sector-ext, shardSector, sectors-hold}
+use Rattle.shards.specs.Strips.{shardIn, touchedIn, position, position-bytes, soundIn, sound-is, blocksFrom, scrubOf, in-range, shard-there, stripe-there, touched-inside, shard-equal, shard-kept, zeros-in, blocks-back, scrub-holds, scrub-right, touched-broad}
+use Rattle.shards.specs.Exact.{Sound, sound-of, Blames, scrub-accuses, scrub-several, blocks-there}
 
 -- ---- a strip from the others
 
@@ -63,6 +66,10 @@ module _ (z : Shelf) where
     unfolding r
     r-slot = slot-shard n t (some-slots z) d hd
 
+    at-position : (j p : ℕ) → byte (g (slotOf n t r) j) p ≡ position z t g j p r
+    unfolding position
+    at-position j p = refl
+
     blamed : Blames z (position z t g) r
     blamed j p hj hp = (byte (shardSector (z .k) (z .m) b r j) p, byte-small (shardSector (z .k) (z .m) b r j) p, holds-same (z .k) (z .m) (put r v (position z t g j p)) (λ q. byte (shardSector (z .k) (z .m) b q j) p) (λ q hq. there q hq (ℕ-discrete q r)) (sectors-hold (z .k) (z .m) b j p hp))
       where
@@ -90,6 +97,31 @@ module _ (z : Shelf) where
             le-two : 2 ≤ z .m → leb 2 (z .m) ≡ true
             le-two m = le-leb 2 (z .m) m
 
+    -- a sound stripe: then this strip is right too
+    sound-strip : Sound z (position z t g) → (j : ℕ) → j < z .c → g d j ≡ shardIn z t b d j
+    sound-strip h j hj = subst (λ (x : ℕ). g x j ≡ shardIn z t b x j) r-slot (sector-ext (g (slotOf n t r) j) (shardIn z t b (slotOf n t r) j) (λ p hp. bytes p hp ∙ ap (λ (x : Sector). byte x p) (sym (shard-there z t b r j r-lt))))
+      where
+        apart : (q : ℕ) → q < n → q ≢ r → slotOf n t q ≢ d
+        apart q hq ne e = ne (sym (shard-slot n t (some-slots z) q hq) ∙ (ap (shardOf n t) (e ∙ sym r-slot) ∙ shard-slot n t (some-slots z) r r-lt))
+
+        off : (q : ℕ) → has (r ∷ []) q ≡ false → q ≢ r
+        off q e y = true≢false (sym (ap (λ (x : Bool). cond x true false) (eq-eqb r q (sym y))) ∙ e)
+
+        bytes : (p : ℕ) → p < sectorBytes → byte (g (slotOf n t r) j) p ≡ byte (shardSector (z .k) (z .m) b r j) p
+        bytes p hp =
+            at-position j p
+            ∙ unique (z .k) (z .m) (in-range z) (r ∷ []) (in-range z .m-least) (position z t g j p) (λ q. byte (shardSector (z .k) (z .m) b q j) p) (position-bytes z t g j p) (λ q. byte-small (shardSector (z .k) (z .m) b q j) p)
+            (h j p hj hp) (sectors-hold (z .k) (z .m) b j p hp)
+            (λ q hq e. stripe-there z t b g j p q hq (right (slotOf n t q) j (slot-lt n t (some-slots z) q) (apart q hq (off q e)) hj)) r r-lt
+
+    -- with m >= 2 a rotten strip is told
+    pub told : leb 2 (z .m) ≡ true → ((j : ℕ) → j < z .c → g d j ≡ shardIn z t b d j) ⊎ ((q : ℕ) × (scrubOf z t g ≡ accused q))
+    told two = go (soundIn z (position z t g)) refl
+      where
+        go : (y : Bool) → soundIn z (position z t g) ≡ y → ((j : ℕ) → j < z .c → g d j ≡ shardIn z t b d j) ⊎ ((q : ℕ) × (scrubOf z t g ≡ accused q))
+        go true e = inl (sound-strip (sound-of z (position z t g) e))
+        go false e = inr (r, scrub-accuses z t g (λ h. true≢false (sym (sound-is z (position z t g) h) ∙ e)) (leb-true 2 (z .m) two) r r-lt blamed)
+
 -- ---- the code of a shelf
 
 abbrev pub code : (z : Shelf) (more : z .m < z .k) → Code Sector (slots z) (z .c) (quorum z more)
@@ -111,6 +143,8 @@ code z more =
       at-home = home z;
       mends = mended-right z;
       accuses-it = λ t d r b g h e. accused-there z t d b g h e r;
+      sharp = leb 2 (z .m);
+      tells = λ two t d b g h e. told z t d b g h e two;
     }
 
 -- with nothing written, the shards are zeros

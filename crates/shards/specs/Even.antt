@@ -5,7 +5,7 @@ use mathlib.Core.Bool.{Bool, true, false, false≢true}
 use mathlib.Core.List.{List, List·Memᴰ}
 use Prim.Native.Nat.{ℕ, _<_}
 use native.Mathlib.Omega.{arith}
-use lib.Dec.{lit<}
+use lib.Dec.{leb, lit<}
 use Rattle.disk.specs.Geometry.{slotOf, stripLength, inRange, splits, inRangeWith}
 use Rattle.protocol.specs.World.{Image, World, Sane, Always}
 use Rattle.protocol.specs.Label.{Quorum}
@@ -27,7 +27,7 @@ use Rattle.codecs.specs.Records.{records}
 use Rattle.codecs.specs.Media.{stamps, medium}
 use Rattle.shards.specs.Quorum.{fewOf, few-count, count-few, few-none, quorum}
 use Rattle.shards.specs.Strips.{shardIn, blocksFrom, touchedIn, scrubOf, touched-inside, blocks-back, shard-equal, shard-kept, scrub-right, touched-broad, zeros-in}
-use Rattle.shards.specs.Code.{mendedIn, home, mended-right, accused-there, code}
+use Rattle.shards.specs.Code.{mendedIn, home, mended-right, accused-there, told, code}
 use Rattle.shards.specs.Promise.{sectors}
 
 -- there are shelves with k <= m: two data disks and two for parity
@@ -56,6 +56,8 @@ module _ (z : Shelf) where
         at-home = home z;
         mends = mended-right z;
         accuses-it = λ t d r b g h e. accused-there z t d b g h e r;
+        sharp = leb 2 (z .m);
+        tells = λ two t d b g h e. told z t d b g h e two;
       }
 
   pub mends : Mends (fewOf z) any-code

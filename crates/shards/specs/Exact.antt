@@ -60,7 +60,7 @@ module _ (z : Shelf) (x : ℕ → ℕ → ℕ → ℕ) where
   abbrev pub Blames : ℕ → Type 0
   Blames r = (j p : ℕ) → j < z .c → p < sectorBytes → Mended (z .k) (z .m) (x j p) r
 
-  sound-of : soundIn z x ≡ true → Sound
+  pub sound-of : soundIn z x ≡ true → Sound
   unfolding soundIn
   sound-of e j p hj hp =
       holds-true (z .k) (z .m) (x j p)
