@@ -1,4 +1,6 @@
--- THE PROMISE WHERE STRIPS ROT (PROTOCOL, repair).
+-- THE PROMISE WHILE STRIPS ROT: sectors of a strip change by themselves, of at most one strip of a stripe, while nothing is being written there. The disks are compared with clean ones
+-- (Veil), which satisfy the old invariant; a repair is on these a refresh (Refresh). So the host's list goes on as it is allowed to (`rot-promise`), reads of blocks that are fine
+-- give its entries, and the acknowledgement of a repair, or of a write into a rotten stripe, ends the rot there. Assumes nothing.
 use Prim.Native.Nat.{ℕ, suc, _≤_, _<_}
 use mathlib.Core.Path.{_≡_, refl, sym, ap, subst, _∙_, fun-ext}
 use mathlib.Core.Bool.{Bool, true, false, cond, not, _&&_, _||_, true≢false, false≢true}
