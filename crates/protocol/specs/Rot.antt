@@ -7,6 +7,7 @@ use mathlib.Core.Bool.{Bool, true, false, cond, not, _&&_, _||_, true≢false, f
 use mathlib.Core.Logic.{_⊎_, ⊎-elim, inl, inr, _≢_}
 use mathlib.Core.List.{List, [], _∷_, _++_}
 use native.Mathlib.Omega.{arith}
+use native.Mathlib.Decide.{ℕ-discrete}
 use lib.Dec.{eqb, ltb, leb}
 use borrow.Author.Tests.{eq-eqb, ne-eqb, eqb-true, eqb-false, ltb-true, ltb-false, lt-ltb, not-true}
 use Rattle.protocol.specs.World.{Place, label, log, strip, slot, Image, World, Action, act, run, after, Possible, Sane, Always, During, sane-act, sane-run, always-cur, always-map, during-start}
@@ -534,6 +535,18 @@ module _ {X : Type 0} (z : Size) (W : Quorum (z .n)) (C : LabelCodec X (z .n)) (
           go : (b : Bool) → ltb (E .lies t r) (z .n) ≡ b → E .lies t r < z .n
           go true q = ltb-true (E .lies t r) (z .n) q
           go false q = absurd (true≢false (ap blames (sym acc ∙ E .scrub-sound t (v t) (strips-of z W K E seen t) (λ d j i g. right-but d j i (λ y. omega (arith, ltb-false (E .lies t r) (z .n) q, y)) g))))
+
+      -- THE ACCUSATION IS RIGHT
+      pub accused-rotten : rot (E .lies t r) t ≡ true
+      accused-rotten = go (rot (E .lies t r) t) refl
+        where
+          go : (b : Bool) → rot (E .lies t r) t ≡ b → rot (E .lies t r) t ≡ true
+          go true e = e
+          go false e = absurd (true≢false (ap blames (sym acc ∙ E .scrub-sound t (v t) (strips-of z W K E seen t) (λ d j i g. strip-right d j i (off d i (ℕ-discrete d (E .lies t r))) g))))
+            where
+              off : (d : ℕ) → d < z .n → Dec (d ≡ E .lies t r) → rot d t ≡ false
+              off d i (yes q) = ap (λ (x : ℕ). rot x t) q ∙ e
+              off d i (no q) = others d i q
 
       mended-is : (j : ℕ) → j < K .c → E .mended t (strips-of z W K E seen t) (E .lies t r) j ≡ E .shard t (v t) (E .lies t r) j
       mended-is = E .mends t (E .lies t r) (v t) (strips-of z W K E seen t) in-shelf (λ d j i n g. right-but d j i n g)
