@@ -5,6 +5,7 @@ use mathlib.Core.Path.{_≡_, refl, sym, ap, subst, _∙_}
 use mathlib.Core.Bool.{Bool, true, false, cond, not, _||_, true≢false, false≢true}
 use mathlib.Core.Logic.{_⊎_, ⊎-elim, inl, inr, _≢_}
 use mathlib.Core.List.{List, [], _∷_, List·Memᴰ, List·Memᴰ·head}
+use native.Mathlib.Nat.{eq-zero-or-pos}
 use native.Mathlib.Omega.{arith}
 use native.Mathlib.Decide.{ℕ-discrete}
 use lib.Dec.{eqb, ltb}
@@ -12,7 +13,7 @@ use borrow.Author.Tests.{eqb-true, ltb-false}
 use Rattle.protocol.specs.World.{label, slot, Image, update, update-here, update-other, update-cases, World, run, Sane, Always, During, always-map, during-map}
 use Rattle.protocol.specs.Batch.{Kept, Covered, Done, stage}
 use Rattle.protocol.specs.Slots.{keep, in-keep, of-keep, in-rows, of-rows, rows-slots}
-use Rattle.protocol.specs.Label.{Label, again, LabelCodec, copy, copy-same, there, round, round-batch, prep, prepared, prep-value, of-prep, in-prep, prep-slots, prep-batch}
+use Rattle.protocol.specs.Label.{Label, again, foreign, LabelCodec, copy, copy-same, there, round, round-batch, prep, prepared, prep-value, of-prep, in-prep, prep-slots, prep-batch}
 
 two : (s b : Bool) → (b ≡ s) ⊎ (b ≡ not s)
 two true true = inl refl
@@ -32,6 +33,12 @@ module _ {X : Type 0} {n : ℕ} (C : LabelCodec X n) where
   -- zeros, or a valid copy
   abbrev pub Calm : Image X → ℕ → Bool → Type 0
   Calm f d b = (f (label d b) ≡ C .zeros) ⊎ (0 < copy C f d b .generation)
+
+  -- then it is no copy of another shelf or slot
+  pub calm-own : (f : Image X) (d : ℕ) (b : Bool) → Calm f d b → foreign C f d b ≡ 0
+  unfolding copy
+  calm-own f d b (inl e) = ap (C .strange d b) e ∙ C .strange-zeros d b
+  calm-own f d b (inr p) = ⊎-elim (λ q. q) (λ q. absurd (omega (arith, p, C .strange-none d b (f (label d b)) q))) (eq-zero-or-pos (foreign C f d b))
 
   pub copy-side : (f : Image X) (d : ℕ) (b : Bool) → 0 < copy C f d b .generation → b ≡ C .side (copy C f d b .generation)
   unfolding copy

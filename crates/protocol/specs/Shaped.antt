@@ -8,26 +8,26 @@ use native.Mathlib.Omega.{arith}
 use native.Mathlib.Decide.{ℕ-discrete}
 use lib.Dec.{eqb}
 use borrow.Author.Tests.{eq-eqb, ne-eqb, eqb-true, eqb-false, leb-false}
-use Rattle.protocol.specs.World.{Place, label, log, strip, slot, Image, update, update-other, World, Action, run, after, Possible, Sane, Always, During, sane-after, sane-run, always-after, always-map, during-map, during-start, during-end, during-append, run-append}
+use Rattle.protocol.specs.World.{Place, label, log, strip, slot, Image, update, update-other, World, Action, run, after, Possible, Sane, Always, During, sane-after, sane-run, always-after, always-cur, always-map, during-map, during-start, during-end, during-append, run-append}
 use Rattle.protocol.specs.Batch.{flushes, flushes-during, certain, Each, each-during, each-map, each-batch}
 use Rattle.protocol.specs.Slots.{from, in-from, of-from, of-slots, of-rows}
 use Rattle.protocol.specs.Log.{Write, RecordCodec, Belief}
 use Rattle.protocol.specs.Write.{log-write, store}
-use Rattle.protocol.specs.Label.{Label, Size, belief, Quorum, LabelCodec, round, prep}
+use Rattle.protocol.specs.Label.{Label, foreign, Size, belief, Quorum, LabelCodec, round, prep}
 use Rattle.protocol.specs.Decide.{data-place, Touch, Looked, log-each, strips-each, startup}
 use Rattle.protocol.specs.Request.{outed}
-use Rattle.protocol.specs.Rebuild.{begun, raised, healed, wipe, wipe-batch, wiped-sectors, filled-sectors, flushed-at-begin, begin-flushes, beginning, fill, fill-batch}
+use Rattle.protocol.specs.Rebuild.{begun, raised, healed, wipe, wipe-batch, wiped-sectors, filled-sectors, flushed-at-begin, begin-flushes, beginning, begin-own, fill, fill-batch}
 use Rattle.protocol.specs.Spare.{startup-spares, round-spares, present-in}
 use Rattle.protocol.specs.Restart.{restart}
-use Rattle.protocol.specs.Host.{Host, Code, read, rebuilt, writeOf}
-use Rattle.protocol.specs.Program.{Stamps, Medium, Verdict, clear, because, Own, Kind, creating, starting, logging, storing, labelling, Memory, nothing, idle, doing, Input, create, start, read-block, write, take-out, begin, rebuild-on, scrub-stripe, step, Reply, accepted, block, found, scrubbed, new-label, beyond, mask, flushed-first, created, started, told-to, back-in, filling, at-least-one, relabelled, asked-create, may-create, asked-start, may-start, asked-write, asked-out, asked-begin, asked-on, asked-heal, asked-raise, last-batch, may, answer, one-step, meanwhile, from-nothing, from-idle, from-doing, unseen, program}
+use Rattle.protocol.specs.Host.{Host, Code, read, rebuilt, accused-slot, repairOf, writeOf}
+use Rattle.protocol.specs.Program.{Stamps, Medium, Verdict, clear, because, Own, Kind, creating, starting, logging, storing, labelling, Memory, nothing, idle, doing, Input, create, start, read-block, write, take-out, begin, rebuild-on, scrub-stripe, repair, step, Reply, accepted, block, found, scrubbed, new-label, beyond, mask, flushed-first, created, started, told-to, back-in, filling, at-least-one, relabelled, asked-create, may-create, asked-start, may-start, ask-log, finding, change-made, asked-write, asked-repair, may-repair, asked-out, asked-begin, asked-on, asked-heal, asked-raise, last-batch, may, answer, one-step, meanwhile, from-nothing, from-idle, from-doing, unseen, program}
 use Rattle.protocol.specs.Invariant.{Ready, Invariant}
 use Rattle.protocol.specs.Promise as Promise
 use Rattle.protocol.specs.Promise.{beyond-in, beyond-none, proper-without, proper-begun, proper-raised, proper-healed, proper-new, Zeros, zeros-same, create-tests, out-tests, begin-tests, on-tests}
 use Rattle.protocol.specs.Machine.{Machine, at, effect, Event, Outside, power-cut, program-dies, disk-swapped, Happens, from-outside, from-host, Runs, stays, goes, View, sure, open-write, kept-write}
 use Rattle.protocol.specs.Startup.{M}
 use Rattle.protocol.specs.Swap.{Swapped}
-use Rattle.protocol.specs.Shape.{Shape, Low, Top, Shapes, round-shape, prep-shape}
+use Rattle.protocol.specs.Shape.{Shape, Low, Top, Shapes, calm-own, round-shape, prep-shape}
 use Rattle.protocol.specs.Tidy.{Has, has-low, labels-kept, shape-same, top-same, start-shape}
 
 module _ {X : Type 0} (z : Size) (W : Quorum (z .n)) (C : LabelCodec X (z .n)) (K : RecordCodec X) (E : Code X (z .n) (K .c) W) (S : Stamps) (R : Medium z W C K E S) where
@@ -112,7 +112,9 @@ module _ {X : Type 0} (z : Size) (W : Quorum (z .n)) (C : LabelCodec X (z .n)) (
       let r3 = round-current o o' ds refl fit (λ e m. told-in back e m .0) (λ e j x. in-told back e j x) w2 (sane-run w1 A2 s1)
       (always-map (λ f. P f × ((e : ℕ) → List·Memᴰ e (d ∷ []) → Low C f e q) × Others f) (λ f. P f × ((e : ℕ) → List·Memᴰ e ds → Low C f e q)) w2
       (λ f c. (c .0, λ e m. let y = told-in back e m in one f (c .1) (c .2) e (y .0) (members e (y .1)) (ℕ-discrete e d))) (r2 .1)) in
-      let A3 = round C (begun (o .now) d) ds in (
+      let A3 = round C (begun (o .now) d) ds in
+      let own : (b : Bool) → foreign C seen d b ≡ 0 = λ b. ap (C .strange d b) (agree b) ∙ calm-own C (w .cur) d b (always-cur (Current o) w sane h .0 d i .calm b) in
+      subst (λ (l : List (Action X)). During w l P × Always (run w l) (Current o')) (sym (begin-own K C seen (o .now) d ds own)) (
         during-append P w A0 (A1 ++ (A2 ++ A3)) (during-map (Current o) P w A0 (λ f c. c .0) z0)
             (during-append P w0 A1 (A2 ++ A3) (during-map (λ f. Current o f × Certain f) P w0 A1 (λ f c. c .0 .0) a)
             (during-append P w1 A2 A3 (during-map (λ f. P f × Others f) P w1 A2 (λ f c. c .0) (r2 .0)) (r3 .0))),
@@ -200,7 +202,15 @@ module _ {X : Type 0} (z : Size) (W : Quorum (z .n)) (C : LabelCodec X (z .n)) (
   shaped-nothing w (begin d) sane h = h
   shaped-nothing w (rebuild-on b) sane h = h
   shaped-nothing w (scrub-stripe t) sane h = h
+  shaped-nothing w (repair t) sane h = h
   shaped-nothing w step sane h = h
+
+  -- the log of a write or of a repair
+  logs : (o : Own) (wr : Write X) (w : World X) → Sane w → Always w (Current o) → Shaped (at w (ask-log z W C K E S R o wr))
+  logs o wr w s h =
+      let l = log-write K (belief z (o .now)) (suc (o .count)) wr in
+      let a = data-keeps o w l s (log-data (belief z (o .now)) (suc (o .count)) wr) h in
+      (during-map (Current o) (Shapes C) w l (λ f c. c .0) a, during-end (Current o) w l a)
 
   shaped-idle : (w : World X) (o : Own) (i : Input X) (v : Host X) → Sane w → Ready z W C K E S R v w o → Always w (Current o) → After w (from-idle z W C K E S R o (mask z W C K E S R (unseen z W C K E S R (idle o) i) (w .cur)) i)
   shaped-idle w o create v s r h = h
@@ -212,10 +222,7 @@ module _ {X : Type 0} (z : Size) (W : Quorum (z .n)) (C : LabelCodec X (z .n)) (
       read-kept (because why) = h
   shaped-idle w o (write t ch) v s r h =
       verdict w (idle o) h (may z W C K E S R false o (write t ch)) (asked-write z W C K E S R o (mask z W C K E S R (o .absent) (w .cur)) t ch)
-      (λ e.
-      let l = log-write K (belief z (o .now)) (suc (o .count)) (writeOf z W K E (o .now) (mask z W C K E S R (o .absent) (w .cur)) t ch) in
-      let a = data-keeps o w l s (log-data (belief z (o .now)) (suc (o .count)) (writeOf z W K E (o .now) (mask z W C K E S R (o .absent) (w .cur)) t ch)) h in
-      (during-map (Current o) (Shapes C) w l (λ f c. c .0) a, during-end (Current o) w l a))
+      (λ e. let seen = mask z W C K E S R (o .absent) (w .cur) in logs o (writeOf z W K E (o .now) seen t (change-made z W C K E S R o seen t ch)) w s h)
   shaped-idle w o (take-out d) v s r h =
       verdict w (idle o) h (may z W C K E S R false o (take-out d)) (asked-out z W C K E S R o d)
       (λ e.
@@ -249,6 +256,9 @@ module _ {X : Type 0} (z : Size) (W : Quorum (z .n)) (C : LabelCodec X (z .n)) (
           let more = at-least-one z W C K E S R b in
           let N = raised (o .now) (o .now .mark + more) in
           change-shape o (relabelled z W C K E S R o N) (filling z W C K E S R o (mask z W C K E S R (o .absent) (w .cur)) more) refl refl (R .fits N (proper-raised z (o .now) (o .now .mark + more) i (omega (arith, leb-false (z .T) (o .now .mark + more) e)) (r .sound)) (omega arith) room) w s (fill-data (o .now) more (rebuilt z W K E (o .now) (mask z W C K E S R (o .absent) (w .cur)) (o .now .rebuilding))) h
+  shaped-idle w o (repair t) v s r h =
+      let seen = mask z W C K E S R (o .absent) (w .cur) in
+      verdict w (idle o) h (may-repair z W C K E S R false o seen t) (asked-repair z W C K E S R o seen t) (λ e. logs o (repairOf z W K E seen t (accused-slot z W K E t (finding z W C K E S R seen t))) w s h)
   shaped-idle w o (scrub-stripe t) v s r h = scrub-kept (may z W C K E S R false o (scrub-stripe t))
     where
       scrub-kept : (y : Verdict) → After w (answer z W C K E S R (idle o) y (idle o) (found (E .scrub t (λ d j. mask z W C K E S R (o .absent) (w .cur) (strip d t j)))))
@@ -295,6 +305,7 @@ module _ {X : Type 0} (z : Size) (W : Quorum (z .n)) (C : LabelCodec X (z .n)) (
   shaped-doing k l o o' w f (take-out d) s h = verdict w (doing k l o o') h (may z W C K E S R true o (take-out d)) (doing k l o o') (λ e. h)
   shaped-doing k l o o' w f (begin d) s h = verdict w (doing k l o o') h (may z W C K E S R true o (begin d)) (doing k l o o') (λ e. h)
   shaped-doing k l o o' w f (rebuild-on b) s h = verdict w (doing k l o o') h (may z W C K E S R true o (rebuild-on b)) (doing k l o o') (λ e. h)
+  shaped-doing k l o o' w f (repair t) s h = verdict w (doing k l o o') h (may-repair z W C K E S R true o f t) (doing k l o o') (λ e. h)
   shaped-doing k l o o' w f (scrub-stripe t) s h = scrub-kept k l o o' w f t (may z W C K E S R true o (scrub-stripe t)) h
   shaped-doing k l o o' w f step s h = shaped-step k l o o' w s h
 

@@ -48,7 +48,7 @@ use Rattle.codecs.specs.Labels.{sectorOf, noLabel, ours, labelOf, meant, decode
 use Rattle.codecs.specs.Records.{records}
 use Rattle.codecs.specs.Media.{stamps}
 use Rattle.shards.specs.Quorum.{fewOf}
-use Rattle.shards.specs.Code.{zeros-in}
+use Rattle.shards.specs.Strips.{zeros-in}
 use Rattle.shards.specs.Even.{any-code}
 use Rattle.shelf.specs.declared.state.State.{State}
 use Rattle.shelf.specs.declared.state.Kind.the-variants.{Nothing, Idle, Creating, Starting, Labelling}
