@@ -1,0 +1,2 @@
+-- What the strips' functions show and make of a lent image is what the protocol reads, writes, rebuilds and finds.
+pub mod Seen
