@@ -1,3 +1,4 @@
 -- What the strips' functions show and make of a lent image is what the protocol reads, writes, rebuilds and finds.
 pub mod Seen
 pub mod Whole
+pub mod Prepared

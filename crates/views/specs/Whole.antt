@@ -2,39 +2,33 @@
 -- prepared for a write is the stripe that the protocol writes. Whatever the strips hold. That a slice of bytes holds bytes is asked of
 -- what a repair left, since its contract says it by the type of the slice alone. Assumes nothing.
 use mathlib.Core.Path.{_≡_, refl, sym, ap, ap₂, _∙_, subst}
-use mathlib.Core.Bool.{Bool, true, false, cond, not, _&&_, true≢false, false≢true}
+use mathlib.Core.Bool.{Bool, true, false, cond, not, false≢true}
 use mathlib.Core.List.{List, [], _∷_}
 use mathlib.Core.Logic.{_≢_, _⊎_, inl, inr}
-use Prim.Native.Nat.{ℕ, zero, suc, _+_, _-_, _*_, _≤_, _<_}
-use native.Mathlib.Nat.{suc-mul, mul-le-mul-right}
+use Prim.Native.Nat.{ℕ, _+_, _-_, _*_, _≤_, _<_}
 use native.Mathlib.Decide.{ℕ-discrete}
 use native.Mathlib.Omega.{arith}
 use lib.Dec.{eqb, leb, lit<}
-use lib.ListN.{length, getD}
-use lib.Seq.{paste, length-paste}
+use lib.ListN.{length}
 use borrow.Author.Tests.{eqb-true, eqb-false, eq-eqb, ne-eqb, not-false}
-use Rattle.field.specs.declared.Answer.{Answer}
-use Rattle.field.specs.declared.Answer.the-variants.{Done}
 use Rattle.disk.specs.Limits.{sectorBytes}
 use Rattle.disk.specs.Geometry.{slotOf, shardOf, slot-lt, shard-lt, slot-shard, slot-one}
-use Rattle.disk.specs.Image.{sector, getD-paste-inside, getD-paste-other}
-use Rattle.disk.specs.Mask.{inMask, in-past, tally}
-use Rattle.codeword.specs.Stripe.{Holds, Bytes, byteAt, has, Sound, AgreeOff}
+use Rattle.disk.specs.Image.{sector}
+use Rattle.disk.specs.Mask.{inMask, in-past}
+use Rattle.codeword.specs.Stripe.{Holds, byteAt, has, Sound, AgreeOff}
 use Rattle.codeword.specs.Laid.{holds-ext}
 use Rattle.codeword.specs.Mend.{put, put-at, put-off, put-bytes}
 use Rattle.codeword.specs.Unique.{AllBytes}
 use Rattle.code.specs.Lists.{below-or-not}
-use Rattle.code.specs.Stripes.{Encoded, Rebuilt, Says, Repaired}
+use Rattle.code.specs.Stripes.{Says, Repaired}
 use Rattle.code.specs.declared.Verdict.{Verdict}
 use Rattle.code.specs.declared.Verdict.the-variants as verdict
 use Rattle.position.specs.Position.{padded, padded-off, parity-ext}
 use Rattle.protocol.specs.Count.{count}
 use Rattle.protocol.specs.Slots.{from, in-from, of-from, every, every-of, every-all}
-use Rattle.protocol.specs.Host.{Blocks, Change, one-block, changed, set-block, Finding, all-sound, accused, several, unsound, mend}
-use Rattle.protocol.specs.Pairs.{no-sets}
+use Rattle.protocol.specs.Host.{Blocks, accused, mend}
 use Rattle.codecs.specs.Sector.{Sector}
 use Rattle.codecs.specs.Shelf.{Shelf, slots, geometry, some-slots}
-use Rattle.codecs.specs.Records.{stripBytes, length-strip, records}
 use Rattle.shards.specs.Quorum.{fewOf, count-few, count-none, count-one, count-shards, tally-count}
 use Rattle.shards.specs.Counted.{ascending-length}
 use Rattle.shards.specs.Parity.{byte, shardSector, data-sector, sectors-hold}
@@ -42,13 +36,13 @@ use Rattle.shards.specs.Strips.{shardIn, position, position-bytes, missingOf, m
 use Rattle.shards.specs.Exact.{blocks-there, blocks-found}
 use Rattle.shards.specs.Code.{mendedIn}
 use Rattle.shards.specs.Even.{any-code}
-use Rattle.stripes.specs.Slice.{shardBytes, laidOut, within, laid-length, laid-position, sector-byte, sector-is}
-use Rattle.stripes.specs.Same.{verdictOf, rebuilt, written-all, scrubbed, found}
-use Rattle.strips.specs.Seen.{lostOf, rowSeen}
+use Rattle.stripes.specs.Slice.{shardBytes, laidOut, within, laid-length, laid-position, sector-is}
+use Rattle.stripes.specs.Same.{verdictOf, scrubbed, found}
+use Rattle.strips.specs.Seen.{lostOf, seen, rowSeen}
 use Rattle.strips.specs.Answers.{fewLost}
-use Rattle.strips.specs.Laws.{lost-has, row-bytes, row-byte}
-use Rattle.strips.specs.Whole.{stripeSeen, noneLost, changes, Restored, PreparedBy}
-use Rattle.views.specs.Seen.{Lying, Keeping, gone, laidOver, none-over, strip-at, seen-is, row-laid}
+use Rattle.strips.specs.Laws.{lost-has}
+use Rattle.strips.specs.Whole.{stripeSeen, noneLost}
+use Rattle.views.specs.Seen.{Lying, Keeping, gone, laidOver, none-over, row-laid}
 
 -- ---- how many are lost
 
@@ -190,11 +184,11 @@ module _ (z : Shelf) (t : ℕ) (g : ℕ → ℕ → Sector) (r : ℕ) (hr : r < 
 
 module _ (z : Shelf) (t : ℕ) (img : List ℕ) (there : ℕ) (g : ℕ → ℕ → Sector) (lies : Lying z t img there g) where
   -- n - k is m
-  parity-many : slots z - z .k ≡ z .m
+  pub parity-many : slots z - z .k ≡ z .m
   parity-many = omega arith
 
   -- nothing is laid over the stripe
-  plainly : Keeping z t [] 0 g
+  pub plainly : Keeping z t [] 0 g
   plainly r j hr hj e = absurd (false≢true (sym (in-past 0 0 (slotOf (slots z) t r) (lit< tt) (omega arith)) ∙ e))
 
   -- THE VERDICT on a stripe as it is seen is what the protocol's code finds in it
@@ -214,7 +208,7 @@ module _ (z : Shelf) (t : ℕ) (img : List ℕ) (there : ℕ) (g : ℕ → ℕ �
 
   module _ (none : noneLost (slots z) t there ≡ true) (v : Verdict) (after : List ℕ)
       (w : Repaired (z .k) (slots z - z .k) (shardBytes z) v (stripeSeen (geometry z) img there t) after) where
-    repaired-laid : Repaired (z .k) (z .m) (shardBytes z) v (laidOut z t g) after
+    pub repaired-laid : Repaired (z .k) (z .m) (shardBytes z) v (laidOut z t g) after
     repaired-laid =
         subst (λ (s : List ℕ). Repaired (z .k) (z .m) (shardBytes z) v s after) (stripe-laid none)
         (subst (λ (m : ℕ). Repaired (z .k) m (shardBytes z) v (stripeSeen (geometry z) img there t) after) parity-many w)
