@@ -170,9 +170,10 @@ module _ (z : Shelf) (t : ℕ) (img : List ℕ) (there : ℕ) (g : ℕ → ℕ �
     laid-byte r j p hr hj hp = laid-position z t g j p r hj hp (omega arith)
 
     as-laid : stripe ≡ laidOut z t g → (length stripe ≡ n * len) × Reads stripe g
-    as-laid e =
-        (ap length e ∙ laid-length z t g,
-        λ r j p hr ne hj hp. ap (λ (s : List ℕ). byteAt len s (j * sectorBytes + p) r) e ∙ laid-byte r j p hr hj hp ∙ sym (home-byte g r j p hr))
+    as-laid e = (
+      ap length e ∙ laid-length z t g,
+      λ r j p hr ne hj hp. ap (λ (s : List ℕ). byteAt len s (j * sectorBytes + p) r) e ∙ laid-byte r j p hr hj hp ∙ sym (home-byte g r j p hr),
+    )
 
     as-mended : (q : ℕ) → q < n → length stripe ≡ n * len → AgreeOff n len (q ∷ []) (laidOut z t g) stripe → Sound (z .k) (z .m) len stripe → Reads stripe (M (accused q))
     as-mended q hq whole agree sound r j p hr ne hj hp = go (ℕ-discrete r q) ∙ sym (home-byte (M (accused q)) r j p hr)

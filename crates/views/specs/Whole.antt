@@ -227,5 +227,5 @@ module _ (z : Shelf) (t : ℕ) (img : List ℕ) (there : ℕ) (g : ℕ → ℕ �
         found z t g (verdict.Accused r) (y .says) (accused r) refl,
         hr,
         λ j hj. sector-is z after r j (y .mends .0 ∙ laid-length z t g) hr hj (mendedIn z t g (slotOf (slots z) t r) j)
-        (λ p hp. mended-byte z t g r hr after (y .mends .1) (y .mends .2) j p hj hp (b (r * shardBytes z + (j * sectorBytes + p)))),
+            (λ p hp. mended-byte z t g r hr after (y .mends .1) (y .mends .2) j p hj hp (b (r * shardBytes z + (j * sectorBytes + p)))),
       )
