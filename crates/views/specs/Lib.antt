@@ -2,3 +2,5 @@
 pub mod Seen
 pub mod Whole
 pub mod Prepared
+pub mod Solvable
+pub mod Filled
