@@ -176,10 +176,14 @@ module _ {X : Type 0} (z : Size) (W : Quorum (z .n)) (K : RecordCodec X) (E : Co
       go d l s g true p false r = q .strips d t l s g (λ e. true≢false (sym (e .1) ∙ r))
       go d l s g false p y r = q .strips d t l s g (λ e. eqb-false t (history u .stripe) p (e .0))
 
-  -- SCRUB, with nothing out: every strip is the list's, so nothing is to blame
-  pub scrub-old : (history : ℕ → Write X) (u σ : ℕ) (Q : Label) (v : Host X) (f : Image X) → ((d : ℕ) → d < z .n → Q .out d ≡ false) → Old K (belief z Q) history u σ (table v) f → (t : ℕ) → t < z .T → E .scrub t (λ d j. f (strip d t j)) ≡ all-sound
+  -- SCRUB of a stripe that is believed throughout: every strip is the list's, so nothing is to blame
+  pub scrub-believed : (history : ℕ → Write X) (u σ : ℕ) (Q : Label) (v : Host X) (f : Image X) (t : ℕ) → ((d : ℕ) → d < z .n → believed z Q d t ≡ true) → Old K (belief z Q) history u σ (table v) f → E .scrub t (λ d j. f (strip d t j)) ≡ all-sound
   unfolding table belief
-  scrub-old history u σ Q v f none q t i = E .scrub-sound t (v t) (λ d j. f (strip d t j)) (λ d j n c. q .strips d t j (believe-is z Q d t n i (inl (none d n))) c)
+  scrub-believed history u σ Q v f t all q = E .scrub-sound t (v t) (λ d j. f (strip d t j)) (λ d j n c. q .strips d t j (all d n) c)
+
+  -- so with nothing out
+  pub scrub-old : (history : ℕ → Write X) (u σ : ℕ) (Q : Label) (v : Host X) (f : Image X) → ((d : ℕ) → d < z .n → Q .out d ≡ false) → Old K (belief z Q) history u σ (table v) f → (t : ℕ) → t < z .T → E .scrub t (λ d j. f (strip d t j)) ≡ all-sound
+  scrub-old history u σ Q v f none q t i = scrub-believed history u σ Q v f t (λ d n. believe-is z Q d t n i (inl (none d n))) q
 
   pub scrub-new : (history : ℕ → Write X) (u : ℕ) (Q : Label) (v v' : Host X) (f : Image X) → ((d : ℕ) → d < z .n → Q .out d ≡ false) → Wrote (z .n) (K .c) (history u) (table v) (table v') → New K (belief z Q) history u (table v') f → (t : ℕ) → t < z .T → E .scrub t (λ d j. cond (eqb t (history u .stripe) && history u .changes d) (history u .new d j) (f (strip d t j))) ≡ all-sound
   unfolding table belief

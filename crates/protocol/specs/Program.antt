@@ -11,7 +11,7 @@ use Rattle.protocol.specs.Batch.{flushes}
 use Rattle.protocol.specs.Slots.{from, slots, every}
 use Rattle.protocol.specs.Log.{Write, RecordCodec}
 use Rattle.protocol.specs.Write.{log-write, store}
-use Rattle.protocol.specs.Label.{Label, plainly-out, Size, belief, Quorum, LabelCodec, round}
+use Rattle.protocol.specs.Label.{Label, plainly-out, Size, believed, belief, Quorum, LabelCodec, round}
 use Rattle.protocol.specs.Startup.{labelled, gone, L, M}
 use Rattle.protocol.specs.Decide.{settled, startup}
 use Rattle.protocol.specs.Request.{outed}
@@ -177,13 +177,17 @@ module _ {X : Type 0} (z : Size) (W : Quorum (z .n)) (C : LabelCodec X (z .n)) (
   abbrev pub all-in : Own → Bool
   all-in o = every (λ d. not (o .now .out d)) (from 0 (z .n))
 
+  -- every strip of stripe t is believed: no slot is out, or the one being rebuilt alone, and t is below its mark
+  abbrev pub all-believed : Own → ℕ → Bool
+  all-believed o t = every (λ d. believed z (o .now) d t) (from 0 (z .n))
+
   -- the stripe as it is found
   abbrev pub finding : Image X → ℕ → Finding
   finding f t = E .scrub t (strips-of z W K E f t)
 
   -- where all shards are believed and contradict each other, the whole stripe is written
   unfoldable pub change-made : Own → Image X → ℕ → Change X → Change X
-  change-made o f t ch = cond (all-in o && unsound (finding f t)) (whole-change z W K E (o .now) f t ch) ch
+  change-made o f t ch = cond (all-believed o t && unsound (finding f t)) (whole-change z W K E (o .now) f t ch) ch
 
   abbrev pub asked-write : Own → Image X → ℕ → Change X → Memory X
   asked-write o f t ch = ask-log o (writeOf z W K E (o .now) f t (change-made o f t ch))

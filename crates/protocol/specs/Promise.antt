@@ -23,9 +23,9 @@ use Rattle.protocol.specs.Spare.{Spares, startup-spares, log-spares, sto
 use Rattle.protocol.specs.Swap.{Swapped, rest-swap}
 use Rattle.protocol.specs.Blind.{startup-blind, settled-same, accepted-same, start-decision-same}
 use Rattle.protocol.specs.Restart.{restart}
-use Rattle.protocol.specs.Host.{Host, Finding, blames, unsound, all-sound, scrub-old, scrub-new, Change, replace, Code, table, missing, few-missing, proper, reached-n, reached-broad, read, read-through, read-old, read-new, read-right, rebuilt, rebuilt-right, writeOf, whole-change, write-right}
+use Rattle.protocol.specs.Host.{Host, Finding, blames, unsound, all-sound, scrub-believed, scrub-old, scrub-new, Change, replace, Code, table, missing, few-missing, proper, reached-n, reached-broad, read, read-through, read-old, read-new, read-right, rebuilt, rebuilt-right, writeOf, whole-change, write-right}
 use Rattle.protocol.specs.Program as Program
-use Rattle.protocol.specs.Program.{Stamps, Proper, Medium, NO_LABEL, TOO_FEW, BAD_BLOCK, BUSY, NOT_NOW, Verdict, clear, because, Test, first, Own, Kind, creating, starting, logging, storing, labelling, Memory, nothing, idle, doing, Input, create, start, read-block, write, take-out, begin, rebuild-on, scrub-stripe, repair, step, Reply, accepted, block, found, scrubbed, new-label, beyond, mask, present, flushed-first, left-out, blank-slot, blank, created, asked-create, may-create, started, asked-start, may-start, ask-log, all-in, finding, change-made, asked-write, asked-repair, also, may-repair, relabelled, told-to, asked-out, back-in, asked-begin, at-least-one, filling, asked-raise, asked-heal, last-batch, asked-on, generations-left, may, answer, from-nothing, from-idle, one-step, meanwhile, from-doing, unseen, program}
+use Rattle.protocol.specs.Program.{Stamps, Proper, Medium, NO_LABEL, TOO_FEW, BAD_BLOCK, BUSY, NOT_NOW, Verdict, clear, because, Test, first, Own, Kind, creating, starting, logging, storing, labelling, Memory, nothing, idle, doing, Input, create, start, read-block, write, take-out, begin, rebuild-on, scrub-stripe, repair, step, Reply, accepted, block, found, scrubbed, new-label, beyond, mask, present, flushed-first, left-out, blank-slot, blank, created, asked-create, may-create, started, asked-start, may-start, ask-log, all-in, finding, change-made, all-believed, asked-write, asked-repair, also, may-repair, relabelled, told-to, asked-out, back-in, asked-begin, at-least-one, filling, asked-raise, asked-heal, last-batch, asked-on, generations-left, may, answer, from-nothing, from-idle, one-step, meanwhile, from-doing, unseen, program}
 use Rattle.protocol.specs.Machine.{Machine, at, effect, Event, swap, ask, Outside, power-cut, program-dies, disk-swapped, Happens, from-outside, from-host, Runs, stays, goes, View, sure, open-write, kept-write, Goes, Views, same, next}
 use Rattle.protocol.specs.Invariant.{Ghost, Under, Left, Pending, Pends, Off, Dark, Ready, Readable, Reads, Ends, Busy, Invariant}
 
@@ -802,14 +802,16 @@ module _ {X : Type 0} (z : Size) (W : Quorum (z .n)) (C : LabelCodec X (z .n)) (
     found-sound t i none = quiet-scrub (h .history) (h .u) (o .now) v (mask z W C K E S R (o .absent) (w .cur)) none (seen-quiet v w o sane h (o .absent) (h .dark)) t i
 
     pub made-as-asked : (t : ℕ) (ch : Change X) → t < z .T → change-made z W C K E S R o (mask z W C K E S R (o .absent) (w .cur)) t ch ≡ ch
-    unfolding change-made
-    made-as-asked t ch i = go (all-in z W C K E S R o) refl
+    unfolding change-made Quiet
+    made-as-asked t ch i = go (all-believed z W C K E S R o t) refl
       where
         seen : Image X
         seen = mask z W C K E S R (o .absent) (w .cur)
 
-        go : (b : Bool) → all-in z W C K E S R o ≡ b → cond (b && unsound (finding z W C K E S R (mask z W C K E S R (o .absent) (w .cur)) t)) (whole-change z W K E (o .now) (mask z W C K E S R (o .absent) (w .cur)) t ch) ch ≡ ch
-        go true e = ap (λ (x : Finding). cond (unsound x) (whole-change z W K E (o .now) (mask z W C K E S R (o .absent) (w .cur)) t ch) ch) (found-sound t i (λ d j. not-true (o .now .out d) (every-of (λ y. not (o .now .out y)) (from 0 (z .n)) e d (in-from (z .n) 0 d (omega arith) (omega arith)))))
+        go : (b : Bool) → all-believed z W C K E S R o t ≡ b → cond (b && unsound (finding z W C K E S R seen t)) (whole-change z W K E (o .now) seen t ch) ch ≡ ch
+        go true e =
+            ap (λ (x : Finding). cond (unsound x) (whole-change z W K E (o .now) seen t ch) ch)
+            (scrub-believed z W K E (h .history) (h .u) 0 (o .now) v seen t (λ d j. every-of (λ y. believed z (o .now) y t) (from 0 (z .n)) e d (in-from (z .n) 0 d (omega arith) (omega arith))) (seen-quiet v w o sane h (o .absent) (h .dark)))
         go false e = refl
 
     pub no-repair : (t : ℕ) → may-repair z W C K E S R false o (mask z W C K E S R (o .absent) (w .cur)) t ≡ clear → ⊥

@@ -11,7 +11,7 @@ use native.Mathlib.Decide.{ℕ-discrete}
 use lib.Dec.{eqb, ltb, leb}
 use borrow.Author.Tests.{eq-eqb, ne-eqb, eqb-true, eqb-false, ltb-true, ltb-false, lt-ltb, not-true}
 use Rattle.protocol.specs.World.{Place, label, log, strip, slot, Image, World, Action, act, run, after, Possible, Sane, Always, During, sane-act, sane-run, always-cur, always-map, during-start}
-use Rattle.protocol.specs.Slots.{from, in-from, every-of}
+use Rattle.protocol.specs.Slots.{from, in-from, of-from, every, every-of, every-all}
 use Rattle.protocol.specs.Log.{Write, RecordCodec, Belief, Table, Quiet}
 use Rattle.protocol.specs.Write.{log-write, store, store-batch, both}
 use Rattle.protocol.specs.Redo.{whole, completeB, forward, marked, kill-batch, redo, redone}
@@ -21,7 +21,7 @@ use Rattle.protocol.specs.Decide.{in-turn, startup, Rest}
 use Rattle.protocol.specs.Request.{outed}
 use Rattle.protocol.specs.Swap.{Swapped}
 use Rattle.protocol.specs.Host.{Host, Blocks, Finding, blames, unsound, all-sound, accused, several, Change, one-block, all-blocks, changed, set-block, replace, Code, table, few-missing, proper, reached, read, read-through, read-right, writeOf, strips-of, mend, accused-slot, repairOf, whole-change, missing}
-use Rattle.protocol.specs.Program.{Stamps, Medium, Refusal, TOO_FEW, BAD_BLOCK, BUSY, NOT_NOW, Verdict, clear, because, Own, Kind, creating, starting, logging, storing, labelling, Memory, nothing, idle, doing, Input, create, start, read-block, write, take-out, begin, rebuild-on, scrub-stripe, repair, step, Reply, accepted, refused, did, safe, done, block, found, new-label, Proper, mask, left-out, beyond, ask-log, all-in, finding, change-made, asked-create, may-create, asked-start, may-start, asked-out, asked-begin, asked-on, asked-heal, asked-raise, at-least-one, last-batch, asked-write, asked-repair, may, also, may-repair, answer, from-nothing, from-idle, from-doing, one-step, meanwhile, scrubbed, unseen, back-in, program}
+use Rattle.protocol.specs.Program.{Stamps, Medium, Refusal, TOO_FEW, BAD_BLOCK, BUSY, NOT_NOW, Verdict, clear, because, Own, Kind, creating, starting, logging, storing, labelling, Memory, nothing, idle, doing, Input, create, start, read-block, write, take-out, begin, rebuild-on, scrub-stripe, repair, step, Reply, accepted, refused, did, safe, done, block, found, new-label, Proper, mask, left-out, beyond, ask-log, all-in, finding, change-made, all-believed, asked-create, may-create, asked-start, may-start, asked-out, asked-begin, asked-on, asked-heal, asked-raise, at-least-one, last-batch, asked-write, asked-repair, may, also, may-repair, answer, from-nothing, from-idle, from-doing, one-step, meanwhile, scrubbed, unseen, back-in, program}
 use Rattle.protocol.specs.Machine.{Machine, at, effect, Event, cut, dies, swap, ask, Outside, power-cut, program-dies, disk-swapped, Happens, from-outside, from-host, View, sure, open-write, kept-write, list-of, Accepting, Saved, Ended, Gives, Answered}
 use Rattle.protocol.specs.Invariant.{Dark, Ready, Busy, Invariant, Off}
 use Rattle.protocol.specs.Promise.{simulate, in-range, scrub-tests, repair-tests, ready-off, off-cut, memory-off, quiet-seen, mask-present, found-sound, made-as-asked, no-repair, may-repair-tests}
@@ -78,7 +78,7 @@ module _ {X : Type 0} (z : Size) (W : Quorum (z .n)) (C : LabelCodec X (z .n)) (
   write-strips o t ch f g e = ap (λ (y : ℕ → ℕ → X). written y) e
     where
       made : (ℕ → ℕ → X) → Change X
-      made y = cond (all-in z W C K E S R o && unsound (E .scrub t y)) (all-blocks (changed ch (E .blocks t (missing z W K E (o .now) t) (mend z W K E t (E .scrub t y) y)))) ch
+      made y = cond (all-believed z W C K E S R o t && unsound (E .scrub t y)) (all-blocks (changed ch (E .blocks t (missing z W K E (o .now) t) (mend z W K E t (E .scrub t y) y)))) ch
 
       written : (ℕ → ℕ → X) → Memory X
       written y = ask-log z W C K E S R o (record { stripe = t; changes = reached z W K E t (made y); new = E .shard t (changed (made y) (E .blocks t (missing z W K E (o .now) t) y)) })
@@ -638,9 +638,9 @@ module _ {X : Type 0} (z : Size) (W : Quorum (z .n)) (C : LabelCodec X (z .n)) (
           go true = in-stripe ch
           go false = refl
 
-      made-whole : (ch : Change X) → all-in z W C K E S R o ≡ true → change-made z W C K E S R o seen t ch ≡ all-blocks (whole-of ch)
+      made-whole : (ch : Change X) → all-believed z W C K E S R o t ≡ true → change-made z W C K E S R o seen t ch ≡ all-blocks (whole-of ch)
       unfolding change-made whole-change
-      made-whole ch e = ap (λ (b : Bool). cond b (all-blocks (whole-of ch)) ch) (two-true (all-in z W C K E S R o) (unsound (finding z W C K E S R seen t)) e (ap unsound acc))
+      made-whole ch e = ap (λ (b : Bool). cond b (all-blocks (whole-of ch)) ch) (two-true (all-believed z W C K E S R o t) (unsound (finding z W C K E S R seen t)) e (ap unsound acc))
         where
           two-true : (a b : Bool) → a ≡ true → b ≡ true → (a && b) ≡ true
           two-true a b p q = rw (p, q)
@@ -686,6 +686,9 @@ module _ {X : Type 0} (z : Size) (W : Quorum (z .n)) (C : LabelCodec X (z .n)) (
   all-in-of : (o : Own) → all-in z W C K E S R o ≡ true → (d : ℕ) → d < z .n → o .now .out d ≡ false
   all-in-of o e d i = not-true (o .now .out d) (every-of (λ x. not (o .now .out x)) (from 0 (z .n)) e d (in-from (z .n) 0 d (omega arith) (omega arith)))
 
+  all-believed-of : (o : Own) (t : ℕ) → t < z .T → ((d : ℕ) → d < z .n → o .now .out d ≡ false) → all-believed z W C K E S R o t ≡ true
+  all-believed-of o t i none = every-all (λ d. believed z (o .now) d t) (from 0 (z .n)) (λ d m. let j : d < z .n = omega (arith, of-from (z .n) 0 d m) in believe-is z (o .now) d t j i (inl (none d j)))
+
   -- a write into a rotten stripe is accepted
   idle-whole : (rot : Rot) (w : World X) (o : Own) (v : Host X) (h : Rotten rot w (idle o) (sure v)) (t : ℕ) (ch : Change X) → all-in z W C K E S R o ≡ true → blames (finding z W C K E S R (mask z W C K E S R (o .absent) (w .cur)) t) ≡ true → (y : Verdict) → may z W C K E S R false o (write t ch) ≡ y → Follows rot w (idle o) (write t ch) (sure v) (answer z W C K E S R (idle o) y (asked-write z W C K E S R o (mask z W C K E S R (o .absent) (w .cur)) t ch) accepted)
   unfolding program writeOf
@@ -698,7 +701,7 @@ module _ {X : Type 0} (z : Size) (W : Quorum (z .n)) (C : LabelCodec X (z .n)) (
       let none = all-in-of o all in
       let y : Blocks X = changed ch (E .blocks t (missing z W K E (o .now) t) (mend z W K E t (finding z W C K E S R seen t) (strips-of z W K E seen t))) in
       let q = tests-whole o t ch y e in
-      let made = made-whole rot w o v h none t (q .0) (b .0) (b .1) ch all in
+      let made = made-whole rot w o v h none t (q .0) (b .0) (b .1) ch (all-believed-of o t (q .0) none) in
       let listed = whole-right rot w o v h none t (q .0) (b .0) (b .1) ch in
       let s = simulate z W C K E S R (from-host {w = c} {m = idle o} (write t (all-blocks y))) (sure v) (h .holds) in
       let s' : Accepting (write t (all-blocks y)) (sure v) (s .0) × Invariant z W C K E S R (at c (ask-log z W C K E S R o (writeOf z W K E (o .now) seen-c t (change-made z W C K E S R o seen-c t (all-blocks y))))) (s .0) =
