@@ -4,3 +4,4 @@ pub mod Whole
 pub mod Prepared
 pub mod Solvable
 pub mod Filled
+pub mod Program
