@@ -6,18 +6,20 @@ use mathlib.Core.Bool.{Bool, true, false, cond, not, _&&_, false≢true}
 use mathlib.Core.List.{List, []}
 use Prim.Native.Nat.{ℕ, zero, suc, _+_, _-_, _≤_, _<_}
 use native.Mathlib.Omega.{arith}
-use lib.Dec.{eqb, lit<}
+use lib.Dec.{eqb, ltb, lit<}
 use Rattle.disk.specs.Geometry.{slotOf, shardOf, slot-lt}
+use Rattle.disk.specs.Image.{sector}
 use Rattle.disk.specs.Mask.{inMask, in-past}
 use Rattle.codeword.specs.Unique.{AllBytes}
 use Rattle.position.specs.Position.{ascending, filled, filled-bytes}
-use Rattle.code.specs.Stripes.{Says}
+use Rattle.code.specs.Stripes.{Says, Repaired}
 use Rattle.code.specs.declared.Verdict.{Verdict}
+use Rattle.code.specs.declared.Verdict.the-variants as verdict
 use Rattle.protocol.specs.World.{strip, Image}
 use Rattle.protocol.specs.Slots.{from, every}
 use Rattle.protocol.specs.Log.{Write}
 use Rattle.protocol.specs.Label.{Label, believed, Quorum}
-use Rattle.protocol.specs.Host.{Blocks, one-block, all-blocks, changed, Finding, all-sound, accused, several, unsound, mend, missing, read, read-through, writeOf, strips-of, whole-change}
+use Rattle.protocol.specs.Host.{Blocks, one-block, all-blocks, changed, Finding, all-sound, accused, several, unsound, mend, missing, read, read-through, reached, writeOf, strips-of, accused-slot, repairOf, whole-change}
 use Rattle.protocol.specs.Host as Host
 use Rattle.protocol.specs.Program.{Own, all-believed, finding, change-made}
 use Rattle.protocol.specs.Pairs.{no-sets}
@@ -34,9 +36,9 @@ use Rattle.shards.specs.Even.{any-code, any-sectors}
 use Rattle.stripes.specs.Slice.{shardBytes, laidOut}
 use Rattle.stripes.specs.Same.{verdictOf}
 use Rattle.strips.specs.Seen.{shardShown, rowSeen}
-use Rattle.strips.specs.Whole.{noneLost, PreparedBy}
+use Rattle.strips.specs.Whole.{stripeSeen, noneLost, PreparedBy}
 use Rattle.views.specs.Seen.{Lying, Keeping, gone, laidOver, none-over, shown-block}
-use Rattle.views.specs.Whole.{allThere, scrub-is}
+use Rattle.views.specs.Whole.{allThere, scrub-is, mended-is}
 use Rattle.views.specs.Prepared.{mendedFirst, prepared-is}
 use Rattle.views.specs.Filled.{filled-part}
 
@@ -151,3 +153,32 @@ module _ (z : Shelf) (o : Own) (t there : ℕ) (img : List ℕ) (f : Image Secto
       go true (accused r) = refl
       go true several = refl
       go false y = refl
+
+  -- THE SLOTS whose strips it changes: all of them, or the block's and those of the parity
+  pub changes-made : (d : ℕ) → writeOf (size z) W (records z) (any-code z) (o .now) f t (change-made (size z) W (labels z) (records z) (any-code z) stamps (any-sectors z) o f t (one-block i x)) .changes d
+      ≡ cond all (ltb d (slots z)) (any-code z .touched t i d)
+  unfolding writeOf change-made whole-change read
+  changes-made d = go (asked && unsound (any-code z .scrub t strips)) ∙ ap (λ (b : Bool). cond b (ltb d (slots z)) (any-code z .touched t i d)) (sym all-made)
+    where
+      go : (b : Bool) → reached (size z) W (records z) (any-code z) t (cond b (all-blocks (changed (one-block i x) (any-code z .blocks t (missing (size z) W (records z) (any-code z) (o .now) t) (mend (size z) W (records z) (any-code z) t (any-code z .scrub t strips) strips)))) (one-block i x)) d
+          ≡ cond b (ltb d (slots z)) (any-code z .touched t i d)
+      go true = refl
+      go false = refl
+
+-- REPAIR of a stripe that is believed throughout: where a shard is accused, the program accuses its slot, and what is written there is the program's
+pub repair-mended : (z : Shelf) (t there : ℕ) (img : List ℕ) (f : Image Sector)
+    → Lying z t img there (strips-of (size z) (no-sets (slots z)) (records z) (any-code z) f t) → noneLost (slots z) t there ≡ true → (r : ℕ) (after : List ℕ) → AllBytes after
+    → Repaired (z .k) (slots z - z .k) (shardBytes z) (verdict.Accused r) (stripeSeen (geometry z) img there t) after
+    → let d = accused-slot (size z) (no-sets (slots z)) (records z) (any-code z) t (any-code z .scrub t (strips-of (size z) (no-sets (slots z)) (records z) (any-code z) f t)) in
+      (d ≡ slotOf (slots z) t r) × ((j : ℕ) → j < z .c → sector (z .c) after r j ≡ repairOf (size z) (no-sets (slots z)) (records z) (any-code z) f t d .new d j .bytes)
+unfolding repairOf
+repair-mended z t there img f lies none r after small w = (e, λ j hj. y .2 j hj ∙ ap (λ (d : ℕ). any-code z .mended t g d j .bytes) (sym e))
+  where
+    g : ℕ → ℕ → Sector
+    g = strips-of (size z) (no-sets (slots z)) (records z) (any-code z) f t
+
+    y : (any-code z .scrub t g ≡ accused r) × (r < slots z) × ((j : ℕ) → j < z .c → sector (z .c) after r j ≡ any-code z .mended t g (slotOf (slots z) t r) j .bytes)
+    y = mended-is z t img there g lies none r after small w
+
+    e : accused-slot (size z) (no-sets (slots z)) (records z) (any-code z) t (any-code z .scrub t g) ≡ slotOf (slots z) t r
+    e = ap (accused-slot (size z) (no-sets (slots z)) (records z) (any-code z) t) (y .0)
