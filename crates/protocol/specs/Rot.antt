@@ -11,7 +11,7 @@ use native.Mathlib.Decide.{ℕ-discrete}
 use lib.Dec.{eqb, ltb, leb}
 use borrow.Author.Tests.{eq-eqb, ne-eqb, eqb-true, eqb-false, ltb-true, ltb-false, lt-ltb, not-true}
 use Rattle.protocol.specs.World.{Place, label, log, strip, slot, Image, World, Action, act, run, after, Possible, Sane, Always, During, sane-act, sane-run, always-cur, always-map, during-start}
-use Rattle.protocol.specs.Slots.{from, in-from, of-from, every, every-of, every-all}
+use Rattle.protocol.specs.Slots.{from, in-from, of-from, every-of, every-all}
 use Rattle.protocol.specs.Log.{Write, RecordCodec, Belief, Table, Quiet}
 use Rattle.protocol.specs.Write.{log-write, store, store-batch, both}
 use Rattle.protocol.specs.Redo.{whole, completeB, forward, marked, kill-batch, redo, redone}

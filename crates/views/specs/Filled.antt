@@ -1,7 +1,7 @@
 -- The strip of a slot that is not there, as it is filled in, is the strip that the protocol rebuilds: its blocks as they are read, and
 -- from these its shard. Whatever the strips that are there hold: a data shard that is there is always among the k least of them, so
 -- filling in a parity shard and computing it from the blocks is the same. Assumes nothing.
-use mathlib.Core.Path.{_≡_, refl, sym, ap, _∙_, subst}
+use mathlib.Core.Path.{_≡_, refl, sym, ap, _∙_}
 use mathlib.Core.Bool.{Bool, true, false, not}
 use mathlib.Core.List.{List}
 use Prim.Native.Nat.{ℕ, _+_, _*_, _≤_, _<_}

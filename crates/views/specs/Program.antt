@@ -170,7 +170,7 @@ pub repair-mended : (z : Shelf) (t there : ℕ) (img : List ℕ) (f : Image Sect
     → Lying z t img there (strips-of (size z) (no-sets (slots z)) (records z) (any-code z) f t) → noneLost (slots z) t there ≡ true → (r : ℕ) (after : List ℕ) → AllBytes after
     → Repaired (z .k) (slots z - z .k) (shardBytes z) (verdict.Accused r) (stripeSeen (geometry z) img there t) after
     → let d = accused-slot (size z) (no-sets (slots z)) (records z) (any-code z) t (any-code z .scrub t (strips-of (size z) (no-sets (slots z)) (records z) (any-code z) f t)) in
-      (d ≡ slotOf (slots z) t r) × ((j : ℕ) → j < z .c → sector (z .c) after r j ≡ repairOf (size z) (no-sets (slots z)) (records z) (any-code z) f t d .new d j .bytes)
+    (d ≡ slotOf (slots z) t r) × ((j : ℕ) → j < z .c → sector (z .c) after r j ≡ repairOf (size z) (no-sets (slots z)) (records z) (any-code z) f t d .new d j .bytes)
 unfolding repairOf
 repair-mended z t there img f lies none r after small w = (e, λ j hj. y .2 j hj ∙ ap (λ (d : ℕ). any-code z .mended t g d j .bytes) (sym e))
   where

@@ -3,19 +3,18 @@
 -- and whatever the strips hold. Assumes nothing.
 use mathlib.Core.Path.{_≡_, refl, sym, ap, _∙_}
 use mathlib.Core.Bool.{Bool, true, false, cond, not}
-use mathlib.Core.List.{List, []}
+use mathlib.Core.List.{List}
 use Prim.Native.Nat.{ℕ, _+_, _-_, _*_, _≤_, _<_}
 use native.Mathlib.Nat.{zero-add}
 use native.Mathlib.Omega.{arith}
 use lib.Dec.{lit<}
-use lib.ListN.{length, getD, take, drop}
+use lib.ListN.{length, getD, drop}
 use lib.Seq.{getD-take, getD-drop, ext-getD}
 use borrow.Author.Tests.{not-false}
 use Rattle.disk.specs.Limits.{sectorBytes}
 use Rattle.disk.specs.Geometry.{stripOf, slotOf, slot-lt}
 use Rattle.disk.specs.Image.{place, sector}
 use Rattle.disk.specs.Mask.{inMask, in-past}
-use Rattle.codeword.specs.Stripe.{byteAt, has}
 use Rattle.position.specs.Row.{listed, listed-length, listed-at}
 use Rattle.position.specs.Position.{filled, filled-blind}
 use Rattle.codecs.specs.Sector.{Sector}
@@ -23,7 +22,7 @@ use Rattle.codecs.specs.Shelf.{Shelf, slots, geometry, some-slots}
 use Rattle.codecs.specs.Records.{stripBytes, length-strip, strip-part}
 use Rattle.record.specs.Log.{part}
 use Rattle.shards.specs.Parity.{byte}
-use Rattle.shards.specs.Strips.{position, missingOf, missing-has, blocksFrom, blocks-byte}
+use Rattle.shards.specs.Strips.{position, missingOf, missing-has, blocks-byte}
 use Rattle.shards.specs.Even.{any-code}
 use Rattle.stripes.specs.Slice.{laidOut, each-byte, sector-byte, sector-is, laid-only, within}
 use Rattle.strips.specs.Seen.{lostOf, seen, shownByte, shardShown, rowSeen}

@@ -18,14 +18,14 @@ use Rattle.field.specs.Field.{mulOf, inverseOf}
 use Rattle.field.specs.Bytes.{bytes}
 use Rattle.field.specs.Quotient.{quotient-times}
 use Rattle.codeword.specs.Stripe.{InRange, coef, Holds, Bytes, has}
-use Rattle.codeword.specs.Table.{unit, column, entry, SolvedFor}
+use Rattle.codeword.specs.Table.{column, entry, SolvedFor}
 use Rattle.codeword.specs.Unique.{AllBytes}
 use Rattle.codeword.specs.Chosen.{count, count-split, count-not}
 use Rattle.codeword.specs.Complete.{completed, completed-bytes, completed-off, completed-holds}
 use Rattle.solve.specs.Lost.{Lost}
 use Rattle.solve.specs.Rows.{Added, Exchanged, Turned, swap}
 use Rattle.solve.specs.Solving.{SolvedTo, clearing, solved-none, solved-last, exchanged-solved, step-solved}
-use Rattle.solve.specs.Pivot.{Pivot, pivot-found}
+use Rattle.solve.specs.Pivot.{pivot-found}
 use Rattle.code.specs.Lists.{below-or-not}
 use Rattle.code.specs.Padded.{padded-lost, padded-length, goes-by-k, least}
 use Rattle.code.specs.Padded as code

@@ -26,7 +26,7 @@ use Rattle.code.specs.declared.Verdict.the-variants as verdict
 use Rattle.position.specs.Position.{padded, padded-off, parity-ext}
 use Rattle.protocol.specs.Count.{count}
 use Rattle.protocol.specs.Slots.{from, in-from, of-from, every, every-of, every-all}
-use Rattle.protocol.specs.Host.{Blocks, accused, mend}
+use Rattle.protocol.specs.Host.{Blocks, accused}
 use Rattle.codecs.specs.Sector.{Sector}
 use Rattle.codecs.specs.Shelf.{Shelf, slots, geometry, some-slots}
 use Rattle.shards.specs.Quorum.{fewOf, count-few, count-none, count-one, count-shards, tally-count}
@@ -38,7 +38,7 @@ use Rattle.shards.specs.Code.{mendedIn}
 use Rattle.shards.specs.Even.{any-code}
 use Rattle.stripes.specs.Slice.{shardBytes, laidOut, within, laid-length, laid-position, sector-is}
 use Rattle.stripes.specs.Same.{verdictOf, scrubbed, found}
-use Rattle.strips.specs.Seen.{lostOf, seen, rowSeen}
+use Rattle.strips.specs.Seen.{lostOf, rowSeen}
 use Rattle.strips.specs.Answers.{fewLost}
 use Rattle.strips.specs.Laws.{lost-has}
 use Rattle.strips.specs.Whole.{stripeSeen, noneLost}
