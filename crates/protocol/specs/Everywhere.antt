@@ -11,8 +11,8 @@ use Rattle.protocol.specs.Label.{Size, Quorum, LabelCodec}
 use Rattle.protocol.specs.Host.{Code}
 use Rattle.protocol.specs.Program.{Stamps, Medium, Own, creating, starting, logging, storing, labelling, Memory, nothing, idle, doing, program}
 use Rattle.protocol.specs.Machine.{at, Event, View, sure, open-write, kept-write}
-use Rattle.protocol.specs.Shape.{Shape, Shapes}
-use Rattle.protocol.specs.Tidy.{shape-same, top-same}
+use Rattle.protocol.specs.Shape.{Shape, shape-same, Shapes}
+use Rattle.protocol.specs.Tidy.{top-same}
 use Rattle.protocol.specs.Shaped.{Current, Shaped, shaped-off, Standing, standing, shaped-host}
 use Rattle.protocol.specs.Exchange as Exchange
 use Rattle.protocol.specs.Exchange.{Disks, Room, room, noted, exchanged, with-disk, Befalls, Befell}
@@ -51,19 +51,19 @@ module _ {X : Type 0} (z : Size) (W : Quorum (z .n)) (C : LabelCodec X (z .n)) (
     kept : (f : Image X) → Possible (with-disk w d (x .stock i)) f → Shapes C (back z W C K E S R w x d i g other left f) → Shapes C f
     unfolding Possible
     kept f q h e n =
-        ⊎-elim (λ y. shape-same z W C K (x .stock i) f e (λ b. q (label e b) .0 y) (stock e i n (λ u. other (u ∙ ap (x .inn) y))))
-        (λ y. shape-same z W C K (back z W C K E S R w x d i g other left f) f e (λ b. back-other z W C K E S R w x d i g other left f (label e b) y) (h e n)) (same-nat e d)
+        ⊎-elim (λ y. shape-same C (x .stock i) f e (λ b. q (label e b) .0 y) (stock e i n (λ u. other (u ∙ ap (x .inn) y))))
+        (λ y. shape-same C (back z W C K E S R w x d i g other left f) f e (λ b. back-other z W C K E S R w x d i g other left f (label e b) y) (h e n)) (same-nat e d)
 
     put-aside : Shapes C g → ShapedStock (exchanged x d i g)
     put-aside h e j n m = ⊎-elim here there (same-nat e d)
       where
         there : e ≢ d → Shape C (exchanged x d i g .stock j) e
-        there y = let q : exchanged x d i g .inn e ≡ x .inn e = rw (ne-eqb e d y) in shape-same z W C K (x .stock j) (exchanged x d i g .stock j) e (λ b. rw (ne-eqb e d y)) (stock e j n (λ u. m (u ∙ sym q)))
+        there y = let q : exchanged x d i g .inn e ≡ x .inn e = rw (ne-eqb e d y) in shape-same C (x .stock j) (exchanged x d i g .stock j) e (λ b. rw (ne-eqb e d y)) (stock e j n (λ u. m (u ∙ sym q)))
 
         here : e ≡ d → Shape C (exchanged x d i g .stock j) e
         here y =
-            ⊎-elim (λ u. shape-same z W C K g (exchanged x d i g .stock j) e (λ b. rw (eq-eqb e d y, eq-eqb j (x .inn d) u)) (h e n))
-            (λ u. shape-same z W C K (x .stock j) (exchanged x d i g .stock j) e (λ b. rw (eq-eqb e d y, ne-eqb j (x .inn d) u)) (stock e j n (λ v. u (v ∙ ap (x .inn) y)))) (same-nat j (x .inn d))
+            ⊎-elim (λ u. shape-same C g (exchanged x d i g .stock j) e (λ b. rw (eq-eqb e d y, eq-eqb j (x .inn d) u)) (h e n))
+            (λ u. shape-same C (x .stock j) (exchanged x d i g .stock j) e (λ b. rw (eq-eqb e d y, ne-eqb j (x .inn d) u)) (stock e j n (λ v. u (v ∙ ap (x .inn) y)))) (same-nat j (x .inn d))
 
     off : Always w (Shapes C) → Always (with-disk w d (x .stock i)) (Shapes C)
     unfolding Always

@@ -1,5 +1,5 @@
--- THE SHAPE OF A DISK'S TWO LABELS (document 02, C6): each label sector is zeros or a valid copy, and where both are valid their generations follow
--- each other. Every disk keeps it at every moment, whatever the caches do.
+-- THE SHAPE OF A DISK'S TWO LABELS (document 02, C6): where one label sector is a valid copy, the other is zeros or a valid copy, and where both are valid their
+-- generations follow each other. Every disk keeps it at every moment, whatever the caches do. (A disk without a label of this shelf may hold anything.)
 use Prim.Native.Nat.{ℕ, suc, _<_}
 use mathlib.Core.Path.{_≡_, refl, sym, ap, subst, _∙_}
 use mathlib.Core.Bool.{Bool, true, false, cond, not, _||_, true≢false, false≢true}
@@ -9,11 +9,11 @@ use native.Mathlib.Nat.{eq-zero-or-pos}
 use native.Mathlib.Omega.{arith}
 use native.Mathlib.Decide.{ℕ-discrete}
 use lib.Dec.{eqb, ltb}
-use borrow.Author.Tests.{eqb-true, ltb-false}
+use borrow.Author.Tests.{eqb-true, eqb-false, ltb-false}
 use Rattle.protocol.specs.World.{label, slot, Image, update, update-here, update-other, update-cases, World, run, Sane, Always, During, always-map, during-map}
 use Rattle.protocol.specs.Batch.{Kept, Covered, Done, stage}
 use Rattle.protocol.specs.Slots.{keep, in-keep, of-keep, in-rows, of-rows, rows-slots}
-use Rattle.protocol.specs.Label.{Label, again, foreign, LabelCodec, copy, copy-same, there, round, round-batch, prep, prepared, prep-value, of-prep, in-prep, prep-slots, prep-batch}
+use Rattle.protocol.specs.Label.{Label, again, LabelCodec, copy, copy-same, there, round, round-batch, prep, prepared, prep-value, of-prep, in-prep, prep-slots, prep-batch}
 
 two : (s b : Bool) → (b ≡ s) ⊎ (b ≡ not s)
 two true true = inl refl
@@ -34,18 +34,12 @@ module _ {X : Type 0} {n : ℕ} (C : LabelCodec X n) where
   abbrev pub Calm : Image X → ℕ → Bool → Type 0
   Calm f d b = (f (label d b) ≡ C .zeros) ⊎ (0 < copy C f d b .generation)
 
-  -- then it is no copy of another shelf or slot
-  pub calm-own : (f : Image X) (d : ℕ) (b : Bool) → Calm f d b → foreign C f d b ≡ 0
-  unfolding copy
-  calm-own f d b (inl e) = ap (C .strange d b) e ∙ C .strange-zeros d b
-  calm-own f d b (inr p) = ⊎-elim (λ q. q) (λ q. absurd (omega (arith, p, C .strange-none d b (f (label d b)) q))) (eq-zero-or-pos (foreign C f d b))
-
   pub copy-side : (f : Image X) (d : ℕ) (b : Bool) → 0 < copy C f d b .generation → b ≡ C .side (copy C f d b .generation)
   unfolding copy
   copy-side f d b p = C .decode-side d b (f (label d b)) p
 
   pub record Shape (f : Image X) (d : ℕ) : Type 0 where
-    pub calm : (b : Bool) → Calm f d b
+    pub calm : (b : Bool) → 0 < copy C f d (not b) .generation → Calm f d b
     pub follow : (b : Bool) → 0 < copy C f d b .generation → 0 < copy C f d (not b) .generation → (copy C f d b .generation ≡ suc (copy C f d (not b) .generation)) ⊎ (copy C f d (not b) .generation ≡ suc (copy C f d b .generation))
 
   -- ready for a label of generation g + 1: the other sector is zeros or has generation g
@@ -61,7 +55,7 @@ module _ {X : Type 0} {n : ℕ} (C : LabelCodec X n) where
   zero-copy f d b e = ap (λ (x : X). C .decode d b x .generation) e ∙ C .decode-zeros d b
 
   pub top-shape : (f : Image X) (d g : ℕ) → Top f d g → Shape f d
-  top-shape f d g t = record { calm = λ b. calm b (two (C .side g) b); follow = λ b p q. follow b (two (C .side g) b) p q }
+  top-shape f d g t = record { calm = λ b p. calm b (two (C .side g) b); follow = λ b p q. follow b (two (C .side g) b) p q }
     where
       G : Bool → ℕ
       G b = copy C f d b .generation
@@ -89,15 +83,35 @@ module _ {X : Type 0} {n : ℕ} (C : LabelCodec X n) where
   low-put f d g x e h = ⊎-elim (λ q. inl (other-side f d g x e ∙ q)) (λ q. inr (q .0, ap (λ (y : X). C .decode e (C .side g) y .generation) (other-side f d g x e) ∙ q .1)) h
 
   -- a label put on disk d leaves the shape of the other disks alone
-  shape-other : (f : Image X) (d : ℕ) (b : Bool) (x : X) (e : ℕ) → e ≢ d → Shape f e → Shape (update f (label d b) x) e
-  unfolding copy
-  shape-other f d b x e n h =
-      let s : (y : Bool) → update f (label d b) x (label e y) ≡ f (label e y) = λ y. update-other f (label d b) x (label e y) (λ q. n (ap slot q)) in
+  -- the shape of a disk is in its two label sectors
+  pub shape-same : (f g : Image X) (d : ℕ) → ((b : Bool) → g (label d b) ≡ f (label d b)) → Shape f d → Shape g d
+  shape-same f g d e s =
+      let c : (b : Bool) → copy C g d b .generation ≡ copy C f d b .generation = λ b. ap (λ (l : Label). l .generation) (copy-same C f g d b (e b)) in
       record {
-        calm = λ y. subst (λ (v : X). (v ≡ C .zeros) ⊎ (0 < C .decode e y v .generation)) (sym (s y)) (h .calm y);
-        follow = λ y. subst (λ (v : X). 0 < C .decode e y v .generation → 0 < C .decode e (not y) (update f (label d b) x (label e (not y))) .generation → (C .decode e y v .generation ≡ suc (C .decode e (not y) (update f (label d b) x (label e (not y))) .generation)) ⊎ (C .decode e (not y) (update f (label d b) x (label e (not y))) .generation ≡ suc (C .decode e y v .generation))) (sym (s y))
-            (subst (λ (v : X). 0 < C .decode e y (f (label e y)) .generation → 0 < C .decode e (not y) v .generation → (C .decode e y (f (label e y)) .generation ≡ suc (C .decode e (not y) v .generation)) ⊎ (C .decode e (not y) v .generation ≡ suc (C .decode e y (f (label e y)) .generation))) (sym (s (not y))) (h .follow y));
+        calm = λ b p. ⊎-elim (λ q. inl (e b ∙ q)) (λ q. inr (omega (arith, q, c b))) (s .calm b (omega (arith, p, c (not b))));
+        follow = λ b p q. ⊎-elim (λ y. inl (omega (arith, y, c b, c (not b)))) (λ y. inr (omega (arith, y, c b, c (not b)))) (s .follow b (omega (arith, p, c b)) (omega (arith, q, c (not b))));
       }
+
+  -- zeros over a label sector
+  pub shape-zeros : (f : Image X) (d : ℕ) (b : Bool) (e : ℕ) → Shape f e → Shape (update f (label d b) (C .zeros)) e
+  shape-zeros f d b e h = go (ℕ-discrete e d)
+    where
+      f' : Image X
+      f' = update f (label d b) (C .zeros)
+
+      zero : e ≡ d → copy C (update f (label d b) (C .zeros)) e b .generation ≡ 0
+      zero q = zero-copy (update f (label d b) (C .zeros)) e b (ap (λ (x : ℕ). update f (label d b) (C .zeros) (label x b)) q ∙ update-here f (label d b) (C .zeros))
+
+      go : Dec (e ≡ d) → Shape (update f (label d b) (C .zeros)) e
+      go (no n) = shape-same f (update f (label d b) (C .zeros)) e (λ y. update-other f (label d b) (C .zeros) (label e y) (λ q. n (ap slot q))) h
+      go (yes q) =
+          record {
+            calm = λ s p. ⊎-elim (λ y. inl (ap (λ (x : Bool). update f (label d b) (C .zeros) (label e x)) y ∙ (ap (λ (x : ℕ). update f (label d b) (C .zeros) (label x b)) q ∙ update-here f (label d b) (C .zeros)))) (λ y. absurd (omega (arith, p, zero q, ap (λ (x : Bool). copy C (update f (label d b) (C .zeros)) e x .generation) (ap not y ∙ not-not b)))) (two b s);
+            follow = λ s p r. absurd (⊎-elim (λ y. omega (arith, p, zero q, ap (λ (x : Bool). copy C (update f (label d b) (C .zeros)) e x .generation) y)) (λ y. omega (arith, r, zero q, ap (λ (x : Bool). copy C (update f (label d b) (C .zeros)) e x .generation) (ap not y ∙ not-not b))) (two b s));
+          }
+
+  shape-other : (f : Image X) (d : ℕ) (b : Bool) (x : X) (e : ℕ) → e ≢ d → Shape f e → Shape (update f (label d b) x) e
+  shape-other f d b x e n h = shape-same f (update f (label d b) x) e (λ y. update-other f (label d b) x (label e y) (λ q. n (ap slot q))) h
 
   abbrev pub Shapes : Image X → Type 0
   Shapes f = (d : ℕ) → d < n → Shape f d
@@ -139,21 +153,21 @@ module _ {X : Type 0} {n : ℕ} (C : LabelCodec X n) where
       (during-map P (λ f. Shapes f × F f) w (round C l ds) (λ f o. (o .0, o .2)) (r .0), r .1)
 
   -- what prep puts: zeros, or a label of generation g where the other sector holds no valid copy
-  prep-cases : (f0 : Image X) (g : ℕ) (l : Label) (d : ℕ) → (prep-value C f0 g l (label d (C .side g)) ≡ C .zeros) ⊎ ((prep-value C f0 g l (label d (C .side g)) ≡ C .encode d (again l g)) × (copy C f0 d (C .side (suc g)) .generation ≡ 0))
-  prep-cases f0 g l d = go (ltb 0 (copy C f0 d (C .side (suc g)) .generation)) refl (eqb (copy C f0 d (C .side g) .generation) 0)
+  prep-cases : (f0 : Image X) (g : ℕ) (l : Label) (d : ℕ) → (prep-value C f0 g l (label d (C .side g)) ≡ C .zeros) ⊎ ((prep-value C f0 g l (label d (C .side g)) ≡ C .encode d (again l g)) × (copy C f0 d (C .side (suc g)) .generation ≡ 0) × (0 < copy C f0 d (C .side g) .generation))
+  prep-cases f0 g l d = go (ltb 0 (copy C f0 d (C .side (suc g)) .generation)) refl (eqb (copy C f0 d (C .side g) .generation) 0) refl
     where
-      go : (a : Bool) → ltb 0 (copy C f0 d (C .side (suc g)) .generation) ≡ a → (b : Bool) → (cond (a || b) (C .zeros) (C .encode d (again l g)) ≡ C .zeros) ⊎ ((cond (a || b) (C .zeros) (C .encode d (again l g)) ≡ C .encode d (again l g)) × (copy C f0 d (C .side (suc g)) .generation ≡ 0))
-      go true e b = inl refl
-      go false e true = inl refl
-      go false e false = inr (refl, omega (arith, ltb-false 0 (copy C f0 d (C .side (suc g)) .generation) e))
+      go : (a : Bool) → ltb 0 (copy C f0 d (C .side (suc g)) .generation) ≡ a → (b : Bool) → eqb (copy C f0 d (C .side g) .generation) 0 ≡ b → (cond (a || b) (C .zeros) (C .encode d (again l g)) ≡ C .zeros) ⊎ ((cond (a || b) (C .zeros) (C .encode d (again l g)) ≡ C .encode d (again l g)) × (copy C f0 d (C .side (suc g)) .generation ≡ 0) × (0 < copy C f0 d (C .side g) .generation))
+      go true e b q = inl refl
+      go false e true q = inl refl
+      go false e false q = inr (refl, omega (arith, ltb-false 0 (copy C f0 d (C .side (suc g)) .generation) e), ⊎-elim (λ y. absurd (eqb-false (copy C f0 d (C .side g) .generation) 0 q y)) (λ y. y) (eq-zero-or-pos (copy C f0 d (C .side g) .generation)))
 
   -- one valid copy at most
-  lone : (f : Image X) (d g : ℕ) → Calm f d (C .side g) → Calm f d (C .side (suc g)) → (copy C f d (C .side g) .generation ≡ 0) ⊎ (copy C f d (C .side (suc g)) .generation ≡ 0) → Shape f d
-  lone f d g a b z = record { calm = λ s. calm s (two (C .side g) s); follow = λ s p q. absurd (none s (two (C .side g) s) p q z) }
+  lone : (f : Image X) (d g : ℕ) → Calm f d (C .side g) → (0 < copy C f d (C .side g) .generation → Calm f d (C .side (suc g))) → (copy C f d (C .side g) .generation ≡ 0) ⊎ (copy C f d (C .side (suc g)) .generation ≡ 0) → Shape f d
+  lone f d g a b z = record { calm = λ s p. calm s (two (C .side g) s) p; follow = λ s p q. absurd (none s (two (C .side g) s) p q z) }
     where
-      calm : (s : Bool) → (s ≡ C .side g) ⊎ (s ≡ not (C .side g)) → Calm f d s
-      calm s (inl e) = subst (Calm f d) (sym e) a
-      calm s (inr e) = subst (Calm f d) (sym (e ∙ sym (C .side-next g))) b
+      calm : (s : Bool) → (s ≡ C .side g) ⊎ (s ≡ not (C .side g)) → 0 < copy C f d (not s) .generation → Calm f d s
+      calm s (inl e) p = subst (Calm f d) (sym e) a
+      calm s (inr e) p = subst (Calm f d) (sym (e ∙ sym (C .side-next g))) (b (subst (λ (y : Bool). 0 < copy C f d y .generation) (ap not e ∙ not-not (C .side g)) p))
 
       G : Bool → ℕ
       G s = copy C f d s .generation
@@ -178,11 +192,16 @@ module _ {X : Type 0} {n : ℕ} (C : LabelCodec X n) where
       update-other f (label d (C .side g)) (value d) (label e (C .side (suc g))) (λ q. let y : C .side (suc g) ≡ C .side g = cc in not-self (C .side g) (sym (C .side-next g) ∙ y)) ∙ h .1,
     )
 
-    value-copy : (f : Image X) (d : ℕ) → d < n → f (label d (C .side g)) ≡ value d → (f (label d (C .side g)) ≡ C .zeros) ⊎ ((copy C f d (C .side g) .generation ≡ g) × (copy C f0 d (C .side (suc g)) .generation ≡ 0))
+    value-copy : (f : Image X) (d : ℕ) → d < n → f (label d (C .side g)) ≡ value d → (f (label d (C .side g)) ≡ C .zeros) ⊎ ((copy C f d (C .side g) .generation ≡ g) × (copy C f0 d (C .side (suc g)) .generation ≡ 0) × (0 < copy C f0 d (C .side g) .generation))
     unfolding copy
     value-copy f d i e =
         ⊎-elim (λ q. inl (e ∙ q))
-        (λ q. inr (ap (λ (x : X). C .decode d (C .side g) x .generation) (e ∙ q .0) ∙ ap (λ (x : Label). x .generation) (C .decode-encode d (again l g) i fit), q .1)) (prep-cases f0 g l d)
+        (λ q. inr (ap (λ (x : X). C .decode d (C .side g) x .generation) (e ∙ q .0) ∙ ap (λ (x : Label). x .generation) (C .decode-encode d (again l g) i fit), q .1, q .2)) (prep-cases f0 g l d)
+
+    -- where prep writes a label the disk has one
+    was : (f : Image X) (d : ℕ) → Half f d → 0 < copy C f0 d (C .side g) .generation → C .decode d (C .side g) (value d) .generation ≡ g → 0 < copy C f d (C .side g) .generation
+    unfolding copy
+    was f d h p v = ⊎-elim (λ q. omega (arith, p, ap (λ (x : X). C .decode d (C .side g) x .generation) q)) (λ q. omega (arith, pos, v, ap (λ (x : X). C .decode d (C .side g) x .generation) q)) (h .0)
 
     put-shape : (f : Image X) (d : ℕ) → d < n → Half f d → Shape f d → Shape (update f (label d (C .side g)) (value d)) d
     unfolding copy
@@ -190,9 +209,10 @@ module _ {X : Type 0} {n : ℕ} (C : LabelCodec X n) where
         let f' = update f (label d (C .side g)) (value d) in
         let here : f' (label d (C .side g)) ≡ value d = update-here f (label d (C .side g)) (value d) in
         let there : f' (label d (C .side (suc g))) ≡ f (label d (C .side (suc g))) = update-other f (label d (C .side g)) (value d) (label d (C .side (suc g))) (λ q. let y : C .side (suc g) ≡ C .side g = cc in not-self (C .side g) (sym (C .side-next g) ∙ y)) in
-        let calm : Calm f' d (C .side (suc g)) = subst (λ (x : X). (x ≡ C .zeros) ⊎ (0 < C .decode d (C .side (suc g)) x .generation)) (sym there) (s .calm (C .side (suc g))) in
-        ⊎-elim (λ q. lone f' d g (inl q) calm (inl (zero-copy f' d (C .side g) q)))
-        (λ q. lone f' d g (inr (omega (arith, q .0, pos))) calm (inr (ap (λ (x : X). C .decode d (C .side (suc g)) x .generation) (there ∙ h .1) ∙ q .1))) (value-copy f' d i here)
+        let opposite : not (C .side (suc g)) ≡ C .side g = ap not (C .side-next g) ∙ not-not (C .side g) in
+        let calm : 0 < copy C f d (C .side g) .generation → Calm f' d (C .side (suc g)) = λ p. subst (λ (x : X). (x ≡ C .zeros) ⊎ (0 < C .decode d (C .side (suc g)) x .generation)) (sym there) (s .calm (C .side (suc g)) (subst (λ (y : Bool). 0 < C .decode d y (f (label d y)) .generation) (sym opposite) p)) in
+        ⊎-elim (λ q. lone f' d g (inl q) (λ p. absurd (omega (arith, p, zero-copy f' d (C .side g) q))) (inl (zero-copy f' d (C .side g) q)))
+        (λ q. lone f' d g (inr (omega (arith, q .0, pos))) (λ p. calm (was f d h (q .2) (ap (λ (x : X). C .decode d (C .side g) x .generation) (sym here) ∙ q .0))) (inr (ap (λ (x : X). C .decode d (C .side (suc g)) x .generation) (there ∙ h .1) ∙ q .1))) (value-copy f' d i here)
 
     -- PREP keeps the shape, and readies its disks
     pub prep-shape : (w : World X) → Sane w → Always w (λ f. Shapes f × ((d : ℕ) (b : Bool) → List·Memᴰ d ds → f (label d b) ≡ f0 (label d b)) × F f) → During w (prep C f0 g l ds) (λ f. Shapes f × F f) × Always (run w (prep C f0 g l ds)) (λ f. Shapes f × ((d : ℕ) → List·Memᴰ d ds → Low f d g) × F f)

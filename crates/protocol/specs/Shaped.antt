@@ -8,15 +8,15 @@ use native.Mathlib.Omega.{arith}
 use native.Mathlib.Decide.{ℕ-discrete}
 use lib.Dec.{eqb}
 use borrow.Author.Tests.{eq-eqb, ne-eqb, eqb-true, eqb-false, leb-false}
-use Rattle.protocol.specs.World.{Place, label, log, strip, slot, Image, update, update-other, World, Action, run, after, Possible, Sane, Always, During, sane-after, sane-run, always-after, always-cur, always-map, during-map, during-start, during-end, during-append, run-append}
-use Rattle.protocol.specs.Batch.{flushes, flushes-during, certain, Each, each-during, each-map, each-batch}
-use Rattle.protocol.specs.Slots.{from, in-from, of-from, of-slots, of-rows}
+use Rattle.protocol.specs.World.{Place, label, log, strip, slot, Image, update, update-other, update-cases, World, Action, run, after, Possible, Sane, Always, During, sane-after, sane-run, always-after, always-map, during-map, during-start, during-end, during-append, run-append}
+use Rattle.protocol.specs.Batch.{Kept, Covered, Done, stage, flushes, flushes-during, certain, Each, each-during, each-map, each-batch}
+use Rattle.protocol.specs.Slots.{from, in-from, of-from, of-slots, keep, in-keep, of-keep, in-rows, of-rows, rows-slots}
 use Rattle.protocol.specs.Log.{Write, RecordCodec, Belief}
 use Rattle.protocol.specs.Write.{log-write, store}
-use Rattle.protocol.specs.Label.{Label, foreign, Size, belief, Quorum, LabelCodec, round, prep}
+use Rattle.protocol.specs.Label.{Label, alien, last-side, expel, expel-batch, purged, prep-purged, Size, belief, Quorum, LabelCodec, round, prep}
 use Rattle.protocol.specs.Decide.{data-place, Touch, Looked, log-each, strips-each, startup}
 use Rattle.protocol.specs.Request.{outed}
-use Rattle.protocol.specs.Rebuild.{begun, raised, healed, wipe, wipe-batch, wiped-sectors, filled-sectors, flushed-at-begin, begin-flushes, beginning, begin-own, fill, fill-batch}
+use Rattle.protocol.specs.Rebuild.{begun, raised, healed, wipe, wipe-batch, wiped-sectors, filled-sectors, flushed-at-begin, begin-flushes, expel-first, expel-run, expel-during, beginning, fill, fill-batch}
 use Rattle.protocol.specs.Spare.{startup-spares, round-spares, present-in}
 use Rattle.protocol.specs.Restart.{restart}
 use Rattle.protocol.specs.Host.{Host, Code, read, rebuilt, accused-slot, repairOf, writeOf}
@@ -27,8 +27,8 @@ use Rattle.protocol.specs.Promise.{beyond-in, beyond-none, proper-withou
 use Rattle.protocol.specs.Machine.{Machine, at, effect, Event, Outside, power-cut, program-dies, disk-swapped, Happens, from-outside, from-host, Runs, stays, goes, View, sure, open-write, kept-write}
 use Rattle.protocol.specs.Startup.{M}
 use Rattle.protocol.specs.Swap.{Swapped}
-use Rattle.protocol.specs.Shape.{Shape, Low, Top, Shapes, calm-own, round-shape, prep-shape}
-use Rattle.protocol.specs.Tidy.{Has, has-low, labels-kept, shape-same, top-same, start-shape}
+use Rattle.protocol.specs.Shape.{Shape, shape-same, shape-zeros, Low, Top, Shapes, round-shape, prep-shape}
+use Rattle.protocol.specs.Tidy.{Has, has-low, labels-kept, top-same, start-shape}
 
 module _ {X : Type 0} (z : Size) (W : Quorum (z .n)) (C : LabelCodec X (z .n)) (K : RecordCodec X) (E : Code X (z .n) (K .c) W) (S : Stamps) (R : Medium z W C K E S) where
   -- every present disk has the settled generation
@@ -44,7 +44,7 @@ module _ {X : Type 0} (z : Size) (W : Quorum (z .n)) (C : LabelCodec X (z .n)) (
 
   data-keeps : (o : Own) (w : World X) (l : List (Action X)) → Sane w → Each Data Any l → Always w (Current o) → During w l (Current o)
   data-keeps o w l sane e h =
-      each-during Data Any (Current o) (λ f k v t c. ((λ d i. shape-same z W C K f (update f k v) d (λ b. labels-kept z W C K f k v t d b) (c .0 d i)), λ d i a. let y = c .1 d i a in (y .0, y .1, top-same z W C K f (update f k v) d (y .0) (λ b. labels-kept z W C K f k v t d b) (y .2)))) w l sane h e
+      each-during Data Any (Current o) (λ f k v t c. ((λ d i. shape-same C f (update f k v) d (λ b. labels-kept z W C K f k v t d b) (c .0 d i)), λ d i a. let y = c .1 d i a in (y .0, y .1, top-same z W C K f (update f k v) d (y .0) (λ b. labels-kept z W C K f k v t d b) (y .2)))) w l sane h e
 
   -- one round over disks that all have the generation before, after whatever came first
   round-current : (o o' : Own) (ds : List ℕ) → o' .now .generation ≡ suc (o .now .generation) → C .Fits (o' .now) → ((d : ℕ) → List·Memᴰ d ds → d < z .n) → ((d : ℕ) → d < z .n → o' .absent d ≡ false → List·Memᴰ d ds) → (w : World X) → Sane w → Always w (λ f. Shapes C f × ((d : ℕ) → List·Memᴰ d ds → Low C f d (o .now .generation))) → During w (round C (o' .now) ds) (Shapes C) × Always (run w (round C (o' .now) ds)) (Current o')
@@ -83,7 +83,43 @@ module _ {X : Type 0} (z : Size) (W : Quorum (z .n)) (C : LabelCodec X (z .n)) (
       (always-map (Current o) (λ f. Shapes C f × ((d : ℕ) → List·Memᴰ d ds → Low C f d (o .now .generation))) w1 (λ f c. (c .0, λ d m. let y = told-in (o .absent) d m in has-low z W C K f d (o .now .generation) (c .1 d (y .0) (y .1)))) (during-end (Current o) w l a)) in
       (during-append (Shapes C) w l (round C (o' .now) ds) (during-map (Current o) (Shapes C) w l (λ f c. c .0) a) (r .0), rw run-append (r .1))
 
-  -- begin to rebuild d: it is flushed, so that what was read of its labels is certain; then prep, and the round
+  -- ZEROS OVER COPIES OF ANOTHER SHELF on disk d: the disks keep their shape
+  module _ (o : Own) (d : ℕ) (seen : Image X) where
+    abbrev Others : Image X → Type 0
+    Others f = (e : ℕ) → e < z .n → o .absent e ≡ false → e ≢ d → Has z W C K f e (o .now .generation)
+
+    -- a label sector of d holds what was read, or zeros where that was another shelf's
+    abbrev Purge : Image X → Bool → Type 0
+    Purge f b = (f (label d b) ≡ seen (label d b)) ⊎ ((alien C seen b d ≡ true) × (f (label d b) ≡ C .zeros))
+
+    others-put : (f : Image X) (b : Bool) (x : X) → Others f → Others (update f (label d b) x)
+    others-put f b x c e j p n = let u = c e j p n in (u .0, u .1, top-same z W C K f (update f (label d b) x) e (u .0) (λ s. update-other f (label d b) x (label e s) (λ t. n (ap slot t))) (u .2))
+
+    purge-put : (f : Image X) (b : Bool) → alien C seen b d ≡ true → ((y : Bool) → Purge f y) → (y : Bool) → Purge (update f (label d b) (C .zeros)) y
+    purge-put f b a h y = update-cases f (label d b) (C .zeros) (λ (v : X). (v ≡ seen (label d y)) ⊎ ((alien C seen y d ≡ true) × (v ≡ C .zeros))) (label d y) (λ q. let r : y ≡ b = cc in inr (subst (λ (s : Bool). alien C seen s d ≡ true) (sym r) a, refl)) (h y)
+
+    expel-shape : (b : Bool) (O : Image X → Type 0) → ((f : Image X) → O f → O (update f (label d b) (C .zeros))) → (v : World X) → Sane v → Always v (λ f. (Shapes C f × Others f × ((y : Bool) → Purge f y)) × O f) → During v (expel C seen b (d ∷ [])) (λ f. (Shapes C f × Others f × ((y : Bool) → Purge f y)) × O f) × Always (run v (expel C seen b (d ∷ []))) (λ f. (Shapes C f × Others f × ((y : Bool) → Purge f y)) × O f × (f (label d b) ≡ purged C seen (label d b)))
+    unfolding expel-batch Kept Covered Done
+    expel-shape b O keeps v sv h =
+        let es = keep (alien C seen b) (d ∷ []) in
+        let P : Image X → Type 0 = λ f. (Shapes C f × Others f × ((y : Bool) → Purge f y)) × O f in
+        stage P (λ f. (Shapes C f × Others f × ((y : Bool) → Purge f y)) × O f × (f (label d b) ≡ purged C seen (label d b))) v (expel-batch C seen b (d ∷ [])) sv h
+        (λ k m f c.
+        let y = of-rows (λ e j. label e b) (0 ∷ []) es k m in
+        let x = of-keep (alien C seen b) (d ∷ []) (y .0) (y .2) in
+        let q : y .0 ≡ d = List·Memᴰ·eq-of-singleton (x .0) in
+        let a : alien C seen b d ≡ true = subst (λ (e : ℕ). alien C seen b e ≡ true) q (x .1) in
+        let k' : k ≡ label d b = y .4 ∙ ap (λ (e : ℕ). label e b) q in
+        rw k' (((λ e i. shape-zeros C f d b e (c .0 .0 e i)), others-put f b (C .zeros) (c .0 .1), purge-put f b a (c .0 .2)), keeps f (c .1)))
+        (rows-slots (λ e j. label e b) (0 ∷ []) es (λ e j. refl))
+        (λ f c done. (c .0, c .1, ends f (c .0 .2 b) (λ a. done (label d b) (in-rows (λ e j. label e b) (0 ∷ []) es d 0 (in-keep (alien C seen b) (d ∷ []) d (List·Memᴰ·head refl) a) (List·Memᴰ·head refl))) (alien C seen b d) refl))
+      where
+        ends : (f : Image X) → Purge f b → (alien C seen b d ≡ true → f (label d b) ≡ C .zeros) → (y : Bool) → alien C seen b d ≡ y → f (label d b) ≡ purged C seen (label d b)
+        ends f p done true e = rw e (done e)
+        ends f (inl q) done false e = rw e q
+        ends f (inr q) done false e = absurd (true≢false (sym (q .0) ∙ e))
+
+  -- begin to rebuild d: it is flushed, so that what was read of its labels is certain; then copies of another shelf go; then prep, and the round
   begin-shape : (o : Own) (d : ℕ) (seen : Image X) (w : World X) → d < z .n → (back : ℕ → Bool) → ((e : ℕ) → back e ≡ false → (e ≡ d) ⊎ (o .absent e ≡ false)) → ((b : Bool) → seen (label d b) ≡ w .cur (label d b)) → 0 < o .now .generation → C .Fits (o .now) → C .Fits (begun (o .now) d) → Sane w → Always w (Current o) → During w (beginning K C seen (o .now) d (told-to z W C K E S R back)) (Shapes C) × Always (run w (beginning K C seen (o .now) d (told-to z W C K E S R back))) (Current (record { now = begun (o .now) d; absent = back; epoch = o .epoch; count = o .count }))
   unfolding Always
   begin-shape o d seen w i back members agree pos fits fit sane h =
@@ -95,34 +131,54 @@ module _ {X : Type 0} (z : Size) (W : Quorum (z .n)) (C : LabelCodec X (z .n)) (
       let w0 = run w A0 in
       let s0 = sane-run w A0 sane in
       let z0 = flushes-during (Current o) (w .cur) w (flushed-at-begin K d) h in
-      let Certain : Image X → Type 0 = λ f. (b : Bool) → f (label d b) ≡ seen (label d b) in
-      let h0 : Always w0 (λ f. Current o f × Certain f) = λ f p. (during-end (Current o) w A0 z0 f p, λ b. certain (w .cur) w (flushed-at-begin K d) f p (label d b) (begin-flushes K d) ∙ sym (agree b)) in
+      let side = last-side C seen d in
+      let X1 = expel C seen (not side) (d ∷ []) in
+      let X2 = expel C seen side (d ∷ []) in
+      let Now : Image X → Type 0 = λ f. Shapes C f × Others o d seen f × ((y : Bool) → Purge o d seen f y) in
+      let First : Image X → Type 0 = λ f. f (label d (not side)) ≡ purged C seen (label d (not side)) in
+      let h0 : Always w0 (λ f. Now f × Unit {0}) = λ f p. let c = during-end (Current o) w A0 z0 f p in ((c .0, (λ e j a n. c .1 e j a), λ b. inl (certain (w .cur) w (flushed-at-begin K d) f p (label d b) (begin-flushes K d) ∙ sym (agree b))), tt) in
+      let x1 = expel-shape o d seen (not side) (λ f. Unit {0}) (λ f u. tt) w0 s0 h0 in
+      let v1 = run w0 X1 in
+      let t1 = sane-run w0 X1 s0 in
+      let x2 = expel-shape o d seen side First (λ f e. update-other f (label d side) (C .zeros) (label d (not side)) (λ y. let r : not side ≡ side = cc in not-same side r) ∙ e) v1 t1 (λ f p. let c = x1 .1 f p in (c .0, c .2)) in
+      let v2 = run v1 X2 in
+      let t2 = sane-run v1 X2 t1 in
+      let Pure : Image X → Type 0 = λ f. (Shapes C f × Others o d seen f) × ((b : Bool) → f (label d b) ≡ purged C seen (label d b)) in
+      let h1 : Always v2 Pure = λ f p. let c = x2 .1 f p in ((c .0 .0, c .0 .1), λ b. sides side b (λ y. f (label d y) ≡ purged C seen (label d y)) (c .2) (c .1)) in
       let A1 = wipe K d in
-      let a : During w0 A1 (λ f. Current o f × Certain f) = each-during Data Any (λ f. Current o f × Certain f) (λ f k v t c. (keep-data o f k v t (c .0), λ b. labels-kept z W C K f k v t d b ∙ c .1 b)) w0 A1 s0 h0 (wipe-data d) in
-      let w1 = run w0 A1 in
-      let s1 = sane-run w0 A1 s0 in
+      let a : During v2 A1 Pure = each-during Data Any Pure (λ f k v t c. (((λ e j. shape-same C f (update f k v) e (λ b. labels-kept z W C K f k v t e b) (c .0 .0 e j)), λ e j p n. let y = c .0 .1 e j p n in (y .0, y .1, top-same z W C K f (update f k v) e (y .0) (λ b. labels-kept z W C K f k v t e b) (y .2))), λ b. labels-kept z W C K f k v t d b ∙ c .1 b)) v2 A1 t2 h1 (wipe-data d) in
+      let w1 = run v2 A1 in
+      let s1 = sane-run v2 A1 t2 in
       let A2 = prep C seen q (o .now) (d ∷ []) in
-      let Others : Image X → Type 0 = λ f. (e : ℕ) → e < z .n → o .absent e ≡ false → e ≢ d → Has z W C K f e q in
-      let r2 = prep-shape C seen q (o .now) (d ∷ []) Others
-      (λ f e b x m c y j p n. let u = c y j p n in (u .0, u .1, top-same z W C K f (update f (label e b) x) y (u .0) (λ s. update-other f (label e b) x (label y s) (λ t. n (ap slot t ∙ List·Memᴰ·eq-of-singleton m))) (u .2)))
+      let r2' = prep-shape C (purged C seen) q (o .now) (d ∷ []) (Others o d seen)
+      (λ f e b x m c. let t : e ≡ d = List·Memᴰ·eq-of-singleton m in subst (λ (y : ℕ). Others o d seen (update f (label y b) x)) (sym t) (others-put o d seen f b x c))
       pos fits (λ e m. let t : e ≡ d = List·Memᴰ·eq-of-singleton m in omega arith) w1 s1
-      (always-map (λ f. Current o f × Certain f) (λ f. P f × ((e : ℕ) (b : Bool) → List·Memᴰ e (d ∷ []) → f (label e b) ≡ seen (label e b)) × Others f) w1
-      (λ f c. (c .0 .0, (λ e b m. let t : e ≡ d = List·Memᴰ·eq-of-singleton m in subst (λ (y : ℕ). f (label y b) ≡ seen (label y b)) (sym t) (c .1 b)), λ e j p n. c .0 .1 e j p)) (during-end (λ f. Current o f × Certain f) w0 A1 a)) in
+      (always-map Pure (λ f. P f × ((e : ℕ) (b : Bool) → List·Memᴰ e (d ∷ []) → f (label e b) ≡ purged C seen (label e b)) × Others o d seen f) w1
+      (λ f c. (c .0 .0, (λ e b m. let t : e ≡ d = List·Memᴰ·eq-of-singleton m in subst (λ (y : ℕ). f (label y b) ≡ purged C seen (label y b)) (sym t) (c .1 b)), c .0 .1)) (during-end Pure v2 A1 a)) in
+      let r2 = subst (λ (l : List (Action X)). During w1 l (λ f. P f × Others o d seen f) × Always (run w1 l) (λ f. P f × ((e : ℕ) → List·Memᴰ e (d ∷ []) → Low C f e q) × Others o d seen f)) (sym (prep-purged C seen q (o .now) (d ∷ []))) r2' in
       let w2 = run w1 A2 in
       let r3 = round-current o o' ds refl fit (λ e m. told-in back e m .0) (λ e j x. in-told back e j x) w2 (sane-run w1 A2 s1)
-      (always-map (λ f. P f × ((e : ℕ) → List·Memᴰ e (d ∷ []) → Low C f e q) × Others f) (λ f. P f × ((e : ℕ) → List·Memᴰ e ds → Low C f e q)) w2
+      (always-map (λ f. P f × ((e : ℕ) → List·Memᴰ e (d ∷ []) → Low C f e q) × Others o d seen f) (λ f. P f × ((e : ℕ) → List·Memᴰ e ds → Low C f e q)) w2
       (λ f c. (c .0, λ e m. let y = told-in back e m in one f (c .1) (c .2) e (y .0) (members e (y .1)) (ℕ-discrete e d))) (r2 .1)) in
-      let A3 = round C (begun (o .now) d) ds in
-      let own : (b : Bool) → foreign C seen d b ≡ 0 = λ b. ap (C .strange d b) (agree b) ∙ calm-own C (w .cur) d b (always-cur (Current o) w sane h .0 d i .calm b) in
-      subst (λ (l : List (Action X)). During w l P × Always (run w l) (Current o')) (sym (begin-own K C seen (o .now) d ds own)) (
-        during-append P w A0 (A1 ++ (A2 ++ A3)) (during-map (Current o) P w A0 (λ f c. c .0) z0)
-            (during-append P w0 A1 (A2 ++ A3) (during-map (λ f. Current o f × Certain f) P w0 A1 (λ f c. c .0 .0) a)
-            (during-append P w1 A2 A3 (during-map (λ f. P f × Others f) P w1 A2 (λ f c. c .0) (r2 .0)) (r3 .0))),
-        rw (run-append w A0 (A1 ++ (A2 ++ A3)), run-append w0 A1 (A2 ++ A3), run-append w1 A2 A3) (r3 .1),
+      let A3 = round C (begun (o .now) d) ds in (
+        during-append P w A0 (expel-first K (X1 ++ X2) (A1 ++ (A2 ++ A3))) (during-map (Current o) P w A0 (λ f c. c .0) z0)
+            (expel-during K P w0 (X1 ++ X2) (A1 ++ (A2 ++ A3))
+            (during-append P w0 X1 X2 (during-map (λ f. Now f × Unit {0}) P w0 X1 (λ f c. c .0 .0) (x1 .0)) (during-map (λ f. Now f × First f) P v1 X2 (λ f c. c .0 .0) (x2 .0)))
+            (subst (λ (v : World X). During v (A1 ++ (A2 ++ A3)) P) (sym (run-append w0 X1 X2))
+            (during-append P v2 A1 (A2 ++ A3) (during-map Pure P v2 A1 (λ f c. c .0 .0) a)
+            (during-append P w1 A2 A3 (during-map (λ f. P f × Others o d seen f) P w1 A2 (λ f c. c .0) (r2 .0)) (r3 .0))))),
+        rw (run-append w A0 (expel-first K (X1 ++ X2) (A1 ++ (A2 ++ A3))), expel-run K w0 (X1 ++ X2) (A1 ++ (A2 ++ A3)), run-append w0 X1 X2, run-append v2 A1 (A2 ++ A3), run-append w1 A2 A3) (r3 .1),
       )
     where
-      keep-data : (o : Own) (f : Image X) (k : Place) (v : X) → data-place k ≡ true → Current o f → Current o (update f k v)
-      keep-data o f k v t c = ((λ d i. shape-same z W C K f (update f k v) d (λ b. labels-kept z W C K f k v t d b) (c .0 d i)), λ d i a. let y = c .1 d i a in (y .0, y .1, top-same z W C K f (update f k v) d (y .0) (λ b. labels-kept z W C K f k v t d b) (y .2)))
+      not-same : (b : Bool) → not b ≡ b → ⊥
+      not-same true e = true≢false (sym e)
+      not-same false e = true≢false e
+
+      sides : (s b : Bool) (Q : Bool → Type 0) → Q s → Q (not s) → Q b
+      sides true true Q x y = x
+      sides true false Q x y = y
+      sides false true Q x y = y
+      sides false false Q x y = x
 
       one : (f : Image X) → ((e : ℕ) → List·Memᴰ e (d ∷ []) → Low C f e (o .now .generation)) → ((e : ℕ) → e < z .n → o .absent e ≡ false → e ≢ d → Has z W C K f e (o .now .generation)) → (e : ℕ) → e < z .n → (e ≡ d) ⊎ (o .absent e ≡ false) → Dec (e ≡ d) → Low C f e (o .now .generation)
       one f a b e j x (yes t) = a e (List·Memᴰ·head t)
@@ -361,7 +417,7 @@ module _ {X : Type 0} (z : Size) (W : Quorum (z .n)) (C : LabelCodec X (z .n)) (
 
       one : (e : ℕ) → e < z .n → Dec (e ≡ d) → Shape C f e
       one e i (yes q) = subst (Shape C f) (sym q) (n f p)
-      one e i (no q) = shape-same z W C K g f e (λ b. kept (label e b) q) (c .0 e i)
+      one e i (no q) = shape-same C g f e (λ b. kept (label e b) q) (c .0 e i)
 
   shaped-outside : {m m' : Machine X} {e : Event X} (x : Outside z W C K E S R m e m') → NewShaped x → (p : View X) → Invariant z W C K E S R m p → Shaped m → Shaped m'
   unfolding Always
@@ -389,4 +445,4 @@ module _ {X : Type 0} (z : Size) (W : Quorum (z .n)) (C : LabelCodec X (z .n)) (
 
   -- zeros have the shape
   pub zeros-shaped : (f : Image X) → Zeros z W C K E S R f → Shapes C f
-  zeros-shaped f h d i = record { calm = λ b. inl (h .labels d b i ∙ sym (R .same-zeros)); follow = λ b p q. absurd (omega (arith, p, Promise.copy-zeros z W C K E S R f h d b i)) }
+  zeros-shaped f h d i = record { calm = λ b u. inl (h .labels d b i ∙ sym (R .same-zeros)); follow = λ b p q. absurd (omega (arith, p, Promise.copy-zeros z W C K E S R f h d b i)) }

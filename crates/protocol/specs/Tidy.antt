@@ -1,4 +1,4 @@
--- EVERY DISK HAS THE C6 SHAPE AT EVERY MOMENT, as long as every disk that is put in has it (zeros have it, and an older disk of the shelf kept it).
+-- EVERY DISK HAS THE C6 SHAPE AT EVERY MOMENT, as long as every disk that is put in has it (one without a label of this shelf has it, and an older disk of the shelf kept it).
 use Prim.Native.Nat.{ℕ, zero, suc, _+_, _≤_, _<_}
 use mathlib.Core.Path.{_≡_, refl, sym, ap, subst, _∙_}
 use mathlib.Core.Bool.{Bool, true, false, not, _&&_, _||_, true≢false, false≢true, or-true}
@@ -17,7 +17,7 @@ use Rattle.protocol.specs.Redo.{redo}
 use Rattle.protocol.specs.Label.{Label, again, Size, belief, Quorum, LabelCodec, copy, copy-same, round, prep}
 use Rattle.protocol.specs.Startup.{behind, behind-false, disowned, newest, newest-is, newest-top, seen, stale, gone, gone-absent, parts, late, level-to, again-to, last-to, rounds, L, M, M-positive, L-valid}
 use Rattle.protocol.specs.Decide.{data-place, Touch, Looked, redo-each, turn-run, turn-during, settled, startup, Accepted}
-use Rattle.protocol.specs.Shape.{not-not, copy-side, Shape, Low, Top, Shapes, round-shape, prep-shape}
+use Rattle.protocol.specs.Shape.{not-not, copy-side, Shape, shape-same, Low, Top, Shapes, round-shape, prep-shape}
 
 module _ {X : Type 0} (z : Size) (W : Quorum (z .n)) (C : LabelCodec X (z .n)) (K : RecordCodec X) where
   -- disk d has generation q, and is ready for the next one
@@ -33,14 +33,6 @@ module _ {X : Type 0} (z : Size) (W : Quorum (z .n)) (C : LabelCodec X (z .n)) (
 
   pub labels-kept : (f : Image X) (k : Place) (v : X) → data-place k ≡ true → (d : ℕ) (b : Bool) → update f k v (label d b) ≡ f (label d b)
   labels-kept f k v p d b = update-other f k v (label d b) (λ q. false≢true (ap data-place q ∙ p))
-
-  pub shape-same : (f g : Image X) (d : ℕ) → ((b : Bool) → g (label d b) ≡ f (label d b)) → Shape C f d → Shape C g d
-  shape-same f g d e s =
-      let c : (b : Bool) → copy C g d b .generation ≡ copy C f d b .generation = λ b. ap (λ (l : Label). l .generation) (copy-same C f g d b (e b)) in
-      record {
-        calm = λ b. ⊎-elim (λ q. inl (e b ∙ q)) (λ q. inr (omega (arith, q, c b))) (s .calm b);
-        follow = λ b p q. ⊎-elim (λ y. inl (omega (arith, y, c b, c (not b)))) (λ y. inr (omega (arith, y, c b, c (not b)))) (s .follow b (omega (arith, p, c b)) (omega (arith, q, c (not b))));
-      }
 
   pub top-same : (f g : Image X) (d a : ℕ) → ((b : Bool) → g (label d b) ≡ f (label d b)) → Top C f d a → Top C g d a
   top-same f g d a e t =
@@ -101,7 +93,7 @@ module _ {X : Type 0} (z : Size) (W : Quorum (z .n)) (C : LabelCodec X (z .n)) (
               let o : not b ≡ C .side g0 = ap not (s ∙ C .side-next g0) ∙ not-not (C .side g0) in
               let gb : copy C f0 d b .generation ≡ suc g0 = ap (λ (l : Label). l .generation) (sym q) ∙ (m ∙ M0) in
               subst (λ (y : Bool). (f0 (label d y) ≡ C .zeros) ⊎ ((0 < g0) × (copy C f0 d y .generation ≡ g0))) o
-              (⊎-elim inl (λ p. ⊎-elim (λ y. inr (omega (arith, gb, y, p), omega (arith, gb, y))) (λ y. absurd (omega (arith, gb, y, newest-top z W C A f0 d (not b), m, M0))) (h0 d i .follow b (omega (arith, gb)) p)) (h0 d i .calm (not b)))
+              (⊎-elim inl (λ p. ⊎-elim (λ y. inr (omega (arith, gb, y, p), omega (arith, gb, y))) (λ y. absurd (omega (arith, gb, y, newest-top z W C A f0 d (not b), m, M0))) (h0 d i .follow b (omega (arith, gb)) p)) (h0 d i .calm (not b) (omega (arith, gb, ap (λ (y : Bool). copy C f0 d y .generation) (not-not b)))))
           near (b, q) (no m) =
               let e1 : newest z C A f0 d .generation ≡ g0 = omega (arith, close, top, M0) in
               inr (omega (arith, there, e1), subst (λ (y : Bool). copy C f0 d y .generation ≡ g0) (at b q ∙ ap (C .side) e1) (ap (λ (l : Label). l .generation) (sym q) ∙ e1))
@@ -218,5 +210,5 @@ module _ {X : Type 0} (z : Size) (W : Quorum (z .n)) (C : LabelCodec X (z .n)) (
         let w1 = run (after f0) (rounds z C A f0) in
         let acts = redo K B f0 in
         let r = rounds-shape in
-        let a : During w1 acts P = each-during (Touch B) (Looked B) P (λ f k v t o. ((λ d i. shape-same f (update f k v) d (λ b. labels-kept f k v (t .0) d b) (o .0 d i)), λ d i x. top-same f (update f k v) d (suc m) (λ b. labels-kept f k v (t .0) d b) (o .1 d i x))) w1 acts (sane-run (after f0) (rounds z C A f0) (sane-after f0)) (r .1) (redo-each K B f0) in
+        let a : During w1 acts P = each-during (Touch B) (Looked B) P (λ f k v t o. ((λ d i. shape-same C f (update f k v) d (λ b. labels-kept f k v (t .0) d b) (o .0 d i)), λ d i x. top-same f (update f k v) d (suc m) (λ b. labels-kept f k v (t .0) d b) (o .1 d i x))) w1 acts (sane-run (after f0) (rounds z C A f0) (sane-after f0)) (r .1) (redo-each K B f0) in
         (turn-during (Shapes C) (after f0) (rounds z C A f0) acts (r .0) (during-map P (Shapes C) w1 acts (λ f o. o .0) a), rw turn-run (during-end P w1 acts a))
