@@ -11,7 +11,7 @@ use native.Mathlib.Omega.{arith}
 use native.Mathlib.Decide.{ℕ-discrete}
 use lib.Dec.{eqb, ltb}
 use borrow.Author.Tests.{lt-ltb, le-ltb}
-use Rattle.protocol.specs.World.{Place, label, log, strip, slot, Image, update, update-here, update-other, update-cases, World, Action, run, Possible, Sane, Always, During, sane-run, during-map, during-append, during-end, run-append}
+use Rattle.protocol.specs.World.{Place, label, log, strip, slot, Image, update, update-here, update-other, update-cases, World, Action, run, Possible, Sane, Always, During, sane-run, during-map, during-append, run-append}
 use Rattle.protocol.specs.Batch.{flushes, flushes-during, certain, Kept, Covered, Done, stage}
 use Rattle.protocol.specs.Slots.{keep, in-keep, of-keep, in-rows, of-rows, rows-slots}
 use Rattle.protocol.specs.Log.{RecordCodec}

@@ -17,7 +17,7 @@ use Rattle.protocol.specs.Redo.{redo}
 use Rattle.protocol.specs.Label.{Label, again, Size, belief, Quorum, LabelCodec, copy, copy-same, round, prep}
 use Rattle.protocol.specs.Startup.{behind, behind-false, disowned, newest, newest-is, newest-top, seen, stale, gone, gone-absent, parts, late, level-to, again-to, last-to, rounds, L, M, M-positive, L-valid}
 use Rattle.protocol.specs.Decide.{data-place, Touch, Looked, redo-each, turn-run, turn-during, settled, startup, Accepted}
-use Rattle.protocol.specs.Shape.{not-not, copy-side, Shape, shape-same, Low, Top, Shapes, round-shape, prep-shape}
+use Rattle.protocol.specs.Shape.{not-not, copy-side, shape-same, Low, Top, Shapes, round-shape, prep-shape}
 
 module _ {X : Type 0} (z : Size) (W : Quorum (z .n)) (C : LabelCodec X (z .n)) (K : RecordCodec X) where
   -- disk d has generation q, and is ready for the next one
