@@ -8,7 +8,7 @@ use mathlib.Core.List.{List, [], _∷_, _++_, List·Memᴰ, List·Memᴰ·head}
 use native.Mathlib.Omega.{arith}
 use lib.Dec.{eqb, ltb}
 use borrow.Author.Tests.{eq-eqb, eqb-true, ltb-true, ltb-false, lt-ltb}
-use Rattle.protocol.specs.World.{Place, label, slot, Image, update, update-other, update-cases, World, Action, run, Sane, Always, During}
+use Rattle.protocol.specs.World.{Place, label, log, strip, slot, Image, update, update-other, update-cases, World, Action, run, Sane, Always, During}
 use Rattle.protocol.specs.Batch.{Batch, actions, Kept, Covered, Done, stage}
 use Rattle.protocol.specs.Slots.{keep, of-keep, rows, in-rows, of-rows, rows-slots}
 use Rattle.protocol.specs.Log.{Belief, Within}
@@ -220,9 +220,29 @@ module _ {X : Type 0} {n : ℕ} (C : LabelCodec X n) where
   abbrev pub expelled : Image X → ℕ → List (Action X)
   expelled f0 d = expel f0 (not (last-side f0 d)) (d ∷ []) ++ expel f0 (last-side f0 d) (d ∷ [])
 
-  pub expel-none : (f0 : Image X) (s : Bool) (d : ℕ) → foreign f0 d s ≡ 0 → expel f0 s (d ∷ []) ≡ []
-  unfolding expel-batch
-  expel-none f0 s d e = let q : keep (alien f0 s) (d ∷ []) ≡ [] = rw e in rw q
+  -- the image without them
+  abbrev pub purged : Image X → Image X
+  purged f (label d b) = cond (alien f b d) (C .zeros) (f (label d b))
+  purged f (log d j) = f (log d j)
+  purged f (strip d t j) = f (strip d t j)
+
+  purged-copy : (f : Image X) (d : ℕ) (b : Bool) → copy f d b .generation ≡ copy (purged f) d b .generation
+  unfolding copy
+  purged-copy f d b = go (alien f b d) refl
+    where
+      go : (y : Bool) → alien f b d ≡ y → C .decode d b (f (label d b)) .generation ≡ C .decode d b (cond y (C .zeros) (f (label d b))) .generation
+      go true e = C .strange-none d b (f (label d b)) (ltb-true 0 (foreign f d b) e) ∙ sym (C .decode-zeros d b)
+      go false e = refl
+
+  -- prep does not look at them
+  pub prep-purged : (f : Image X) (g : ℕ) (l : Label) (ds : List ℕ) → prep f g l ds ≡ prep (purged f) g l ds
+  unfolding prep-batch
+  prep-purged f g l ds =
+      λ i. actions (record {
+        value = λ k. cond (ltb 0 (purged-copy f (slot k) (C .side (suc g)) i) || eqb (purged-copy f (slot k) (C .side g) i) 0) (C .zeros) (C .encode (slot k) (again l g));
+        places = prep-places g (keep (λ d. not (eqb (purged-copy f d (C .side g) i) g)) ds);
+        flushed = keep (λ d. not (eqb (purged-copy f d (C .side g) i) g)) ds;
+      })
 
   prep-decodes : (P : Label → Type 0) (f0 : Image X) (g : ℕ) (l : Label) (d : ℕ) → d < n → ((x : Label) → x .generation ≡ 0 → P x) → (C .Fits (again l g)) → P (again l g) → P (C .decode d (C .side g) (prep-value f0 g l (label d (C .side g))))
   prep-decodes P f0 g l d i none fit h = go (ltb 0 (copy f0 d (C .side (suc g)) .generation) || eqb (copy f0 d (C .side g) .generation) 0)

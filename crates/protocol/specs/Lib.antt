@@ -32,6 +32,7 @@ pub mod Ends
 pub mod Order
 pub mod Shape
 pub mod Tidy
+pub mod Formed
 pub mod Shaped
 pub mod Limits
 pub mod Exchange

@@ -11,7 +11,7 @@ use Rattle.protocol.specs.Batch.{Batch, actions, flushes, flushes-during
 use Rattle.protocol.specs.Slots.{from, rows, in-from, of-from, of-from-low, of-rows, in-rows, rows-slots}
 use Rattle.protocol.specs.Startup.{Shelf}
 use Rattle.protocol.specs.Log.{Write, RecordCodec, Belief, Table, Quiet, Fit, old-log, quiet-widen, old-spare}
-use Rattle.protocol.specs.Label.{Label, Size, looked, believed, belief, look-of, look-is, believe-of, believe-is, Quorum, LabelCodec, round, foreign, last-side, expel, expelled, expel-none, expel-safe, prep, prep-safe, Labels, Bare, rules-self}
+use Rattle.protocol.specs.Label.{Label, Size, looked, believed, belief, look-of, look-is, believe-of, believe-is, Quorum, LabelCodec, round, last-side, expel, expelled, expel-safe, prep, prep-safe, Labels, Bare, rules-self}
 use Rattle.protocol.specs.Decide.{quiet-framed, labels-data, Rest}
 use Rattle.protocol.specs.Request.{framed-bare, relabel}
 
@@ -82,14 +82,6 @@ module _ {X : Type 0} (K : RecordCodec X) where
 
   abbrev pub beginning : {n : ℕ} → LabelCodec X n → Image X → Label → ℕ → List ℕ → List (Action X)
   beginning C f0 Q d ds = flushes (flushed-at-begin d) ++ expel-first (expelled C f0 d) (wipe d ++ (prep C f0 (Q .generation) Q (d ∷ []) ++ round C (begun Q d) ds))
-
-  -- where there is no such copy
-  pub begin-own : {n : ℕ} (C : LabelCodec X n) (f0 : Image X) (Q : Label) (d : ℕ) (ds : List ℕ) → ((b : Bool) → foreign C f0 d b ≡ 0) → beginning C f0 Q d ds ≡ flushes (flushed-at-begin d) ++ (wipe d ++ (prep C f0 (Q .generation) Q (d ∷ []) ++ round C (begun Q d) ds))
-  unfolding expel-first
-  begin-own C f0 Q d ds none =
-      let a : expel C f0 (not (last-side C f0 d)) (d ∷ []) ≡ [] = expel-none C f0 (not (last-side C f0 d)) d (none (not (last-side C f0 d))) in
-      let b : expel C f0 (last-side C f0 d) (d ∷ []) ≡ [] = expel-none C f0 (last-side C f0 d) d (none (last-side C f0 d)) in
-      λ i. flushes (flushed-at-begin d) ++ ((a i ++ b i) ++ (wipe d ++ (prep C f0 (Q .generation) Q (d ∷ []) ++ round C (begun Q d) ds)))
 
   -- ON: the strips from the mark on, flush; then the round
   abbrev pub filled : (ℕ → ℕ → X) → Place → X

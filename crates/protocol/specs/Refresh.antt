@@ -1,12 +1,12 @@
 -- A REFRESH: a write of what a strip should hold already. The table stays as it is, and whatever a cut leaves at any moment of its log and of its strips, the
 -- shelf is at rest with that table. A repair is such a write, seen from a shelf on which no sector ever changed by itself. Assumes nothing.
 use Prim.Native.Nat.{ℕ, suc, _≤_, _<_}
-use mathlib.Core.Path.{_≡_, refl, sym, ap, subst, _∙_}
-use mathlib.Core.Bool.{Bool, true, false, cond, _&&_}
-use mathlib.Core.Logic.{_⊎_, ⊎-elim, inl, inr}
-use mathlib.Core.List.{List, _++_, List·Memᴰ}
+use mathlib.Core.Path.{_≡_, refl, sym, subst}
+use mathlib.Core.Bool.{Bool, true}
+use mathlib.Core.Logic.{_⊎_, ⊎-elim, inr}
+use mathlib.Core.List.{_++_}
 use native.Mathlib.Omega.{arith}
-use Rattle.protocol.specs.World.{Place, label, log, strip, slot, Image, World, Action, run, Sane, Always, During, sane-run, always-map, during-map, during-append, during-end, run-append}
+use Rattle.protocol.specs.World.{Place, strip, Image, World, run, Sane, Always, During, sane-run, during-map, during-append, during-end}
 use Rattle.protocol.specs.Batch.{Kept, Covered, Done, stage}
 use Rattle.protocol.specs.Slots.{in-rows, of-rows, rows-slots}
 use Rattle.protocol.specs.Log.{Write, RecordCodec, Belief, Table, Wrote, Complete, Old, Quiet, old-strip}

@@ -2,18 +2,18 @@
 -- has stored the mended strip when it answers: so the strip is as found or repaired, and never a mixture that stays. Assumes nothing.
 use Prim.Native.Nat.{ℕ, zero, suc, _≤_, _<_}
 use mathlib.Core.Path.{_≡_, refl, sym, ap, subst, _∙_, fun-ext}
-use mathlib.Core.Bool.{Bool, true, false, cond, _&&_, true≢false, false≢true}
-use mathlib.Core.Logic.{_⊎_, ⊎-elim, inl, inr, _≢_}
-use mathlib.Core.List.{List, [], _∷_, _++_, List·Memᴰ}
+use mathlib.Core.Bool.{Bool, true, false, false≢true}
+use mathlib.Core.Logic.{inl, _≢_}
+use mathlib.Core.List.{List, [], _∷_, _++_}
 use native.Mathlib.Omega.{arith}
-use lib.Dec.{eqb, ltb}
+use lib.Dec.{eqb}
 use borrow.Author.Tests.{eq-eqb, eqb-true}
-use Rattle.protocol.specs.World.{Place, label, log, strip, slot, Image, update, update-other, World, Action, act, run, after, Possible, Sane, Always, During, sane-after, sane-act, sane-run, always-map, during-map, run-append}
+use Rattle.protocol.specs.World.{Place, log, strip, slot, Image, update-other, World, Action, act, run, after, Sane, Always, During, sane-after, sane-act, sane-run, always-map, during-map, run-append}
 use Rattle.protocol.specs.Batch.{flushes, Kept, Covered, Done, stage}
 use Rattle.protocol.specs.Slots.{in-rows, of-rows, rows-slots}
 use Rattle.protocol.specs.Log.{Write, RecordCodec, Belief, Table, Complete, Quiet}
-use Rattle.protocol.specs.Write.{involved, in-involved, of-involved, log-write, log-batch, logged, logged-sectors, logged-in, store, store-batch, stored, stored-sectors}
-use Rattle.protocol.specs.Redo.{key, lead, tail, whole, completeB, redone, forward, marked, kill-batch, redo, key-look, key-top, key-seen, the-strip, forward-is, whole-is, redo-forward}
+use Rattle.protocol.specs.Write.{involved, in-involved, log-write, log-batch, logged-sectors, logged-in, store, store-batch, stored-sectors}
+use Rattle.protocol.specs.Redo.{key, lead, whole, completeB, redone, forward, marked, kill-batch, redo, key-top, key-seen, the-strip, forward-is, whole-is, redo-forward}
 use Rattle.protocol.specs.Label.{Label, copy, prep-batch, Size, believed, believe-is, belief, Quorum, LabelCodec}
 use Rattle.protocol.specs.Startup.{Shelf, gone, level-to, again-to, last-to, rounds}
 use Rattle.protocol.specs.Host.{Host, accused, Code, table, repairOf}

@@ -3,28 +3,28 @@
 -- give its entries, and the acknowledgement of a repair, or of a write into a rotten stripe, ends the rot there. Assumes nothing.
 use Prim.Native.Nat.{ℕ, suc, _≤_, _<_}
 use mathlib.Core.Path.{_≡_, refl, sym, ap, subst, _∙_, fun-ext}
-use mathlib.Core.Bool.{Bool, true, false, cond, not, _&&_, _||_, true≢false, false≢true}
+use mathlib.Core.Bool.{Bool, true, false, cond, not, _&&_, true≢false, false≢true}
 use mathlib.Core.Logic.{_⊎_, ⊎-elim, inl, inr, _≢_}
 use mathlib.Core.List.{List, [], _∷_, _++_}
 use native.Mathlib.Omega.{arith}
 use native.Mathlib.Decide.{ℕ-discrete}
-use lib.Dec.{eqb, ltb, leb}
-use borrow.Author.Tests.{eq-eqb, ne-eqb, eqb-true, eqb-false, ltb-true, ltb-false, lt-ltb, not-true}
-use Rattle.protocol.specs.World.{Place, label, log, strip, slot, Image, World, Action, act, run, after, Possible, Sane, Always, During, sane-act, sane-run, always-cur, always-map, during-start}
+use lib.Dec.{eqb, ltb}
+use borrow.Author.Tests.{eq-eqb, ne-eqb, eqb-true, eqb-false, ltb-true, ltb-false, not-true}
+use Rattle.protocol.specs.World.{Place, label, log, strip, slot, Image, World, Action, act, run, after, Possible, Sane, Always, During, sane-act, sane-run, always-cur, during-start}
 use Rattle.protocol.specs.Slots.{from, in-from, of-from, every-of, every-all}
-use Rattle.protocol.specs.Log.{Write, RecordCodec, Belief, Table, Quiet}
-use Rattle.protocol.specs.Write.{log-write, store, store-batch, both}
-use Rattle.protocol.specs.Redo.{whole, completeB, forward, marked, kill-batch, redo, redone}
+use Rattle.protocol.specs.Log.{Write, RecordCodec, Belief, Quiet}
+use Rattle.protocol.specs.Write.{log-write, store, store-batch}
+use Rattle.protocol.specs.Redo.{whole, completeB, forward, marked, kill-batch, redo}
 use Rattle.protocol.specs.Label.{Label, copy, last-side, expel-batch, prep-batch, Size, looked, believed, believe-is, belief, Quorum, LabelCodec}
 use Rattle.protocol.specs.Startup.{gone, level-to, again-to, last-to, rounds}
 use Rattle.protocol.specs.Decide.{in-turn, startup, Rest}
 use Rattle.protocol.specs.Request.{outed}
 use Rattle.protocol.specs.Swap.{Swapped}
 use Rattle.protocol.specs.Host.{Host, Blocks, Finding, blames, unsound, all-sound, accused, several, Change, one-block, all-blocks, changed, set-block, replace, Code, table, few-missing, proper, reached, read, read-through, read-right, writeOf, strips-of, mend, accused-slot, repairOf, whole-change, missing}
-use Rattle.protocol.specs.Program.{Stamps, Medium, Refusal, TOO_FEW, BAD_BLOCK, BUSY, NOT_NOW, Verdict, clear, because, Own, Kind, creating, starting, logging, storing, labelling, Memory, nothing, idle, doing, Input, create, start, read-block, write, take-out, begin, rebuild-on, scrub-stripe, repair, step, Reply, accepted, refused, did, safe, done, block, found, new-label, Proper, mask, left-out, beyond, ask-log, all-in, finding, change-made, all-believed, asked-create, may-create, asked-start, may-start, asked-out, asked-begin, asked-on, asked-heal, asked-raise, at-least-one, last-batch, asked-write, asked-repair, may, also, may-repair, answer, from-nothing, from-idle, from-doing, one-step, meanwhile, scrubbed, unseen, back-in, program}
-use Rattle.protocol.specs.Machine.{Machine, at, effect, Event, cut, dies, swap, ask, Outside, power-cut, program-dies, disk-swapped, Happens, from-outside, from-host, View, sure, open-write, kept-write, list-of, Accepting, Saved, Ended, Gives, Answered}
-use Rattle.protocol.specs.Invariant.{Dark, Ready, Busy, Invariant, Off}
-use Rattle.protocol.specs.Promise.{simulate, in-range, scrub-tests, repair-tests, ready-off, off-cut, memory-off, quiet-seen, mask-present, found-sound, made-as-asked, no-repair, may-repair-tests}
+use Rattle.protocol.specs.Program.{Stamps, Medium, Refusal, TOO_FEW, BAD_BLOCK, BUSY, NOT_NOW, Verdict, clear, because, Own, Kind, creating, starting, logging, storing, labelling, Memory, nothing, idle, doing, Input, create, start, read-block, write, take-out, begin, rebuild-on, scrub-stripe, repair, step, Reply, accepted, refused, did, safe, done, block, found, new-label, Proper, mask, left-out, beyond, ask-log, all-in, finding, change-made, all-believed, asked-create, may-create, asked-start, may-start, asked-out, asked-begin, asked-on, asked-heal, asked-raise, at-least-one, last-batch, asked-write, asked-repair, may, also, may-repair, answer, from-nothing, from-idle, one-step, meanwhile, scrubbed, unseen, back-in, program}
+use Rattle.protocol.specs.Machine.{Machine, at, effect, Event, cut, dies, swap, ask, disk-swapped, from-outside, from-host, View, sure, open-write, kept-write, list-of, Accepting, Saved, Ended, Gives, Answered}
+use Rattle.protocol.specs.Invariant.{Dark, Ready, Invariant, Off}
+use Rattle.protocol.specs.Promise.{simulate, in-range, scrub-tests, repair-tests, ready-off, off-cut, memory-off, quiet-seen, found-sound, made-as-asked, may-repair-tests}
 use Rattle.protocol.specs.Refresh.{Stored, store-done, refresh}
 use Rattle.protocol.specs.Veil.{Rot, rotten, OneEach, spread, mended, either, two, mended-one, Agree, Veiled, veiled-act, veiled-run, cleaned, cleaned-agrees, cleaned-possible, veiled-cut, veiled-stored, Decayed, veiled-decay}
 
@@ -458,6 +458,11 @@ module _ {X : Type 0} (z : Size) (W : Quorum (z .n)) (C : LabelCodec X (z .n)) (
         fine-blocks (λ d j. cond (eqb t (wr .stripe) && wr .changes d) (wr .new d j) (f (strip d t j))) (λ d j. cond (eqb t (wr .stripe) && wr .changes d) (wr .new d j) (g (strip d t j)))
         (λ none. ap (λ (y : ℕ → ℕ → X). λ d j. cond (eqb t (wr .stripe) && wr .changes d) (wr .new d j) (y d j)) (same-strips rot f g same t none))
         (λ n j. ap (λ (y : X). cond (eqb t (wr .stripe) && wr .changes (E .lies t i)) (wr .new (E .lies t i) j) y) (same (strip (E .lies t i) t j) (rw n)))
+
+  -- A BLOCK WHOSE OWN SLOT IS BELIEVED READS AS ITS STRIP IS, rotten or not
+  pub reads-as-found : (Q : Label) (f : Image X) (t i j : ℕ) → i < E .k → believed z Q (E .lies t i) t ≡ true → read z W K E Q f t i j ≡ f (strip (E .lies t i) t j)
+  unfolding read
+  reads-as-found Q f t i j ink b = E .at-home t (missing z W K E Q t) (strips-of z W K E f t) i j ink (ap not b)
 
   -- READY
   idle-read : (rot : Rot) (w : World X) (o : Own) (p : View X) (h : Rotten rot w (idle o) p) (t i : ℕ) (y : Verdict) → may z W C K E S R false o (read-block t i) ≡ y → Follows rot w (idle o) (read-block t i) p (answer z W C K E S R (idle o) y (idle o) (block (read z W K E (o .now) (mask z W C K E S R (o .absent) (w .cur)) t i)))

@@ -3,20 +3,24 @@
 -- label over a log or over strips that this shelf has changed. Assumes nothing.
 use Prim.Native.Nat.{ℕ, suc, _≤_, _<_}
 use mathlib.Core.Path.{_≡_, refl, sym, ap, subst, _∙_}
-use mathlib.Core.Bool.{Bool, true, false, cond, not, _||_, true≢false, false≢true}
+use mathlib.Core.Bool.{Bool, true, false, cond, not, _&&_, _||_, true≢false, false≢true}
 use mathlib.Core.Logic.{_⊎_, ⊎-elim, inl, inr, _≢_}
 use mathlib.Core.List.{List, [], _∷_, _++_, List·Memᴰ, List·Memᴰ·head, List·Memᴰ·eq-of-singleton}
 use native.Mathlib.Nat.{eq-zero-or-pos}
 use native.Mathlib.Omega.{arith}
 use native.Mathlib.Decide.{ℕ-discrete}
 use lib.Dec.{eqb, ltb}
-use borrow.Author.Tests.{lt-ltb, le-ltb}
-use Rattle.protocol.specs.World.{Place, label, log, strip, slot, Image, update, update-here, update-other, update-cases, World, Action, run, Possible, Sane, Always, During, sane-run, during-map, during-append, during-end, run-append}
+use borrow.Author.Tests.{eq-eqb, lt-ltb, le-ltb}
+use Rattle.protocol.specs.World.{Place, label, log, strip, slot, Image, update, update-here, update-other, update-cases, World, Action, run, Possible, Sane, Always, During, sane-run, during-map, during-append, run-append}
 use Rattle.protocol.specs.Batch.{flushes, flushes-during, certain, Kept, Covered, Done, stage}
 use Rattle.protocol.specs.Slots.{keep, in-keep, of-keep, in-rows, of-rows, rows-slots}
 use Rattle.protocol.specs.Log.{RecordCodec}
-use Rattle.protocol.specs.Label.{Label, LabelCodec, copy, round, round-keeps, foreign, alien, last-side, last-greater, expel, expel-batch, prepared, prep, prep-value, prep-batch, of-prep, prep-slots}
+use Rattle.protocol.specs.Label.{Label, Size, Quorum, LabelCodec, copy, round, round-keeps, foreign, alien, last-side, last-greater, expel, expel-batch, prepared, prep, prep-value, prep-batch, of-prep, prep-slots}
 use Rattle.protocol.specs.Rebuild.{begun, wiped-sectors, wipe, wipe-batch, flushed-at-begin, begin-flushes, expel-first, expel-during, beginning}
+use Rattle.protocol.specs.Host.{Host, Code}
+use Rattle.protocol.specs.Program.{Stamps, Medium, clear, Own, begin, mask, back-in, told-to, may}
+use Rattle.protocol.specs.Invariant.{Ready}
+use Rattle.protocol.specs.Promise.{begin-tests, mask-present, proper-begun}
 
 -- Slot d of the shelf that reads labels by C holds a disk that was slot d' of a shelf that reads them by C': each copy that is valid there is strange here.
 pub record Strangers {X : Type 0} {n n' : ℕ} (C : LabelCodec X n) (C' : LabelCodec X n') (d d' : ℕ) : Type 0 where
@@ -248,3 +252,16 @@ module _ {X : Type 0} {n n' : ℕ} (C : LabelCodec X n) (C' : LabelCodec X n') (
               go : (b : Bool) → C .strange d (C .side (Q .generation)) (cond b (C .zeros) (C .encode e Q)) ≡ 0
               go true = C .strange-zeros d (C .side (Q .generation))
               go false = ap (λ (x : ℕ). C .strange d (C .side (Q .generation)) (C .encode x Q)) q ∙ C .strange-encode d Q i fits
+
+-- THE PROGRAM'S BEGIN: the list of actions that it accepts on a disk that was slot d' of another shelf
+module _ {X : Type 0} (z : Size) (W : Quorum (z .n)) (C : LabelCodec X (z .n)) (K : RecordCodec X) (E : Code X (z .n) (K .c) W) (S : Stamps) (R : Medium z W C K E S) {n' : ℕ} (C' : LabelCodec X n') (d d' : ℕ) (strangers : Strangers C C' d d') where
+  pub begin-leaves : (v : Host X) (w : World X) (o : Own) → Sane w → Ready z W C K E S R v w o → may z W C K E S R false o (begin d) ≡ clear → During w (beginning K C (mask z W C K E S R (back-in z W C K E S R (o .absent) d) (w .cur)) (o .now) d (told-to z W C K E S R (back-in z W C K E S R (o .absent) d))) (Fate C C' d d' w)
+  begin-leaves v w o sane h e =
+      let t = begin-tests z W C K E S R o d e in
+      let A = back-in z W C K E S R (o .absent) d in
+      old-shelf C C' d d' strangers (mask z W C K E S R A (w .cur)) w sane (λ b. mask-present z W C K E S R A (w .cur) (label d b) (here (o .absent d))) K (o .now) (told-to z W C K E S R A) (t .0)
+      (R .fits (o .now) (h .sound) (omega (arith, h .born, h .epoch-now)) (h .most)) (R .fits (begun (o .now) d) (proper-begun z (o .now) d (t .0) (t .1) (h .sound)) (omega arith) (t .2))
+    where
+      here : (b : Bool) → (b && not (eqb d d)) ≡ false
+      here true = rw (eq-eqb d d refl)
+      here false = refl

@@ -2,13 +2,13 @@
 -- may leave, but for the sectors of the rotten strips. Each action, done to both, keeps that; so does a cut; and a strip that is stored and flushed on both is
 -- rotten no more. Assumes nothing.
 use Prim.Native.Nat.{ℕ, _<_}
-use mathlib.Core.Path.{_≡_, refl, sym, ap, subst, _∙_, fun-ext}
+use mathlib.Core.Path.{_≡_, refl, sym, ap, subst, _∙_}
 use mathlib.Core.Bool.{Bool, true, false, cond, not, _&&_, _||_, true≢false, false≢true}
 use mathlib.Core.Logic.{_⊎_, ⊎-elim, inl, inr, _≢_}
 use mathlib.Core.List.{List, [], _∷_}
 use lib.Dec.{eqb, ltb}
 use borrow.Author.Tests.{eq-eqb, eqb-true, eqb-false, ltb-true, lt-ltb}
-use Rattle.protocol.specs.World.{Place, label, log, strip, same, Image, update, update-here, update-other, same-or-not, World, Action, put, flush, act, run, after, Possible, Sane, Always, sane-after, sane-act, always-cur}
+use Rattle.protocol.specs.World.{Place, label, log, strip, same, Image, update, update-here, update-other, same-or-not, World, Action, put, flush, act, run, after, Possible, Sane, Always, sane-after, sane-act}
 use Rattle.protocol.specs.Log.{RecordCodec, Belief}
 use Rattle.protocol.specs.Refresh.{Stored}
 

@@ -4,7 +4,7 @@ use mathlib.Core.Path.{_≡_, refl, sym, ap, subst, _∙_}
 use mathlib.Core.Bool.{Bool, true, false, cond, true≢false, false≢true}
 use mathlib.Core.List.{[], _∷_}
 use mathlib.Core.Logic.{_≢_, _⊎_, inl, inr}
-use Prim.Native.Nat.{ℕ, _+_, _≤_, _<_}
+use Prim.Native.Nat.{ℕ, _≤_, _<_}
 use native.Mathlib.Omega.{arith}
 use native.Mathlib.Decide.{ℕ-discrete}
 use lib.Dec.{eqb, leb}
@@ -13,7 +13,7 @@ use Rattle.disk.specs.Limits.{sectorBytes}
 use Rattle.disk.specs.Geometry.{slotOf, shardOf, slot-lt, shard-lt, shard-slot, slot-shard}
 use Rattle.codeword.specs.Stripe.{has}
 use Rattle.codeword.specs.Unique.{unique}
-use Rattle.codeword.specs.Mend.{Mended, put, put-at, put-off}
+use Rattle.codeword.specs.Mend.{put, put-at, put-off}
 use Rattle.protocol.specs.Host.{Blocks, Finding, all-sound, accused, several, blames, Code}
 use Rattle.codecs.specs.Sector.{Sector, zeros}
 use Rattle.codecs.specs.Shelf.{Shelf, slots, some-slots}

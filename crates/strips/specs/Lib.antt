@@ -4,3 +4,4 @@ pub mod Answers
 pub mod Laws
 pub mod Turns
 pub mod Whole
+pub mod Prepared
