@@ -30,3 +30,4 @@ pub mod Chain
 pub mod Holds
 pub mod Promise
 pub mod Blind
+pub mod Strips
