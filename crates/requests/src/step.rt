@@ -28,18 +28,18 @@ fn other_work(l: Label, len: usize, room: usize) -> bool
 
 // Does the next action of the request under way, or says that it is done. The refusals are those of the shelf's step; then a
 // work area of another size is BAD_BUFFER. A refusal changes nothing.
-pub fn step(s: State, image: &mut [u8], room: usize) -> Stepped
-    ensures { λ r. ⌜ (r ≡ stepWith s (now (image .entry)) room .stepped) × (now (image .exit) ≡ stepWith s (now (image .entry)) room .image) ⌝ }
+pub fn step(s: State, work: &[u8], image: &mut [u8]) -> Stepped
+    ensures { λ r. ⌜ (r ≡ stepWith s (now (work .entry)) (now (image .entry)) .stepped) × (now (image .exit) ≡ stepWith s (now (work .entry)) (now (image .entry)) .image) ⌝ }
 {
     if !in_range(s) {
-        return shelf::step::step(s, image);
+        return shelf::step::step(s, work, image);
     }
     let now = s.now;
-    if other_work(now, image.len(), room) {
+    if other_work(now, image.len(), work.len()) {
         return Stepped {
             state: s,
             answer: Answer::Refused(Refusal::BadBuffer),
         };
     }
-    shelf::step::step(s, image)
+    shelf::step::step(s, work, image)
 }
