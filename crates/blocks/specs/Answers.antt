@@ -7,7 +7,7 @@ use lib.Dec.{leb, ltb, eqb}
 use borrow.Author.Tests.{ltb-true, eqb-true}
 use Rattle.disk.specs.Limits.{leastN, mostN, sectorBytes, mostK, mostM}
 use Rattle.disk.specs.Tests.{and-left, and-right, both}
-use Rattle.disk.specs.Geometry.{stripLength, inRange, splits, inRangeWith, blocksOf, placed}
+use Rattle.disk.specs.Geometry.{stripLength, inRange, splits, inRangeWith, stripesOf, blocksOf, placed}
 use Rattle.disk.specs.Image.{fitsImage}
 use Rattle.disk.specs.declared.refusal.Refusal.{Refusal}
 use Rattle.disk.specs.declared.refusal.Refusal.the-variants.{BadImage, TooFew, BadBlock, Busy, NotNow, BadBuffer}
@@ -54,6 +54,11 @@ unfoldable pub blockAnswer : Label → ℕ → Bool → Bool → ℕ → ℕ →
 blockAnswer l absent idle sense block bytes room =
     answered (tooFew l absent) (ltb block (blocksOf (geometryOf l) (l .k))) idle sense (sizes (l .k + l .m) (l .c) bytes room)
 
+-- a scrub or a repair of a stripe
+unfoldable pub stripeAnswer : Label → ℕ → Bool → Bool → ℕ → ℕ → Outcome
+stripeAnswer l absent idle sense t room =
+    answered (tooFew l absent) (ltb t (stripesOf (geometryOf l))) idle sense (eqb room (workBytes (l .k + l .m) (l .c)))
+
 -- ---- what the tests of a request that is not refused say
 
 pub look-done : (l : Label) (kind : Kind) (len : ℕ) → lookAnswer l kind len ≡ Done → (fitsOf l ≡ true) × (fitsImage (geometryOf l) len ≡ true)
@@ -66,7 +71,7 @@ isDone : Outcome → Bool
 isDone Done = true
 isDone (Refused why) = false
 
-never : (why : Refusal) → Refused why ≡ Done → ⊥
+pub never : (why : Refusal) → Refused why ≡ Done → ⊥
 unfolding isDone
 never why e = true≢false (sym (ap isDone e))
 

@@ -3,3 +3,5 @@ pub mod Slots
 pub mod Counted
 pub mod Answers
 pub mod Read
+pub mod Write
+pub mod Scrub

@@ -1,9 +1,11 @@
 // What the requests of blocks and stripes are refused for, in the document's order.
 use crate::of_label::geometry;
 use crate::slots::too_few;
+use disk::geometry::Found;
 use disk::geometry::Geometry;
 use disk::geometry::Placed;
 use disk::geometry::place;
+use disk::geometry::strip;
 use disk::limits::SECTOR;
 use disk::refusal::Outcome;
 use disk::refusal::Refusal;
@@ -17,9 +19,9 @@ ghost use mathlib.Core.Bool.{true};
 ghost use Prim.Native.Nat.{_≤_};
 ghost use lib.Dec.{ltb};
 ghost use Rattle.disk.specs.Limits.{mostC};
-ghost use Rattle.disk.specs.Geometry.{inRangeWith, blocksOf};
+ghost use Rattle.disk.specs.Geometry.{inRange, inRangeWith, stripesOf, blocksOf};
 ghost use Rattle.label.specs.Fields.{fitsOf};
-ghost use Rattle.blocks.specs.Answers.{serves, lookAnswer, answered, sizes, blockAnswer};
+ghost use Rattle.blocks.specs.Answers.{serves, lookAnswer, answered, sizes, blockAnswer, stripeAnswer};
 
 // Whether reads are served: create or start-up, if there was one, has answered.
 pub(crate) fn is_served(kind: Kind) -> bool
@@ -116,5 +118,36 @@ pub(crate) fn block_answer(
     let few = too_few(l, absent);
     let inside = has_block(g, l.k, block);
     let sized = block_sized(g.n, g.c, bytes, room);
+    by_tests(few, inside, idle, sense, sized)
+}
+
+// Whether the shelf has the stripe.
+fn has_stripe(g: Geometry, t: usize) -> bool
+    requires { ⌜ inRange g ≡ true ⌝ }
+    ensures { λ r. ⌜ r ≡ ltb t (stripesOf g) ⌝ }
+{
+    let found = strip(g, t);
+    match found {
+        Found::At(_) => true,
+        Found::Refused(_) => false,
+    }
+}
+
+// The refusals of a scrub or a repair of a stripe.
+pub(crate) fn stripe_answer(
+    l: Label,
+    absent: u64,
+    idle: bool,
+    sense: bool,
+    t: usize,
+    room: usize,
+) -> Outcome
+    requires { ⌜ fitsOf l ≡ true ⌝ }
+    ensures { λ r. ⌜ r ≡ stripeAnswer l absent idle sense t room ⌝ }
+{
+    let g = geometry(l);
+    let few = too_few(l, absent);
+    let inside = has_stripe(g, t);
+    let sized = room == work_bytes(g.n, g.c);
     by_tests(few, inside, idle, sense, sized)
 }

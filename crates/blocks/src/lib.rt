@@ -3,4 +3,6 @@
 mod answers;
 mod of_label;
 pub mod read;
+pub mod scrub;
 mod slots;
+pub mod write;
