@@ -6,14 +6,12 @@ use Prim.Native.Nat.{ℕ, zero, suc, _+_, _-_, _≤_, _<_, _%_, _^_}
 use native.Mathlib.Nat.{add-mod-left, mod-eq-of-lt, add-zero}
 use native.Mathlib.Omega.{arith}
 use lib.Count.{ones, onesIn}
-use lib.Dec.{leb, ltb, eqb}
+use lib.Dec.{ltb, eqb}
 use lib.ListN.{length, length-append}
-use borrow.Author.Tests.{leb-true, ltb-true, ltb-false, eqb-true, le-leb, lt-ltb, eq-eqb}
-use Rattle.disk.specs.Tests.{and-left, and-right, both}
-use Rattle.disk.specs.Geometry.{stripesOf, slotOf, slot-lt}
-use Rattle.disk.specs.Mask.{inMask, maskOf, tally, count-is, mask-lt, mask-below}
-use Rattle.disk.specs.declared.geometry.Geometry.{Geometry}
-use Rattle.label.specs.Fields.{geometryOf, fitsOf}
+use borrow.Author.Tests.{ltb-false, eqb-true, le-leb, lt-ltb, eq-eqb}
+use Rattle.disk.specs.Geometry.{stripesOf, slotOf}
+use Rattle.disk.specs.Mask.{inMask, tally, count-is, mask-lt, mask-below}
+use Rattle.label.specs.Fields.{geometryOf}
 use Rattle.label.specs.declared.fields.Label.{Label}
 use Rattle.label.proofs.Fits.{Fits}
 use Rattle.position.specs.Position.{ascending}

@@ -1,5 +1,5 @@
 -- Read: a block as it is shown, whatever is missing. Assumes nothing.
-use mathlib.Core.Path.{_≡_, refl, sym, ap, ap₂, subst, _∙_}
+use mathlib.Core.Path.{_≡_, refl, sym, ap, subst, _∙_}
 use mathlib.Core.Bool.{Bool, true, false, cond, _&&_}
 use mathlib.Core.List.{List, [], _∷_, _++_}
 use Prim.Native.Nat.{ℕ, zero, suc, _+_, _*_, _≤_, _<_, _/_, _%_}
@@ -18,7 +18,7 @@ use Rattle.disk.specs.declared.geometry.Geometry.{Geometry}
 use Rattle.disk.specs.declared.refusal.Outcome.{Outcome}
 use Rattle.disk.specs.declared.refusal.Outcome.the-variants.{Done, Refused}
 use Rattle.label.specs.Fields.{geometryOf, fitsOf}
-use Rattle.label.proofs.Fits.{Fits, fits-says}
+use Rattle.label.proofs.Fits.{fits-says}
 use Rattle.label.specs.declared.fields.Label.{Label}
 use Rattle.position.specs.Row.{inRow, listed, listed-length}
 use Rattle.requests.specs.Begun.{workBytes, first}

@@ -1,6 +1,6 @@
 -- Scrub: when it is refused, and what is said of the stripe as it is seen. Assumes nothing.
 use mathlib.Core.Path.{_≡_, refl, sym, ap, subst, _∙_}
-use mathlib.Core.Bool.{Bool, true, false, _&&_, true≢false}
+use mathlib.Core.Bool.{Bool, true, _&&_}
 use mathlib.Core.List.{List}
 use Prim.Native.Nat.{ℕ, _+_, _-_, _*_, _≤_, _<_}
 use native.Mathlib.Nat.{mul-assoc}
@@ -13,9 +13,8 @@ use Rattle.code.specs.declared.Verdict.{Verdict}
 use Rattle.disk.specs.Limits.{sectorBytes}
 use Rattle.disk.specs.Geometry.{stripesOf}
 use Rattle.disk.specs.Image.{fitsImage}
-use Rattle.disk.specs.Tests.{and-left, and-right}
+use Rattle.disk.specs.Tests.{and-right}
 use Rattle.disk.specs.declared.geometry.Geometry.{Geometry}
-use Rattle.disk.specs.declared.refusal.Refusal.{Refusal}
 use Rattle.disk.specs.declared.refusal.Outcome.{Outcome}
 use Rattle.disk.specs.declared.refusal.Outcome.the-variants.{Done, Refused}
 use Rattle.label.specs.Fields.{geometryOf, fitsOf}

@@ -1,25 +1,24 @@
 -- Write: when it is refused, the state with which it begins, and what it leaves in the work area. Assumes nothing.
-use mathlib.Core.Path.{_≡_, refl, sym, ap, subst, _∙_}
-use mathlib.Core.Bool.{Bool, true, false, _&&_}
+use mathlib.Core.Path.{_≡_, sym, ap, subst, _∙_}
+use mathlib.Core.Bool.{Bool, true, false}
 use mathlib.Core.List.{List, _++_}
-use Prim.Native.Nat.{ℕ, _+_, _*_, _≤_, _<_, _/_, _%_}
+use Prim.Native.Nat.{ℕ, _+_, _*_, _<_, _/_, _%_}
 use native.Mathlib.Omega.{arith}
-use lib.Dec.{ltb, eqb}
-use lib.ListN.{length, take, drop, length-append}
+use lib.Dec.{ltb}
+use lib.ListN.{length, take, drop}
 use lib.Seq.{length-take-le, take-at, drop-at}
 use borrow.Author.Tests.{ltb-true, lt-ltb, eq-eqb}
 use Rattle.disk.specs.Limits.{sectorBytes}
-use Rattle.disk.specs.Geometry.{stripesOf, splits, blocksOf, block-inside}
+use Rattle.disk.specs.Geometry.{stripesOf, blocksOf, block-inside}
 use Rattle.disk.specs.Image.{fitsImage}
 use Rattle.disk.specs.declared.geometry.Geometry.{Geometry}
 use Rattle.disk.specs.declared.refusal.Outcome.{Outcome}
 use Rattle.disk.specs.declared.refusal.Outcome.the-variants.{Done, Refused}
-use Rattle.disk.specs.declared.refusal.Refusal.the-variants.{NotNow, BadImage, NoLabel}
-use Rattle.label.specs.Fields.{geometryOf, fitsOf}
-use Rattle.label.specs.Newest.{allOf}
+use Rattle.disk.specs.declared.refusal.Refusal.the-variants.{NotNow, BadImage}
+use Rattle.label.specs.Fields.{geometryOf}
 use Rattle.label.proofs.Fits.{fits-says}
 use Rattle.label.specs.declared.fields.Label.{Label}
-use Rattle.requests.specs.Begun.{workBytes, first}
+use Rattle.requests.specs.Begun.{first}
 use Rattle.requests.specs.Ready.{isIdle, hasShelf, readyOf}
 use Rattle.requests.specs.Accepted.{passed, ready-done}
 use Rattle.shelf.specs.declared.state.State.{State}
@@ -27,11 +26,10 @@ use Rattle.shelf.specs.declared.state.Marks.{Marks}
 use Rattle.shelf.specs.declared.state.Kind.{Kind}
 use Rattle.shelf.specs.declared.state.Kind.the-variants.{Writing}
 use Rattle.strips.specs.Seen.{shardBytes}
-use Rattle.strips.specs.Answers.{fewLost}
-use Rattle.strips.specs.Whole.{prepareAnswer, PreparedBy, AfterPrepare}
+use Rattle.strips.specs.Whole.{prepareAnswer, PreparedBy}
 use Rattle.blocks.specs.Slots.{tooFew, there, changedShards, changedSlots}
-use Rattle.blocks.specs.Answers.{answered, answered-done, sizes, blockAnswer, first-done}
-use Rattle.blocks.specs.Read.{Shows, Showing, shows, shows-block, half-le, halfOf}
+use Rattle.blocks.specs.Answers.{answered-done, sizes, blockAnswer, first-done}
+use Rattle.blocks.specs.Read.{Shows, shows, shows-block, half-le, halfOf}
 
 -- the greatest count of a stamp
 abbrev pub mostCount : ℕ
