@@ -5,3 +5,5 @@ pub mod Kept
 pub mod Act
 pub mod Step
 pub mod Says
+pub mod Laws
+pub mod Bound
