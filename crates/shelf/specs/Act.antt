@@ -1,10 +1,10 @@
 -- One action of a stage, on one slot: the answer, the state and the image that it leaves. Assumes nothing.
-use mathlib.Core.Bool.{Bool, cond}
+use mathlib.Core.Bool.{Bool, cond, _&&_}
 use mathlib.Core.List.{List}
-use Prim.Native.Nat.{ℕ, _+_, _%_}
-use lib.Dec.{ltb}
+use Prim.Native.Nat.{ℕ, _+_, _*_, _/_, _%_}
+use lib.Dec.{leb, ltb}
 use lib.ListN.{length, replicate}
-use Rattle.disk.specs.Limits.{sectorBytes, firstLog}
+use Rattle.disk.specs.Limits.{sectorBytes, mostSectors, firstLog, firstStrip}
 use Rattle.disk.specs.Geometry.{inRange, stripesOf, stripOf, found}
 use Rattle.disk.specs.Image.{putSector, putAnswer}
 use Rattle.disk.specs.Mask.{inMask}
@@ -20,6 +20,7 @@ use Rattle.label.specs.Bytes.{sealed}
 use Rattle.label.specs.declared.fields.Label.{Label}
 use Rattle.record.specs.Log.{areaOf, restoreAnswer, afterRestore}
 use Rattle.record.specs.declared.tail.Tail.{Tail}
+use Rattle.shelf.specs.Fill.{rebuildAnswer, rebuiltSector}
 use Rattle.shelf.specs.Kept.{keptOf, partOf, recordSector, loggedAnswer}
 use Rattle.shelf.specs.State.{moved}
 use Rattle.shelf.specs.declared.state.State.{State}
@@ -133,6 +134,23 @@ oddSector odd = cond odd 1 0
 unfoldable pub eraseMove : State → Geometry → ℕ → Bool → List ℕ → Move
 eraseMove s g d odd img = putMove s g d (oddSector odd) 1 (replicate sectorBytes 0) img
 
+-- sector x is one of `count` strips of c sectors, from strip `first` on
+unfoldable pub inStrips : ℕ → ℕ → ℕ → ℕ → Bool
+inStrips first count c x = leb first mostSectors && (leb count mostSectors && ltb x (count * c))
+
+-- the next sector of these strips, computed from what is believed of the others
+abbrev pub byRebuilt : Outcome → State → Geometry → ℕ → ℕ → ℕ → List ℕ → List ℕ → Move
+byRebuilt outcome.Done s g d first count work img =
+    putMove s g d (firstStrip + first * g .c + s .cursor .sector) (count * g .c)
+    (rebuiltSector (s .now) (s .absent) g d (first + s .cursor .sector / g .c) (s .cursor .sector % g .c) work img) img
+byRebuilt (outcome.Refused why) s g d first count work img = refuses s NotNow img
+
+unfoldable pub fillMove : State → Geometry → ℕ → ℕ → ℕ → List ℕ → List ℕ → Move
+fillMove s g d first count work img =
+    cond (inStrips first count (g .c) (s .cursor .sector))
+    (byRebuilt (rebuildAnswer (s .now) (s .absent) g d (first + s .cursor .sector / g .c) (s .cursor .sector % g .c) work img) s g d first count work img)
+    (refuses s NotNow img)
+
 abbrev pub actMove : State → Geometry → Stage → ℕ → List ℕ → List ℕ → Move
 actMove s g (stage.Flush slots) d work img = record { stepped = flushMove s d; image = img }
 actMove s g (stage.Give slots zeroed l) d work img = giveMove s g d zeroed l img
@@ -142,4 +160,5 @@ actMove s g (stage.Log slots t shards) d work img = logMove s g d t shards work 
 actMove s g (stage.Store slots t) d work img = storeMove s g d t work img
 actMove s g (stage.Clear slots) d work img = clearMove s g d img
 actMove s g (stage.Erase slots odd) d work img = eraseMove s g d odd img
+actMove s g (stage.Fill slots first count) d work img = fillMove s g d first count work img
 actMove s g stage.End d work img = refuses s NotNow img

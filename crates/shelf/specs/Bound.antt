@@ -3,15 +3,15 @@
 -- Assumes nothing.
 use mathlib.Core.Path.{_≡_, refl, sym, ap, ap₂, _∙_, subst}
 use mathlib.Core.Logic.{⊎-elim}
-use mathlib.Core.Bool.{Bool, true, false, cond}
+use mathlib.Core.Bool.{Bool, true, false, cond, _&&_}
 use mathlib.Core.List.{List}
-use Prim.Native.Nat.{ℕ, zero, suc, _+_, _*_, _-_, _≤_, _<_, _%_}
+use Prim.Native.Nat.{ℕ, zero, suc, _+_, _*_, _-_, _≤_, _<_, _/_, _%_}
 use native.Mathlib.Nat.{suc-mul, zero-mul, mul-zero, one-mul, mul-add, mul-le-mul-left, mul-le-mul-right}
 use native.Mathlib.Omega.{arith}
 use lib.Dec.{ltb, eqb, leb}
 use lib.ListN.{length, replicate}
 use borrow.Author.Tests.{ltb-true, ne-eqb, lt-leb}
-use Rattle.disk.specs.Limits.{sectorBytes, firstLog}
+use Rattle.disk.specs.Limits.{sectorBytes, mostSectors, firstLog, firstStrip}
 use Rattle.disk.specs.Mask.{inMask}
 use Rattle.disk.specs.Image.{lt-or-ge, fitsImage, putAnswer}
 use Rattle.disk.specs.Geometry.{inRange, stripesOf, stripOf, found}
@@ -27,15 +27,16 @@ use Rattle.label.specs.declared.fields.Label.{Label}
 use Rattle.record.specs.Log.{part, areaOf, restoreOf, restoreAnswer}
 use Rattle.shelf.specs.Limits.{mostStages}
 use Rattle.shelf.specs.State.{moved}
+use Rattle.shelf.specs.Fill.{rebuildAnswer, rebuiltSector}
 use Rattle.shelf.specs.Kept.{keptOf, partOf, recordSector, loggedAnswer}
-use Rattle.shelf.specs.Stage.{slotsOf, roundStage, lateStage, startStage, createStage, writeStage, lastStage, beginStage, stageAt, stageOf}
-use Rattle.shelf.specs.Act.{Move, refusal, refuses, onward, byOutcome, putMove, flushMove, named, giveMove, wipeMove, byStrip, byRestored, restoreMove, tailOf, byLogged, logMove, byStored, storeMove, clearMove, oddSector, eraseMove, actMove}
+use Rattle.shelf.specs.Stage.{slotsOf, roundStage, lateStage, startStage, createStage, writeStage, lastStage, beginStage, fillStage, stageAt, stageOf}
+use Rattle.shelf.specs.Act.{Move, refusal, refuses, onward, byOutcome, putMove, flushMove, named, giveMove, wipeMove, byStrip, byRestored, restoreMove, tailOf, byLogged, logMove, byStored, storeMove, clearMove, oddSector, eraseMove, inStrips, byRebuilt, fillMove, actMove}
 use Rattle.shelf.specs.Step.{seek, isEnd, finished, onStage, nextSlot, walk, byAnswer, keeps, sound, stepMove}
 use Rattle.shelf.specs.Says.{unless, sound-says}
 use Rattle.shelf.specs.declared.state.State.{State}
 use Rattle.shelf.specs.declared.state.Stepped.{Stepped}
 use Rattle.shelf.specs.declared.state.Kind.{Kind}
-use Rattle.shelf.specs.declared.state.Kind.the-variants.{Nothing, Idle, Creating, Starting, Labelling, Writing, Beginning}
+use Rattle.shelf.specs.declared.state.Kind.the-variants.{Nothing, Idle, Creating, Starting, Labelling, Writing, Beginning, Filling}
 use Rattle.shelf.specs.declared.state.Answer.{Answer}
 use Rattle.shelf.specs.declared.state.Answer.the-variants.{Put, Flush, Done, Refused}
 use Rattle.shelf.specs.declared.stage.Stage.{Stage}
@@ -66,6 +67,7 @@ widthOf (stage.Log slots t shards) c = c + 1
 widthOf (stage.Store slots t) c = c
 widthOf (stage.Clear slots) c = c + 1
 widthOf (stage.Erase slots odd) c = 1
+widthOf (stage.Fill slots first count) c = count * c
 widthOf stage.End c = 0
 
 -- which of the two they are
@@ -78,6 +80,7 @@ puts (stage.Log slots t shards) = true
 puts (stage.Store slots t) = true
 puts (stage.Clear slots) = true
 puts (stage.Erase slots odd) = true
+puts (stage.Fill slots first count) = true
 puts stage.End = false
 
 -- of a stage that is w wide, with so many slots left, from this sector on
@@ -143,6 +146,7 @@ stagesOf Starting = 13
 stagesOf Labelling = 2
 stagesOf Writing = 4
 stagesOf Beginning = 11
+stagesOf Filling = 4
 
 round-past : (i slots : ℕ) (l : Label) → 2 ≤ i → roundStage i slots l ≡ stage.End
 unfolding roundStage
@@ -164,7 +168,7 @@ last-past s i h =
     ∙ round-past (i - 4) (s .marks .present) (s .next) (omega arith)
 
 past : (kind : Kind) (s : State) (i : ℕ) → stagesOf kind ≤ i → stageAt kind s i ≡ stage.End
-unfolding createStage startStage writeStage beginStage
+unfolding createStage startStage writeStage beginStage fillStage
 past Nothing s i h = refl
 past Idle s i h = refl
 past Creating s i h = unless (eqb i 0) _ _ (ne-eqb i 0 (λ e. omega arith)) ∙ round-past (i - 1) (s .marks .present) (s .next) (omega arith)
@@ -179,6 +183,9 @@ past Beginning s i h =
     unless (eqb i 0) _ _ (ne-eqb i 0 (λ e. omega arith)) ∙ unless (eqb i 1) _ _ (ne-eqb i 1 (λ e. omega arith))
     ∙ unless (eqb i 2) _ _ (ne-eqb i 2 (λ e. omega arith)) ∙ unless (eqb i 3) _ _ (ne-eqb i 3 (λ e. omega arith))
     ∙ unless (eqb i 4) _ _ (ne-eqb i 4 (λ e. omega arith)) ∙ last-past s (i - 5) (omega arith)
+past Filling s i h =
+    unless (eqb i 0) _ _ (ne-eqb i 0 (λ e. omega arith)) ∙ unless (eqb i 1) _ _ (ne-eqb i 1 (λ e. omega arith))
+    ∙ round-past (i - 2) (s .marks .present) (s .next) (omega arith)
 
 few-stages : (kind : Kind) → stagesOf kind ≤ mostStages
 few-stages Nothing = omega arith
@@ -188,11 +195,12 @@ few-stages Starting = omega arith
 few-stages Labelling = omega arith
 few-stages Writing = omega arith
 few-stages Beginning = omega arith
+few-stages Filling = omega arith
 
 -- ---- only the cursor moves
 
 stage-moved : (kind : Kind) (s : State) (i j e u : ℕ) → stageAt kind (moved s j e u) i ≡ stageAt kind s i
-unfolding createStage startStage lateStage writeStage beginStage lastStage
+unfolding createStage startStage lateStage writeStage beginStage lastStage fillStage
 stage-moved Nothing s i j e u = refl
 stage-moved Idle s i j e u = refl
 stage-moved Creating s i j e u = refl
@@ -200,6 +208,7 @@ stage-moved Starting s i j e u = refl
 stage-moved Labelling s i j e u = refl
 stage-moved Writing s i j e u = refl
 stage-moved Beginning s i j e u = refl
+stage-moved Filling s i j e u = refl
 
 -- ---- the slots that are left in a stage
 
@@ -466,6 +475,38 @@ clear-onward s g d img = by (ltb (g .c) (s .cursor .sector))
     by true e = not-acted e
     by false e = put-onward s g d (firstLog + s .cursor .sector) (g .c + 1) (replicate sectorBytes 0) img e
 
+-- and one of the strips that are rebuilt shows that there are some
+fill-onward : (s : State) (g : Geometry) (d first count : ℕ) (work img : List ℕ) → acted (fillMove s g d first count work img .stepped .answer) ≡ true
+    → Onward s d (count * g .c) true (fillMove s g d first count work img .stepped)
+unfolding fillMove
+fill-onward s g d first count work img =
+    by (inStrips first count (g .c) (s .cursor .sector))
+    (rebuildAnswer (s .now) (s .absent) g d (first + s .cursor .sector / g .c) (s .cursor .sector % g .c) work img)
+  where
+    move : Bool → Outcome → Move
+    move b o = cond {A = Move} b (byRebuilt o s g d first count work img) (refuses s NotNow img)
+
+    by : (b : Bool) (o : Outcome) → acted (move b o .stepped .answer) ≡ true → Onward s d (count * g .c) true (move b o .stepped)
+    by true outcome.Done e =
+        put-onward s g d (firstStrip + first * g .c + s .cursor .sector) (count * g .c)
+        (rebuiltSector (s .now) (s .absent) g d (first + s .cursor .sector / g .c) (s .cursor .sector % g .c) work img) img e
+    by true (outcome.Refused why) e = not-acted e
+    by false o e = not-acted e
+
+fill-some : (s : State) (g : Geometry) (d first count : ℕ) (work img : List ℕ) → acted (fillMove s g d first count work img .stepped .answer) ≡ true
+    → 1 ≤ count * g .c
+unfolding fillMove inStrips
+fill-some s g d first count work img =
+    by (leb first mostSectors) (leb count mostSectors) (ltb (s .cursor .sector) (count * g .c)) refl
+    (rebuildAnswer (s .now) (s .absent) g d (first + s .cursor .sector / g .c) (s .cursor .sector % g .c) work img)
+  where
+    by : (x y z : Bool) → ltb (s .cursor .sector) (count * g .c) ≡ z → (o : Outcome)
+        → acted (cond {A = Move} (x && (y && z)) (byRebuilt o s g d first count work img) (refuses s NotNow img) .stepped .answer) ≡ true → 1 ≤ count * g .c
+    by true true true q o e = omega (arith, ltb-true (s .cursor .sector) (count * g .c) q)
+    by true true false q o e = not-acted e
+    by true false z q o e = not-acted e
+    by false y z q o e = not-acted e
+
 act-onward : (s : State) (g : Geometry) (x : Stage) (d : ℕ) (work img : List ℕ) → acted (actMove s g x d work img .stepped .answer) ≡ true
     → Onward s d (widthOf x (g .c)) (puts x) (actMove s g x d work img .stepped)
 unfolding wipeMove eraseMove
@@ -477,18 +518,21 @@ act-onward s g (stage.Log slots t shards) d work img e = log-onward s g d t shar
 act-onward s g (stage.Store slots t) d work img e = store-onward s g d t work img e
 act-onward s g (stage.Clear slots) d work img e = clear-onward s g d img e
 act-onward s g (stage.Erase slots odd) d work img e = put-onward s g d (oddSector odd) 1 (replicate sectorBytes 0) img e
+act-onward s g (stage.Fill slots first count) d work img e = fill-onward s g d first count work img e
 act-onward s g stage.End d work img e = not-acted e
 
-width-some : (x : Stage) (c : ℕ) → isEnd x ≡ false → 1 ≤ c → 1 ≤ widthOf x c
-width-some (stage.Flush slots) c e h = omega arith
-width-some (stage.Give slots zeroed l) c e h = omega arith
-width-some (stage.Wipe slots) c e h = omega arith
-width-some (stage.Restore slots t) c e h = h
-width-some (stage.Log slots t shards) c e h = omega arith
-width-some (stage.Store slots t) c e h = h
-width-some (stage.Clear slots) c e h = omega arith
-width-some (stage.Erase slots odd) c e h = omega arith
-width-some stage.End c e h = not-acted (sym e)
+width-some : (s : State) (g : Geometry) (x : Stage) (d : ℕ) (work img : List ℕ) → 1 ≤ g .c → acted (actMove s g x d work img .stepped .answer) ≡ true
+    → 1 ≤ widthOf x (g .c)
+width-some s g (stage.Flush slots) d work img h e = omega arith
+width-some s g (stage.Give slots zeroed l) d work img h e = omega arith
+width-some s g (stage.Wipe slots) d work img h e = omega arith
+width-some s g (stage.Restore slots t) d work img h e = h
+width-some s g (stage.Log slots t shards) d work img h e = omega arith
+width-some s g (stage.Store slots t) d work img h e = h
+width-some s g (stage.Clear slots) d work img h e = omega arith
+width-some s g (stage.Erase slots odd) d work img h e = omega arith
+width-some s g (stage.Fill slots first count) d work img h e = fill-some s g d first count work img e
+width-some s g stage.End d work img h e = not-acted e
 
 price-is : (a b : ℕ) (x : Answer) → acted x ≡ true → price a b x ≡ cond (isPut x) a b
 price-is a b (Put d to) e = refl
@@ -530,7 +574,7 @@ walk-falls a b (suc k) s work img h =
         let o = act-onward s g (stageOf s) d work img e in
         let p : price a b (this .stepped .answer) ≡ cond (puts (stageOf s)) a b =
         price-is a b (this .stepped .answer) e ∙ ap (λ (z : Bool). cond z a b) (o .1) in
-        let f = onward-falls a b s (width-some (stageOf s) (s .now .c) q h) (ltb-true d (slots s) l) in
+        let f = onward-falls a b s (width-some s g (stageOf s) d work img h e) (ltb-true d (slots s) l) in
         omega (arith, ap (left a b) (o .0), p, f)
     by false false q l r e = omega (arith, r e, stage-falls a b s)
 
@@ -637,6 +681,12 @@ module _ (a b : ℕ) where
     unfolding later beginStage lastStage roundStage
     begin-begins = refl
 
+    fill-begins : sizeOf a b s (stageAt Filling s 0) + later a b Filling s 13 1
+        ≡ giving (s .marks .redo) (s .marks .stripe * s .now .c) + (flushing (s .marks .redo)
+        + (giving (s .marks .present) 1 + (flushing (s .marks .present) + later a b Filling s 10 4)))
+    unfolding later fillStage roundStage
+    fill-begins = refl
+
 -- create: a flush of each slot, a put of each, a flush of each
 pub creating-steps : {p f : ℕ} {s : State} → Fresh Creating s → Steps p f s → p + f ≤ 3 * slots s
 creating-steps {p} {f} {s} h r =
@@ -701,4 +751,14 @@ pub beginning-steps : {p f : ℕ} {s : State} → Fresh Beginning s → Steps p 
 beginning-steps {p} {f} {s} h r = (
   omega (arith, steps-left 1 0 r, fresh-left 1 0 Beginning s h, begin-begins 1 0 s, later-past 1 0 Beginning s 3 11 (omega arith)),
   omega (arith, steps-left 0 1 r, fresh-left 0 1 Beginning s h, begin-begins 0 1 s, later-past 0 1 Beginning s 3 11 (omega arith)),
+)
+
+-- a rebuild: the sectors of its strips on the slot, and one put for each present slot; a flush of the slot, and one of each
+-- present slot
+pub filling-steps : {p f : ℕ} {s : State} → Fresh Filling s → Steps p f s
+    → (p ≤ many (s .marks .redo) s * (s .marks .stripe * s .now .c) + many (s .marks .present) s)
+    × (f ≤ many (s .marks .redo) s + many (s .marks .present) s)
+filling-steps {p} {f} {s} h r = (
+  omega (arith, steps-left 1 0 r, fresh-left 1 0 Filling s h, fill-begins 1 0 s, later-past 1 0 Filling s 10 4 (omega arith)),
+  omega (arith, steps-left 0 1 r, fresh-left 0 1 Filling s h, fill-begins 0 1 s, later-past 0 1 Filling s 10 4 (omega arith)),
 )

@@ -3,17 +3,19 @@
 -- one. Assumes nothing.
 use mathlib.Core.Path.{_≡_, refl, sym, ap, ap₂, _∙_, subst}
 use mathlib.Core.Logic.{_⊎_}
-use mathlib.Core.Bool.{Bool, true, false, cond, _&&_}
-use mathlib.Core.List.{List, []}
-use Prim.Native.Nat.{ℕ, zero, suc, _+_, _*_, _≤_, _<_, _%_}
+use mathlib.Core.Bool.{Bool, true, false, cond, not, _&&_, true≢false}
+use mathlib.Core.List.{List, [], _∷_}
+use Prim.Native.Nat.{ℕ, zero, suc, _+_, _*_, _≤_, _<_, _/_, _%_}
 use native.Mathlib.Omega.{arith}
 use lib.Dec.{ltb, eqb}
 use lib.ListN.{length, replicate, getD, take, drop, length-take, length-drop, length-append}
+use lib.Seq.{getD-take, getD-drop}
 use borrow.Author.Tests.{ltb-true, eqb-true, eqb-false}
-use Rattle.disk.specs.Limits.{sectorBytes, firstLog}
-use Rattle.disk.specs.Mask.{inMask}
+use Rattle.disk.specs.Limits.{sectorBytes, firstLog, firstStrip}
+use Rattle.disk.specs.Tests.{and-right}
+use Rattle.disk.specs.Mask.{inMask, mask-below}
 use Rattle.disk.specs.Image.{place, sector, putSector, Shape, fitsImage, onShelf, putAnswer, fits-image, on-shelf, place-fits, length-put, sector-put, sector-put-other, byte-put-other}
-use Rattle.disk.specs.Geometry.{inRange, stripLength, stripesOf, stripOf, found}
+use Rattle.disk.specs.Geometry.{inRange, stripLength, stripesOf, stripOf, shardOf, found, strip-inside}
 use Rattle.disk.specs.declared.geometry.Geometry.{Geometry}
 use Rattle.disk.specs.declared.geometry.Found.{Found}
 use Rattle.disk.specs.declared.geometry.Found.the-variants as spot
@@ -25,10 +27,15 @@ use Rattle.label.specs.Fields.{geometryOf, fitsOf}
 use Rattle.label.specs.Bytes.{sealed}
 use Rattle.label.specs.declared.fields.Label.{Label}
 use Rattle.record.specs.Log.{part, areaOf, restoreOf, restoreAnswer, area-part}
+use Rattle.position.specs.Row.{listed, listed-length}
+use Rattle.strips.specs.Seen.{shownByte, shardShown}
+use Rattle.strips.specs.Answers.{shownAnswer, shown-done}
+use Rattle.strips.specs.Laws.{shown-blind}
 use Rattle.shelf.specs.Limits.{mostStages}
+use Rattle.shelf.specs.Fill.{present, believedSlots, seenSlots, stripeIn, shownFrom, rebuildAnswer, rebuiltSector}
 use Rattle.shelf.specs.Kept.{keptOf, partOf, recordSector, loggedAnswer}
 use Rattle.shelf.specs.Stage.{stageOf}
-use Rattle.shelf.specs.Act.{Move, refusal, refuses, onward, byOutcome, putMove, flushMove, named, giveMove, wipeMove, byStrip, byRestored, restoreMove, tailOf, byLogged, logMove, byStored, storeMove, clearMove, oddSector, eraseMove, actMove}
+use Rattle.shelf.specs.Act.{Move, refusal, refuses, onward, byOutcome, putMove, flushMove, named, giveMove, wipeMove, byStrip, byRestored, restoreMove, tailOf, byLogged, logMove, byStored, storeMove, clearMove, oddSector, eraseMove, inStrips, byRebuilt, fillMove, actMove}
 use Rattle.shelf.specs.Step.{isEnd, finished, onStage, nextSlot, walk, byAnswer, kept, keeps, sound, stepMove}
 use Rattle.shelf.specs.Says.{when}
 use Rattle.shelf.specs.declared.state.State.{State}
@@ -144,6 +151,19 @@ clear-legal s g d img = by (ltb (g .c) (s .cursor .sector))
     by true = refl
     by false = put-legal s g d (firstLog + s .cursor .sector) (g .c + 1) (replicate sectorBytes 0) img
 
+fill-legal : (s : State) (g : Geometry) (d first count : ℕ) (work img : List ℕ) → LegalMove s g img (fillMove s g d first count work img)
+unfolding fillMove
+fill-legal s g d first count work img =
+    by (inStrips first count (g .c) (s .cursor .sector))
+    (rebuildAnswer (s .now) (s .absent) g d (first + s .cursor .sector / g .c) (s .cursor .sector % g .c) work img)
+  where
+    by : (b : Bool) (o : Outcome) → LegalMove s g img (cond {A = Move} b (byRebuilt o s g d first count work img) (refuses s NotNow img))
+    by true outcome.Done =
+        put-legal s g d (firstStrip + first * g .c + s .cursor .sector) (count * g .c)
+        (rebuiltSector (s .now) (s .absent) g d (first + s .cursor .sector / g .c) (s .cursor .sector % g .c) work img) img
+    by true (outcome.Refused why) = refl
+    by false o = refl
+
 act-legal : (s : State) (g : Geometry) (x : Stage) (d : ℕ) (work img : List ℕ) → d < g .n → LegalMove s g img (actMove s g x d work img)
 unfolding wipeMove eraseMove
 act-legal s g (stage.Flush slots) d work img l = flush-legal s g d img l
@@ -154,6 +174,7 @@ act-legal s g (stage.Log slots t shards) d work img l = log-legal s g d t shards
 act-legal s g (stage.Store slots t) d work img l = store-legal s g d t work img
 act-legal s g (stage.Clear slots) d work img l = clear-legal s g d img
 act-legal s g (stage.Erase slots odd) d work img l = put-legal s g d (oddSector odd) 1 (replicate sectorBytes 0) img
+act-legal s g (stage.Fill slots first count) d work img l = fill-legal s g d first count work img
 act-legal s g stage.End d work img l = refl
 
 walk-legal : (k : ℕ) (s : State) (g : Geometry) (work img : List ℕ) → LegalMove s g img (walk k s g work img)
@@ -366,6 +387,47 @@ clear-blind s g d img jmg e = by (ltb (g .c) (s .cursor .sector))
     by true = refl
     by false = put-blind s g d (firstLog + s .cursor .sector) (g .c + 1) (replicate sectorBytes 0) (replicate sectorBytes 0) img jmg refl e
 
+-- whether a sector can be rebuilt is no matter of what the disks hold, and its length is a sector's
+rebuild-blind : (l : Label) (absent : ℕ) (g : Geometry) (d t j : ℕ) (work img jmg : List ℕ) → length img ≡ length jmg
+    → rebuildAnswer l absent g d t j work img ≡ rebuildAnswer l absent g d t j work jmg
+unfolding rebuildAnswer
+rebuild-blind l absent g d t j work img jmg e = by (found (inRange g) (ltb t (stripesOf g) && ltb d (g .n)) (shardOf (g .n) t d))
+  where
+    by : (f : Found) → shownFrom f l absent g t j work img ≡ shownFrom f l absent g t j work jmg
+    by (spot.At r) =
+        ap (λ (k : ℕ). shownAnswer g (l .k) k t r j 1 (seenSlots g l absent t) (length (stripeIn g work)) (g .n * sectorBytes) sectorBytes) e
+    by (spot.Refused why) = refl
+
+rebuilt-length : (l : Label) (absent : ℕ) (g : Geometry) (d t j : ℕ) (work img : List ℕ) → length (rebuiltSector l absent g d t j work img) ≡ sectorBytes
+unfolding rebuiltSector shardShown
+rebuilt-length l absent g d t j work img = listed-length (1 * sectorBytes) _
+
+fill-blind : (s : State) (g : Geometry) (d first count : ℕ) (work img jmg : List ℕ) → length img ≡ length jmg
+    → fillMove s g d first count work img .stepped ≡ fillMove s g d first count work jmg .stepped
+unfolding fillMove
+fill-blind s g d first count work img jmg e =
+    by (inStrips first count (g .c) (s .cursor .sector)) (rebuildAnswer (s .now) (s .absent) g d t j work img)
+    ∙ ap (λ (o : Outcome). move (inStrips first count (g .c) (s .cursor .sector)) o jmg .stepped) (rebuild-blind (s .now) (s .absent) g d t j work img jmg e)
+  where
+    t : ℕ
+    t = first + s .cursor .sector / g .c
+
+    j : ℕ
+    j = s .cursor .sector % g .c
+
+    v : List ℕ → List ℕ
+    v x = rebuiltSector (s .now) (s .absent) g d t j work x
+
+    move : Bool → Outcome → List ℕ → Move
+    move b o x = cond {A = Move} b (byRebuilt o s g d first count work x) (refuses s NotNow x)
+
+    by : (b : Bool) (o : Outcome) → move b o img .stepped ≡ move b o jmg .stepped
+    by true outcome.Done =
+        put-blind s g d (firstStrip + first * g .c + s .cursor .sector) (count * g .c) (v img) (v jmg) img jmg
+        (rebuilt-length (s .now) (s .absent) g d t j work img ∙ sym (rebuilt-length (s .now) (s .absent) g d t j work jmg)) e
+    by true (outcome.Refused why) = refl
+    by false o = refl
+
 act-blind : (s : State) (g : Geometry) (x : Stage) (d : ℕ) (work img jmg : List ℕ) → length img ≡ length jmg
     → actMove s g x d work img .stepped ≡ actMove s g x d work jmg .stepped
 unfolding wipeMove eraseMove
@@ -377,6 +439,7 @@ act-blind s g (stage.Log slots t shards) d work img jmg e = log-blind s g d t sh
 act-blind s g (stage.Store slots t) d work img jmg e = store-blind s g d t work img jmg e
 act-blind s g (stage.Clear slots) d work img jmg e = clear-blind s g d img jmg e
 act-blind s g (stage.Erase slots odd) d work img jmg e = put-blind s g d (oddSector odd) 1 (replicate sectorBytes 0) (replicate sectorBytes 0) img jmg refl e
+act-blind s g (stage.Fill slots first count) d work img jmg e = fill-blind s g d first count work img jmg e
 act-blind s g stage.End d work img jmg e = refl
 
 walk-blind : (k : ℕ) (s : State) (g : Geometry) (work img jmg : List ℕ) → length img ≡ length jmg → walk k s g work img .stepped ≡ walk k s g work jmg .stepped
@@ -447,6 +510,28 @@ restored-inside c j la = by (stripLength c) (ltb j c) (eqb la ((c + 1) * sectorB
     by true true z h e = ltb-true j c h
     by true false z h e = absurd (let w : _≡_ {A = ℕ} 0 1 = cc in omega arith)
     by false y z h e = absurd (let w : _≡_ {A = ℕ} 0 1 = cc in omega arith)
+
+listed-same : (n : ℕ) (f h : ℕ → ℕ) → ((i : ℕ) → i < n → f i ≡ h i) → listed n f ≡ listed n h
+unfolding listed
+listed-same zero f h e = refl
+listed-same (suc n) f h e =
+    ap₂ (λ (x : ℕ) (y : List ℕ). x ∷ y) (e 0 (omega arith)) (listed-same n (λ i. f (suc i)) (λ i. h (suc i)) (λ i l. e (suc i) (omega arith)))
+
+-- a byte of a sector
+sector-byte : (S : ℕ) (img : List ℕ) (d u p : ℕ) → p < sectorBytes → getD (sector S img d u) p 0 ≡ getD img (place S d u + p) 0
+unfolding sector
+sector-byte S img d u p h = getD-take sectorBytes (drop (place S d u) img) p 0 h ∙ getD-drop (place S d u) img p 0
+
+-- a slot that is seen is present
+seen-present : (g : Geometry) (l : Label) (absent t e : ℕ) → e < g .n → inMask (seenSlots g l absent t) e ≡ true → inMask absent e ≡ false
+unfolding seenSlots present
+seen-present g l absent t e h q =
+    let p = sym (mask-below (λ d. inMask (believedSlots g l t) d && not (inMask absent d)) (g .n) e h) ∙ q in
+    by (inMask absent e) refl (and-right (inMask (believedSlots g l t) e) _ p)
+  where
+    by : (b : Bool) → inMask absent e ≡ b → not b ≡ true → inMask absent e ≡ false
+    by true x y = absurd (true≢false (sym y))
+    by false x y = x
 
 put-absent : (s : State) (g : Geometry) (d to count : ℕ) (v img : List ℕ) → inMask (s .absent) d ≡ true → putMove s g d to count v img .image ≡ img
 unfolding putMove
@@ -582,6 +667,75 @@ module _ (g : Geometry) (img jmg : List ℕ) (same : length img ≡ length jmg) 
       by true = a
       by false = move-agree s d (firstLog + s .cursor .sector) (g .c + 1) (replicate sectorBytes 0) a
 
+  rebuilt-agree : (l : Label) (absent d t j : ℕ) (work : List ℕ) → rebuildAnswer l absent g d t j work img ≡ outcome.Done → Agree absent g img jmg
+      → rebuiltSector l absent g d t j work img ≡ rebuiltSector l absent g d t j work jmg
+  unfolding rebuildAnswer rebuiltSector shardShown
+  rebuilt-agree l absent d t j work told a = by (inRange g) (ltb t (stripesOf g) && ltb d (g .n)) told
+    where
+      r : ℕ
+      r = shardOf (g .n) t d
+
+      there : ℕ
+      there = seenSlots g l absent t
+
+      shown : shownAnswer g (l .k) (length img) t r j 1 there (length (stripeIn g work)) (g .n * sectorBytes) sectorBytes ≡ outcome.Done
+          → listed (1 * sectorBytes) (λ p. shownByte g (l .k) img there 0 (stripeIn g work) t r (j * sectorBytes + p))
+          ≡ listed (1 * sectorBytes) (λ p. shownByte g (l .k) jmg there 0 (stripeIn g work) t r (j * sectorBytes + p))
+      shown e =
+          let h = shown-done g (l .k) img (stripeIn g work) t r j 1 there (g .n * sectorBytes) sectorBytes e in
+          let b = h .0 in
+          let u : ℕ = stripOf g t in
+          listed-same (1 * sectorBytes) _ _ (λ p lp.
+          shown-blind g (l .k) img jmg there 0 (stripeIn g work) t r (j * sectorBytes + p) (omega (arith, h .1 .parity)) (h .3)
+          (λ e he q.
+          let lp' : p < sectorBytes = lp in
+          let z : place (g .sectors) e u + (j * sectorBytes + p) ≡ place (g .sectors) e (u + j) + p = omega arith in
+          ap (λ (x : ℕ). getD img x 0) z ∙ sym (sector-byte (g .sectors) img e (u + j) p lp')
+          ∙ ap (λ (x : List ℕ). getD x p 0) (a e (u + j) he (omega (arith, strip-inside g (b .range) t (b .stripe), b .within)) (seen-present g l absent t e he q))
+          ∙ sector-byte (g .sectors) jmg e (u + j) p lp' ∙ ap (λ (x : ℕ). getD jmg x 0) (sym z)))
+
+      by : (x y : Bool) → shownFrom (found x y r) l absent g t j work img ≡ outcome.Done
+          → listed (1 * sectorBytes) (λ p. shownByte g (l .k) img there 0 (stripeIn g work) t r (j * sectorBytes + p))
+          ≡ listed (1 * sectorBytes) (λ p. shownByte g (l .k) jmg there 0 (stripeIn g work) t r (j * sectorBytes + p))
+      by true true e = shown e
+      by true false e = absurd (let w : _≡_ {A = ℕ} 0 1 = cc in omega arith)
+      by false y e = absurd (let w : _≡_ {A = ℕ} 0 1 = cc in omega arith)
+
+  fill-agree : (s : State) (d first count : ℕ) (work : List ℕ) → Agree (s .absent) g img jmg
+      → Agree (s .absent) g (fillMove s g d first count work img .image) (fillMove s g d first count work jmg .image)
+  unfolding fillMove
+  fill-agree s d first count work a =
+      subst (λ (o : Outcome). Agree (s .absent) g (move b (answer img) img .image) (move b o jmg .image)) (rebuild-blind (s .now) (s .absent) g d t j work img jmg same)
+      (by b (answer img) refl)
+    where
+      t : ℕ
+      t = first + s .cursor .sector / g .c
+
+      j : ℕ
+      j = s .cursor .sector % g .c
+
+      b : Bool
+      b = inStrips first count (g .c) (s .cursor .sector)
+
+      answer : List ℕ → Outcome
+      answer x = rebuildAnswer (s .now) (s .absent) g d t j work x
+
+      v : List ℕ → List ℕ
+      v x = rebuiltSector (s .now) (s .absent) g d t j work x
+
+      to : ℕ
+      to = firstStrip + first * g .c + s .cursor .sector
+
+      move : Bool → Outcome → List ℕ → Move
+      move y o x = cond {A = Move} y (byRebuilt o s g d first count work x) (refuses s NotNow x)
+
+      by : (y : Bool) (o : Outcome) → answer img ≡ o → Agree (s .absent) g (move y o img .image) (move y o jmg .image)
+      by true outcome.Done e =
+          subst (λ (x : List ℕ). Agree (s .absent) g (putMove s g d to (count * g .c) (v img) img .image) (putMove s g d to (count * g .c) x jmg .image))
+          (rebuilt-agree (s .now) (s .absent) d t j work e a) (move-agree s d to (count * g .c) (v img) a)
+      by true (outcome.Refused why) e = a
+      by false o e = a
+
   act-agree : (s : State) (x : Stage) (d : ℕ) (work : List ℕ) → Agree (s .absent) g img jmg
       → Agree (s .absent) g (actMove s g x d work img .image) (actMove s g x d work jmg .image)
   unfolding wipeMove eraseMove
@@ -593,6 +747,7 @@ module _ (g : Geometry) (img jmg : List ℕ) (same : length img ≡ length jmg) 
   act-agree s (stage.Store slots t) d work a = store-agree s d t work a
   act-agree s (stage.Clear slots) d work a = clear-agree s d a
   act-agree s (stage.Erase slots odd) d work a = move-agree s d (oddSector odd) 1 (replicate sectorBytes 0) a
+  act-agree s (stage.Fill slots first count) d work a = fill-agree s d first count work a
   act-agree s stage.End d work a = a
 
 walk-agree : (k : ℕ) (s : State) (g : Geometry) (work img jmg : List ℕ) → length img ≡ length jmg → Agree (s .absent) g img jmg

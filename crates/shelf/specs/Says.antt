@@ -2,14 +2,15 @@
 use mathlib.Core.Path.{_≡_, refl, sym, ap, ap₂, _∙_}
 use mathlib.Core.Bool.{Bool, true, false, cond, _&&_}
 use mathlib.Core.List.{List, []}
-use Prim.Native.Nat.{ℕ, suc, _+_, _-_, _*_, _≤_, _<_, _%_}
-use native.Mathlib.Nat.{mul-le-mul}
+use Prim.Native.Nat.{ℕ, suc, _+_, _-_, _*_, _≤_, _<_, _/_, _%_}
+use mathlib.Core.Logic.{⊎-elim}
+use native.Mathlib.Nat.{mul-le-mul, eq-zero-or-pos, div-le-self}
 use native.Mathlib.Numerals.{add-one}
 use native.Mathlib.Omega.{arith}
 use lib.Dec.{ltb, leb}
 use lib.ListN.{length, replicate, take, drop}
 use borrow.Author.Tests.{ltb-true, leb-true, lt-ltb, le-ltb}
-use Rattle.disk.specs.Limits.{mostN, mostC, mostSectors, sectorBytes, firstLog}
+use Rattle.disk.specs.Limits.{mostN, mostC, mostSectors, sectorBytes, firstLog, firstStrip}
 use Rattle.disk.specs.Tests.{and-left, and-right}
 use Rattle.disk.specs.Mask.{inMask}
 use Rattle.disk.specs.Image.{fitsImage}
@@ -30,8 +31,11 @@ use Rattle.record.specs.Tail.{tailAnswer, afterTail}
 use Rattle.record.specs.declared.tail.Tail.{Tail}
 use Rattle.shelf.specs.Limits.{mostStages}
 use Rattle.shelf.specs.Kept.{shardAt, keptOf, partOf, recordSector, loggedAnswer, afterLogged}
+use Rattle.strips.specs.Seen.{shardShown}
+use Rattle.strips.specs.Answers.{shownAnswer, afterShown}
+use Rattle.shelf.specs.Fill.{seenSlots, stripeIn, shownFrom, rebuildAnswer, rebuiltSector, afterRebuild}
 use Rattle.shelf.specs.Stage.{slotsOf, stageOf}
-use Rattle.shelf.specs.Act.{refuses, putMove, named, giveMove, byStrip, byRestored, restoreMove, tailOf, byLogged, logMove, byStored, storeMove, actMove}
+use Rattle.shelf.specs.Act.{refuses, putMove, named, giveMove, byStrip, byRestored, restoreMove, tailOf, byLogged, logMove, byStored, storeMove, inStrips, byRebuilt, fillMove, actMove}
 use Rattle.shelf.specs.Step.{seek, isEnd, finished, onStage, nextSlot, walk, keeps, underWay, sound, stepMove}
 use Rattle.shelf.specs.declared.state.State.{State}
 use Rattle.shelf.specs.declared.stage.Stage.{Stage}
@@ -321,3 +325,92 @@ pub record Walking (g : Geometry) (work img₀ : List ℕ) (s : State) (img : Li
   pub staged : t .cursor .stage ≤ mostStages + i
   pub within : t .cursor .sector < mostSectors
   pub low : t .now .generation ≤ mostGeneration
+
+-- ---- a sector that is rebuilt
+
+found-says : (g : Geometry) (b : Bool) (x r : ℕ) → found (inRange g) b x ≡ spot.At r → (inRange g ≡ true) × (x ≡ r)
+found-says g b x r e = by (inRange g) b refl e
+  where
+    by : (a b : Bool) → inRange g ≡ a → found a b x ≡ spot.At r → (inRange g ≡ true) × (x ≡ r)
+    by true true i e = let q : x ≡ r = cc in (i, q)
+    by true false i e = absurd (let z : _≡_ {A = ℕ} 0 1 = cc in omega arith)
+    by false b i e = absurd (let z : _≡_ {A = ℕ} 0 1 = cc in omega arith)
+
+-- there is such a shard, so n and c are those of a shelf
+pub shard-range : (g : Geometry) (t d r : ℕ) → found (inRange g) (ltb t (stripesOf g) && ltb d (g .n)) (shardOf (g .n) t d) ≡ spot.At r → (g .n ≤ mostN) × (g .c ≤ mostC)
+shard-range g t d r e =
+    let h = in-range g (found-says g (ltb t (stripesOf g) && ltb d (g .n)) (shardOf (g .n) t d) r e .0) in (h .few, h .short)
+
+module _ (l : Label) (absent : ℕ) (g : Geometry) (d t j : ℕ) (work img : List ℕ) (f : Found)
+    (found-is : f ≡ found (inRange g) (ltb t (stripesOf g) && ltb d (g .n)) (shardOf (g .n) t d)) where
+  from-found : (x : Found) → f ≡ x → rebuildAnswer l absent g d t j work img ≡ shownFrom x l absent g t j work img
+  unfolding rebuildAnswer
+  from-found x e = ap (λ (y : Found). shownFrom y l absent g t j work img) (sym found-is ∙ e)
+
+  pub rebuild-none : (w : Refusal) → f ≡ spot.Refused w → rebuildAnswer l absent g d t j work img ≡ outcome.Refused w
+  rebuild-none w e = from-found (spot.Refused w) e
+
+  module _ (r : ℕ) (at : f ≡ spot.At r) (there : ℕ) (seen-is : there ≡ seenSlots g l absent t) (kept : List ℕ) (kept-is : kept ≡ stripeIn g work)
+      (room size : ℕ) (room-is : room ≡ g .n * sectorBytes) (size-is : size ≡ sectorBytes) (o : Outcome)
+      (answer : o ≡ shownAnswer g (l .k) (length img) t r j 1 there (length kept) room size) where
+    pub rebuild-answer : o ≡ rebuildAnswer l absent g d t j work img
+    rebuild-answer =
+        answer ∙ (λ i. shownAnswer g (l .k) (length img) t r j 1 (seen-is i) (length (kept-is i)) (room-is i) (size-is i)) ∙ sym (from-found (spot.At r) at)
+
+    pub rebuild-leaves : (x out : List ℕ) → x ≡ afterShown o g (l .k) img there 0 kept t j 1 r out → x ≡ afterRebuild o l absent g d t j work img out
+    unfolding rebuiltSector
+    rebuild-leaves x out e = e ∙ by o
+      where
+        q : shardOf (g .n) t d ≡ r
+        q = found-says g (ltb t (stripesOf g) && ltb d (g .n)) (shardOf (g .n) t d) r (sym found-is ∙ at) .1
+
+        by : (y : Outcome) → afterShown y g (l .k) img there 0 kept t j 1 r out ≡ afterRebuild y l absent g d t j work img out
+        by outcome.Done = λ i. shardShown g (l .k) img (seen-is i) 0 (kept-is i) t j 1 (sym q i)
+        by (outcome.Refused w) = refl
+
+-- ---- the strips that are rebuilt
+
+pub record Strips (first count c x : ℕ) : Type 0 where
+  pub some : 0 < c
+  pub low : first ≤ mostSectors
+  pub before : first * c ≤ mostSectors * mostC
+  pub width : count * c ≤ mostSectors * mostC
+  pub strip : x / c ≤ x
+
+pub strips-say : (first count c x : ℕ) → c ≤ mostC → inStrips first count c x ≡ true → Strips first count c x
+unfolding inStrips
+strips-say first count c x h e =
+    let e1 = and-right (leb first mostSectors) _ e in
+    let a = leb-true first mostSectors (and-left (leb first mostSectors) _ e) in
+    let b = leb-true count mostSectors (and-left (leb count mostSectors) _ e1) in
+    let l : x < count * c = ltb-true x (count * c) (and-right (leb count mostSectors) _ e1) in
+    record {
+      some = ⊎-elim (λ (z : c ≡ 0). absurd (let q : count * c ≡ count * 0 = ap (λ (y : ℕ). count * y) z in omega (arith, q))) (λ (p : 0 < c). p) (eq-zero-or-pos c);
+      low = a;
+      before = mul-le-mul {n₂ = mostSectors} {m₂ = mostC} a h;
+      width = mul-le-mul {n₂ = mostSectors} {m₂ = mostC} b h;
+      strip = div-le-self x c;
+    }
+
+module _ (s : State) (g : Geometry) (d first count : ℕ) (work img : List ℕ) where
+  pub fill-out : inStrips first count (g .c) (s .cursor .sector) ≡ false → fillMove s g d first count work img ≡ refuses s NotNow img
+  unfolding fillMove
+  fill-out e = unless (inStrips first count (g .c) (s .cursor .sector)) _ _ e
+
+  module _ (inside : inStrips first count (g .c) (s .cursor .sector) ≡ true) (o : Outcome)
+      (answer : o ≡ rebuildAnswer (s .now) (s .absent) g d (first + s .cursor .sector / g .c) (s .cursor .sector % g .c) work img) where
+    by-rebuilt : (y : Outcome) → o ≡ y → fillMove s g d first count work img ≡ byRebuilt y s g d first count work img
+    unfolding fillMove
+    by-rebuilt y e =
+        when (inStrips first count (g .c) (s .cursor .sector)) _ _ inside ∙ ap (λ (x : Outcome). byRebuilt x s g d first count work img) (sym answer ∙ e)
+
+    pub fill-not : (w : Refusal) → o ≡ outcome.Refused w → fillMove s g d first count work img ≡ refuses s NotNow img
+    fill-not w e = by-rebuilt (outcome.Refused w) e
+
+    pub fill-put : o ≡ outcome.Done → (b z : List ℕ)
+        → b ≡ afterRebuild o (s .now) (s .absent) g d (first + s .cursor .sector / g .c) (s .cursor .sector % g .c) work img z
+        → fillMove s g d first count work img ≡ putMove s g d (firstStrip + first * g .c + s .cursor .sector) (count * g .c) b img
+    fill-put e b z leaves =
+        by-rebuilt outcome.Done e
+        ∙ ap (λ (y : List ℕ). putMove s g d (firstStrip + first * g .c + s .cursor .sector) (count * g .c) y img)
+        (sym (leaves ∙ ap (λ (x : Outcome). afterRebuild x (s .now) (s .absent) g d (first + s .cursor .sector / g .c) (s .cursor .sector % g .c) work img z) e))

@@ -6,9 +6,9 @@ use Rattle.label.specs.declared.fields.Label.{Label}
 use Rattle.shelf.specs.declared.state.State.{State}
 use Rattle.shelf.specs.declared.state.Marks.{Marks}
 use Rattle.shelf.specs.declared.state.Kind.{Kind}
-use Rattle.shelf.specs.declared.state.Kind.the-variants.{Nothing, Idle, Creating, Starting, Labelling, Writing, Beginning}
+use Rattle.shelf.specs.declared.state.Kind.the-variants.{Nothing, Idle, Creating, Starting, Labelling, Writing, Beginning, Filling}
 use Rattle.shelf.specs.declared.stage.Stage.{Stage}
-use Rattle.shelf.specs.declared.stage.Stage.the-variants.{Flush, Give, Wipe, Restore, Log, Store, Clear, Erase, End}
+use Rattle.shelf.specs.declared.stage.Stage.the-variants.{Flush, Give, Wipe, Restore, Log, Store, Clear, Erase, Fill, End}
 
 -- the label with another generation
 abbrev pub again : Label → ℕ → Label
@@ -36,6 +36,7 @@ slotsOf (Log slots stripe shards) = slots
 slotsOf (Store slots stripe) = slots
 slotsOf (Clear slots) = slots
 slotsOf (Erase slots odd) = slots
+slotsOf (Fill slots first count) = slots
 slotsOf End = 0
 
 -- a round: the label to each slot, then a flush of each
@@ -86,6 +87,12 @@ beginStage s i =
     (cond (eqb i 3) (Erase (s .marks .late) (not (s .marks .forward)))
     (cond (eqb i 4) (Flush (s .marks .late)) (lastStage s (i - 5))))))
 
+-- a rebuild: the strips from the mark on, flushed, and then the label with the mark behind them, told to all
+unfoldable pub fillStage : State → ℕ → Stage
+fillStage s i =
+    cond (eqb i 0) (Fill (s .marks .redo) (s .now .mark) (s .marks .stripe))
+    (cond (eqb i 1) (Flush (s .marks .redo)) (roundStage (i - 2) (s .marks .present) (s .next)))
+
 -- stage i of a request
 abbrev pub stageAt : Kind → State → ℕ → Stage
 stageAt Nothing s i = End
@@ -95,6 +102,7 @@ stageAt Starting s i = startStage s i
 stageAt Labelling s i = roundStage i (s .marks .present) (s .next)
 stageAt Writing s i = writeStage (s .marks) i
 stageAt Beginning s i = beginStage s i
+stageAt Filling s i = fillStage s i
 
 -- the stage at which the request is
 abbrev pub stageOf : State → Stage

@@ -16,7 +16,7 @@ use Rattle.shelf.specs.Act.{Move, refusal, refuses, actMove}
 use Rattle.shelf.specs.declared.state.State.{State}
 use Rattle.shelf.specs.declared.state.Stepped.{Stepped}
 use Rattle.shelf.specs.declared.state.Kind.{Kind}
-use Rattle.shelf.specs.declared.state.Kind.the-variants.{Nothing, Idle, Creating, Starting, Labelling, Writing, Beginning}
+use Rattle.shelf.specs.declared.state.Kind.the-variants.{Nothing, Idle, Creating, Starting, Labelling, Writing, Beginning, Filling}
 use Rattle.shelf.specs.declared.state.Answer.{Answer}
 use Rattle.shelf.specs.declared.state.Answer.the-variants.{Put, Flush, Done, Refused}
 use Rattle.shelf.specs.declared.stage.Stage.{Stage}
@@ -36,6 +36,7 @@ isEnd (stage.Log slots t shards) = false
 isEnd (stage.Store slots t) = false
 isEnd (stage.Clear slots) = false
 isEnd (stage.Erase slots odd) = false
+isEnd (stage.Fill slots first count) = false
 isEnd stage.End = true
 
 -- the request has succeeded
@@ -81,6 +82,7 @@ underWay Starting = true
 underWay Labelling = true
 underWay Writing = true
 underWay Beginning = true
+underWay Filling = true
 
 -- a state with a request under way, its fields in range
 unfoldable pub sound : State → Bool

@@ -1,4 +1,6 @@
 // One action of a stage, on one slot: at most one sector of the image changes, wholly, and only of a present slot.
+use crate::fill::in_strips;
+use crate::fill::rebuild;
 use crate::kept::kept;
 use crate::kept::part_of;
 use crate::kept::record_sector;
@@ -11,6 +13,7 @@ use disk::geometry::Found;
 use disk::geometry::Geometry;
 use disk::geometry::strip;
 use disk::limits::FIRST_LOG;
+use disk::limits::FIRST_STRIP;
 use disk::limits::SECTOR;
 use disk::mask::has;
 use disk::refusal::Outcome;
@@ -26,7 +29,7 @@ ghost use mathlib.Core.Path.{_≡_};
 ghost use Prim.Native.Nat.{_≤_, _<_, _%_};
 ghost use Rattle.disk.specs.Limits.{mostN, mostC, mostSectors};
 ghost use Rattle.disk.specs.Mask.{inMask};
-ghost use Rattle.shelf.specs.Act.{onward, refusal, putMove, flushMove, named, giveMove, wipeMove, restoreMove, tailOf, logMove, storeMove, clearMove, oddSector, eraseMove, actMove};
+ghost use Rattle.shelf.specs.Act.{onward, refusal, putMove, flushMove, named, giveMove, wipeMove, restoreMove, tailOf, logMove, storeMove, clearMove, oddSector, eraseMove, fillMove, actMove};
 
 // The state after sector `sector` of `count` was put on slot d.
 fn onward_from(s: State, d: usize, count: usize) -> State
@@ -271,6 +274,35 @@ fn erase(s: State, g: Geometry, d: usize, odd: bool, image: &mut [u8]) -> Steppe
     put_bytes(s, g, d, odd_sector(odd), 1, &b, image)
 }
 
+// Gives slot d the next sector of its strips from strip `first` on, computed from what is believed of the others.
+fn fill(
+    s: State,
+    g: Geometry,
+    d: usize,
+    first: usize,
+    count: usize,
+    work: &[u8],
+    image: &mut [u8],
+) -> Stepped
+    requires { ⌜ (d < mostN) × (s .cursor .sector < mostSectors) × (g .c ≤ mostC) ⌝ }
+    ensures { λ r. ⌜ (r ≡ fillMove s g d first count (now (work .entry)) (now (image .entry)) .stepped) × (now (image .exit) ≡ fillMove s g d first count (now (work .entry)) (now (image .entry)) .image) ⌝ }
+{
+    let x = s.cursor.sector;
+    if !in_strips(first, count, g.c, x) {
+        return refuse(s, Refusal::NotNow);
+    }
+    let mut b = [0u8; SECTOR];
+    let t = first + x / g.c;
+    let outcome = rebuild(s.now, s.absent, g, d, t, x % g.c, work, image, &mut b);
+    match outcome {
+        Outcome::Done => {
+            let to = FIRST_STRIP + first * g.c + x;
+            put_bytes(s, g, d, to, count * g.c, &b, image)
+        }
+        Outcome::Refused(_) => refuse(s, Refusal::NotNow),
+    }
+}
+
 // The next action of the stage, on slot d.
 pub(crate) fn act(
     s: State,
@@ -300,6 +332,11 @@ pub(crate) fn act(
         Stage::Store { slots: _, stripe } => store(s, g, d, stripe, work, image),
         Stage::Clear { slots: _ } => clear(s, g, d, image),
         Stage::Erase { slots: _, odd } => erase(s, g, d, odd, image),
+        Stage::Fill {
+            slots: _,
+            first,
+            count,
+        } => fill(s, g, d, first, count, work, image),
         Stage::End => refuse(s, Refusal::NotNow),
     }
 }

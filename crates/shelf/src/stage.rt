@@ -6,11 +6,11 @@ use label::fields::Label;
 ghost use mathlib.Core.Path.{_≡_};
 ghost use Prim.Native.Nat.{_≤_};
 ghost use Rattle.label.specs.Fields.{mostGeneration};
-ghost use Rattle.shelf.specs.Stage.{again, roundStage, slotsOf, lateStage, startStage, createStage, writeStage, lastStage, beginStage, stageOf};
+ghost use Rattle.shelf.specs.Stage.{again, roundStage, slotsOf, lateStage, startStage, createStage, writeStage, lastStage, beginStage, fillStage, stageOf};
 
 // What is done to each of its slots: a flush; the label, or zeros over its sector; zeros over the record's tail; the strip
 // from the record; the record of the shard that is kept in the work area, and that shard itself; zeros over the whole record;
-// zeros over one sector of the label.
+// zeros over one sector of the label; strips that are computed from those of the other slots.
 pub enum Stage {
     Flush {
         slots: u64,
@@ -42,6 +42,11 @@ pub enum Stage {
     Erase {
         slots: u64,
         odd: bool,
+    },
+    Fill {
+        slots: u64,
+        first: usize,
+        count: usize,
     },
     End,
 }
@@ -85,6 +90,11 @@ pub(crate) fn slots_of(stage: Stage) -> u64
         Stage::Store { slots, stripe: _ } => slots,
         Stage::Clear { slots } => slots,
         Stage::Erase { slots, odd: _ } => slots,
+        Stage::Fill {
+            slots,
+            first: _,
+            count: _,
+        } => slots,
         Stage::End => 0,
     }
 }
@@ -260,6 +270,26 @@ fn begin_stage(s: State, i: usize) -> Stage
     last_stage(s, i - 5)
 }
 
+// A rebuild: the strips from the mark on, flushed, and then the label with the mark behind them, told to all.
+fn fill_stage(s: State, i: usize) -> Stage
+    ensures { λ r. ⌜ r ≡ fillStage s i ⌝ }
+{
+    let marks = s.marks;
+    let now = s.now;
+    let next = s.next;
+    if i == 0 {
+        return Stage::Fill {
+            slots: marks.redo,
+            first: now.mark,
+            count: marks.stripe,
+        };
+    }
+    if i == 1 {
+        return Stage::Flush { slots: marks.redo };
+    }
+    round_stage(i - 2, marks.present, next)
+}
+
 // The stage at which the request is.
 pub(crate) fn stage_of(s: State) -> Stage
     requires { ⌜ s .now .generation ≤ mostGeneration ⌝ }
@@ -277,5 +307,6 @@ pub(crate) fn stage_of(s: State) -> Stage
         Kind::Labelling => round_stage(cursor.stage, marks.present, next),
         Kind::Writing => write_stage(marks, cursor.stage),
         Kind::Beginning => begin_stage(s, cursor.stage),
+        Kind::Filling => fill_stage(s, cursor.stage),
     }
 }

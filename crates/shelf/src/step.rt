@@ -67,6 +67,11 @@ fn is_end(stage: Stage) -> bool
         } => false,
         Stage::Clear { slots: _ } => false,
         Stage::Erase { slots: _, odd: _ } => false,
+        Stage::Fill {
+            slots: _,
+            first: _,
+            count: _,
+        } => false,
     }
 }
 
@@ -125,6 +130,7 @@ fn under_way(kind: Kind) -> bool
         Kind::Labelling => true,
         Kind::Writing => true,
         Kind::Beginning => true,
+        Kind::Filling => true,
     }
 }
 
