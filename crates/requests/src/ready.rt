@@ -28,6 +28,7 @@ fn is_nothing(kind: Kind) -> bool
         Kind::Labelling => false,
         Kind::Writing => false,
         Kind::Beginning => false,
+        Kind::Filling => false,
     }
 }
 
@@ -43,6 +44,7 @@ pub fn is_idle(kind: Kind) -> bool
         Kind::Labelling => false,
         Kind::Writing => false,
         Kind::Beginning => false,
+        Kind::Filling => false,
     }
 }
 

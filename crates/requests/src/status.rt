@@ -24,6 +24,7 @@ fn ready_number(kind: Kind) -> u64
         Kind::Labelling => 1,
         Kind::Writing => 1,
         Kind::Beginning => 1,
+        Kind::Filling => 1,
     }
 }
 
