@@ -1,3 +1,4 @@
 pub mod Judge
 pub mod Readied
 pub mod Begin
+pub mod On

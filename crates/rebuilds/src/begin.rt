@@ -89,7 +89,7 @@ fn begin_answer(l: Label, kind: Kind, absent: u64, image: &[u8], d: usize, room:
 }
 
 // The mask of slot d alone, or of none.
-fn only(d: usize, yes: bool) -> u64
+pub(crate) fn only(d: usize, yes: bool) -> u64
     requires { ⌜ d < maskBits ⌝ }
     ensures { λ r. ⌜ r ≡ cond yes (withSlot 0 d) 0 ⌝ }
 {

@@ -3,4 +3,5 @@
 pub mod begin;
 mod judge;
 mod next;
+pub mod on;
 mod readied;
