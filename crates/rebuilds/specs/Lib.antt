@@ -2,3 +2,4 @@ pub mod Judge
 pub mod Readied
 pub mod Begin
 pub mod On
+pub mod Survivors
