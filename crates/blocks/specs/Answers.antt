@@ -19,7 +19,7 @@ use Rattle.requests.specs.Begun.{workBytes, first}
 use Rattle.requests.specs.Ready.{hasShelf}
 use Rattle.requests.specs.Accepted.{passed, has-fits}
 use Rattle.shelf.specs.declared.state.Kind.{Kind}
-use Rattle.shelf.specs.declared.state.Kind.the-variants.{Nothing, Idle, Creating, Starting, Labelling, Writing, Beginning}
+use Rattle.shelf.specs.declared.state.Kind.the-variants.{Nothing, Idle, Creating, Starting, Labelling, Writing, Beginning, Filling}
 use Rattle.blocks.specs.Slots.{tooFew}
 
 -- reads are served: create or start-up has answered
@@ -31,6 +31,7 @@ serves Starting = false
 serves Labelling = true
 serves Writing = true
 serves Beginning = true
+serves Filling = true
 
 -- no shelf: NOT_NOW; another image: BAD_IMAGE
 unfoldable pub lookAnswer : Label → Kind → ℕ → Outcome

@@ -24,7 +24,7 @@ use Rattle.position.specs.Row.{inRow, listed, listed-length}
 use Rattle.requests.specs.Begun.{workBytes, first}
 use Rattle.shelf.specs.declared.state.State.{State}
 use Rattle.shelf.specs.declared.state.Kind.{Kind}
-use Rattle.shelf.specs.declared.state.Kind.the-variants.{Nothing, Idle, Creating, Starting, Labelling, Writing, Beginning}
+use Rattle.shelf.specs.declared.state.Kind.the-variants.{Nothing, Idle, Creating, Starting, Labelling, Writing, Beginning, Filling}
 use Rattle.strips.specs.Seen.{shardBytes, shownByte, shardShown}
 use Rattle.strips.specs.Answers.{partOf, fewLost, shownAnswer}
 use Rattle.blocks.specs.Slots.{tooFew, there}
@@ -41,6 +41,7 @@ isWriting Starting = false
 isWriting Labelling = false
 isWriting Writing = true
 isWriting Beginning = false
+isWriting Filling = false
 
 -- the stage of a write at which its strips are being written: its log is flushed
 abbrev pub stored : ℕ

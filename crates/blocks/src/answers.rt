@@ -35,6 +35,7 @@ pub(crate) fn is_served(kind: Kind) -> bool
         Kind::Labelling => true,
         Kind::Writing => true,
         Kind::Beginning => true,
+        Kind::Filling => true,
     }
 }
 

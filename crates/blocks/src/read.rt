@@ -34,6 +34,7 @@ fn is_writing(kind: Kind) -> bool
         Kind::Labelling => false,
         Kind::Writing => true,
         Kind::Beginning => false,
+        Kind::Filling => false,
     }
 }
 
