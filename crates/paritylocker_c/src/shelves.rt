@@ -23,7 +23,7 @@ ghost use Rattle.requests.specs.Start.{startOf};
 ghost use Rattle.requests.specs.TakeOut.{takeOutOf};
 ghost use Rattle.requests.specs.Step.{stepWith};
 ghost use Rattle.paritylocker_c.specs.Labels.{numberOfOutcome};
-ghost use Rattle.paritylocker_c.specs.Shelf.{roomOf, begunNumber, afterBegun, answerNumber, isRefused, keptAfter, afterAnswer, statusNumber, statusLeaves};
+ghost use Rattle.paritylocker_c.specs.Shelf.{areaOf, begunNumber, afterBegun, answerNumber, isRefused, keptAfter, afterAnswer, statusNumber, statusLeaves};
 
 // The bytes of a state.
 #[no_mangle]
@@ -141,13 +141,13 @@ fn answer_number(answer: Answer) -> u64
 }
 
 // The work area counts for nothing where the state can't be kept.
-fn room(work: usize, state: usize) -> usize
-    ensures { λ r. ⌜ r ≡ roomOf work state ⌝ }
+fn area(work: &[u8], state: usize) -> &[u8]
+    ensures { λ r. ⌜ now r ≡ areaOf (now (work .entry)) state ⌝ }
 {
     if state == state_bytes() {
         return work;
     }
-    0
+    &work[..0]
 }
 
 fn is_refused(answer: Answer) -> bool
@@ -174,14 +174,14 @@ fn keep_after(s: State, refused: bool, state: &mut [u8])
 // Does the next action of the request under way.
 #[no_mangle]
 pub extern "C" fn pl_step(image: &mut [u8], state: &mut [u8], work: &mut [u8]) -> u64
-    ensures { λ r. ⌜ (r ≡ answerNumber (stepWith (stateAt (now (state .entry))) (now (image .entry)) (roomOf (length (now (work .entry))) (length (now (state .entry)))) .stepped .answer))
-        × (now (image .exit) ≡ stepWith (stateAt (now (state .entry))) (now (image .entry)) (roomOf (length (now (work .entry))) (length (now (state .entry)))) .image)
-        × (now (state .exit) ≡ afterAnswer (stepWith (stateAt (now (state .entry))) (now (image .entry)) (roomOf (length (now (work .entry))) (length (now (state .entry)))) .stepped .answer)
-        (stepWith (stateAt (now (state .entry))) (now (image .entry)) (roomOf (length (now (work .entry))) (length (now (state .entry)))) .stepped .state) (now (state .entry)))
+    ensures { λ r. ⌜ (r ≡ answerNumber (stepWith (stateAt (now (state .entry))) (now (image .entry)) (areaOf (now (work .entry)) (length (now (state .entry)))) .stepped .answer))
+        × (now (image .exit) ≡ stepWith (stateAt (now (state .entry))) (now (image .entry)) (areaOf (now (work .entry)) (length (now (state .entry)))) .image)
+        × (now (state .exit) ≡ afterAnswer (stepWith (stateAt (now (state .entry))) (now (image .entry)) (areaOf (now (work .entry)) (length (now (state .entry)))) .stepped .answer)
+        (stepWith (stateAt (now (state .entry))) (now (image .entry)) (areaOf (now (work .entry)) (length (now (state .entry)))) .stepped .state) (now (state .entry)))
         × (now (work .exit) ≡ now (work .entry)) ⌝ }
 {
     let s = read(state);
-    let done = step(s, image, room(work.len(), state.len()));
+    let done = step(s, image, area(work, state.len()));
     let after = done.state;
     let answer = done.answer;
     keep_after(after, is_refused(answer), state);

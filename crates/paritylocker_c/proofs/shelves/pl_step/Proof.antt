@@ -1,6 +1,7 @@
 -- The shelf's step on the state that was lent; what it hands back is kept unless it was refused. Assumes nothing.
 use mathlib.Core.Path.{refl, ap, ap₂, _∙_}
 use mathlib.Core.Bool.{Bool}
+use mathlib.Core.List.{List}
 use Prim.Native.Nat.{ℕ}
 use Rattle.shelf.specs.Act.{Move}
 use Rattle.shelf.specs.declared.state.State.{State}
@@ -14,8 +15,8 @@ use Rattle.paritylocker_c.proofs.shelves.pl_step.Tie as tie
 read-requires : tie.Need-read-requires
 read-requires c κs = search needs
 
-room-requires : tie.Need-room-requires
-room-requires c κs = search needs
+area-requires : tie.Need-area-requires
+area-requires c κs = search needs
 
 step-requires : tie.Need-step-requires
 step-requires c κs = search needs
@@ -35,11 +36,14 @@ same-length c = search needs
 same-length-2 : tie.Need-same-length-2
 same-length-2 c = search needs
 
+same-length-3 : tie.Need-same-length-3
+same-length-3 c = search needs
+
 returns : tie.Need-returns
 returns c =
-    let a = c .before .before .before .before .before .before .before .before .before .before .before .before .before .before .before .before .before .args in
+    let a = c .before .before .before .before .before .before .before .before .before .before .before .before .before .before .before .before .before .before .args in
     let r = c .before .before .before .before .before .before .before .before .before .step .ensures in
-    let q = ap₂ (λ (s : State) (n : ℕ). stepWith s (a .image .now) n) (c .before .before .before .before .before .before .before .before .before .before .before .before .read .ensures) (c .before .before .before .before .before .before .before .before .before .before .room .ensures) in
+    let q = ap₂ (λ (s : State) (w : List ℕ). stepWith s (a .image .now) w) (c .before .before .before .before .before .before .before .before .before .before .before .before .before .read .ensures) (c .before .before .before .before .before .before .before .before .before .before .area .ensures) in
     let e = r .0 ∙ ap (λ (m : Move). m .stepped) q in (
       c .answer-number .ensures ∙ ap (λ (x : Stepped). answerNumber (x .answer)) e,
       r .1 ∙ ap (λ (m : Move). m .image) q,
@@ -53,11 +57,12 @@ pl-step-spec =
     tie.close
     (tie.spec
     read-requires
-    room-requires
+    area-requires
     step-requires
     is-refused-requires
     keep-after-requires
     answer-number-requires
     same-length
     same-length-2
+    same-length-3
     returns)
