@@ -48,7 +48,7 @@ use Rattle.codecs.specs.Labels.{sectorOf, noLabel, ours, labelOf, meant, decode
 use Rattle.codecs.specs.Records.{records}
 use Rattle.codecs.specs.Media.{stamps}
 use Rattle.shards.specs.Quorum.{fewOf}
-use Rattle.shards.specs.Code.{zeros-in}
+use Rattle.shards.specs.Strips.{zeros-in}
 use Rattle.shards.specs.Even.{any-code}
 use Rattle.shelf.specs.declared.state.State.{State}
 use Rattle.shelf.specs.declared.state.Kind.the-variants.{Nothing, Idle, Creating, Starting, Labelling}
@@ -169,7 +169,7 @@ module _ (z : Shelf) (F : Family z) where
               let b = side s l in
               ⊎-elim
               (λ (q : curOf z img (label d (b .0)) ≡ zeros). inl (ap (sector (z .sectors) img d) (sym (b .1)) ∙ sym (cur-bytes z img disks (label d (b .0)) (label-inside z d (b .0) i)) ∙ ap (λ (x : Sector). x .bytes) q))
-              (λ (q : 0 < copy (labels z) (curOf z img) d (b .0) .generation). inr (let y = copy-there d (b .0) 1 i (omega arith) q in (y .0, ap (copyOf (geometry z) img d) (sym (b .1)) ∙ y .1))) (h .calm (b .0))
+              (λ (q : 0 < copy (labels z) (curOf z img) d (b .0) .generation). inr (let y = copy-there d (b .0) 1 i (omega arith) q in (y .0, ap (copyOf (geometry z) img d) (sym (b .1)) ∙ y .1))) (h .calm (b .0) (inl refl))
 
           follow : (a b : bytes.Label) → copyOf (geometry z) img d 0 ≡ Valid a → copyOf (geometry z) img d 1 ≡ Valid b → (a .generation ≡ suc (b .generation)) ⊎ (b .generation ≡ suc (a .generation))
           follow a b p q =

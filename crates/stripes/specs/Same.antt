@@ -34,7 +34,8 @@ use Rattle.position.specs.Search.{some, some-of, first, first-is, first-lt}
 use Rattle.position.specs.Position.{holds, holds-true, holds-is, padded-off, parity-ext}
 use Rattle.position.specs.Rebuild.{same-padding}
 use Rattle.shards.specs.Parity.{byte, shardSector, data-sector, sectors-hold}
-use Rattle.shards.specs.Code.{position, missingOf, missing-few, missing-has, blocksFrom, shard-there, scrub-holds, code}
+use Rattle.shards.specs.Strips.{position, missingOf, missing-few, missing-has, blocksFrom, shard-there, scrub-holds}
+use Rattle.shards.specs.Code.{code}
 use Rattle.shards.specs.Exact as Exact
 use Rattle.shards.specs.Exact.{Blames, scrub-accuses, scrub-several, blocks-there, blocks-found}
 use Rattle.stripes.specs.Slice.{shardBytes, laidOut, each-byte, within, laid-length, laid-position, laid-sector, laid-only, slice-shape, sector-byte, sector-is, missing-shards}
