@@ -3,3 +3,4 @@ pub mod Slots
 pub mod Answers
 pub mod Laid
 pub mod Scrub
+pub mod Repair

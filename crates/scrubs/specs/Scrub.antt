@@ -79,6 +79,10 @@ half-le l room f e =
     let n : ℕ = l .k + l .m in
     omega (arith, e, work-is l (range-of l f), mul-assoc n (l .c) sectorBytes, mul-assoc 2 n (l .c))
 
+pub sized-half : (l : Label) (room : ℕ) → fitsOf l ≡ true → sizedOf l room ≡ true → (l .k + l .m) * (l .c * sectorBytes) ≤ room
+unfolding sizedOf
+sized-half l room f e = half-le l room f (eqb-true room (workBytes (l .k + l .m) (l .c)) e)
+
 -- the bytes of the largest stripe
 abbrev pub mostStripe : ℕ
 mostStripe = 77824

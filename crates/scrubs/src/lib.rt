@@ -3,5 +3,6 @@
 mod answers;
 mod laid;
 mod of_label;
+pub mod repair;
 pub mod scrub;
 mod slots;
