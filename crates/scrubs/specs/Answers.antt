@@ -1,10 +1,8 @@
 -- What the scrub and the repair of a stripe are refused for, in the document's order. Assumes nothing.
-use mathlib.Core.Path.{_≡_, refl, sym, ap, _∙_}
-use mathlib.Core.Bool.{Bool, true, false, cond, _&&_, true≢false}
-use Prim.Native.Nat.{ℕ, _+_, _*_, _<_}
-use native.Mathlib.Omega.{arith}
-use lib.Dec.{leb, ltb, eqb}
-use borrow.Author.Tests.{ltb-true, eqb-true}
+use mathlib.Core.Path.{_≡_, refl, sym, ap}
+use mathlib.Core.Bool.{Bool, true, false, cond, true≢false}
+use Prim.Native.Nat.{ℕ, _+_, _*_}
+use lib.Dec.{leb, ltb}
 use Rattle.disk.specs.Limits.{leastN, mostN, sectorBytes, mostK, mostM}
 use Rattle.disk.specs.Tests.{and-left, and-right, both}
 use Rattle.disk.specs.Geometry.{stripLength, inRange, splits, inRangeWith, stripesOf}

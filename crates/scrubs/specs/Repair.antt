@@ -6,18 +6,18 @@ use mathlib.Core.Bool.{Bool, true, false, cond, _&&_}
 use mathlib.Core.List.{List, [], _++_, append-nil}
 use Prim.Native.Nat.{ℕ, _+_, _-_, _*_, _≤_, _<_}
 use native.Mathlib.Omega.{arith}
-use lib.Dec.{ltb, eqb}
+use lib.Dec.{ltb}
 use lib.ListN.{length, take, drop, drop-of-length-le}
-use lib.Seq.{length-take-le, take-length}
-use borrow.Author.Tests.{ltb-true, eqb-true}
-use Rattle.code.specs.Stripes.{Says, Repaired, Mends}
+use lib.Seq.{length-take-le, take-length, take-at, drop-at}
+use borrow.Author.Tests.{ltb-true}
+use Rattle.code.specs.Stripes.{Says, Repaired}
 use Rattle.code.specs.declared.Verdict.{Verdict}
 use Rattle.code.specs.declared.Verdict.the-variants as verdict
 use Rattle.disk.specs.Limits.{mostSectors, sectorBytes}
 use Rattle.disk.specs.Geometry.{stripesOf, slotOf, stripes-le}
 use Rattle.disk.specs.Image.{fitsImage}
 use Rattle.disk.specs.Mask.{withSlot}
-use Rattle.disk.specs.Tests.{and-left, and-right}
+use Rattle.disk.specs.Tests.{and-left}
 use Rattle.disk.specs.declared.geometry.Geometry.{Geometry}
 use Rattle.disk.specs.declared.refusal.Refusal.{Refusal}
 use Rattle.disk.specs.declared.refusal.Refusal.the-variants.{BadImage, NotNow, BadBuffer}
@@ -285,3 +285,53 @@ module _ (s : State) (img : List ℕ) (t : ℕ) (stripe : List ℕ) (r : Scrubbe
 
   pub mended-by : (v : Verdict) → r ≡ scrubbed.Found v → (work : List ℕ) (b : Begun) (after : List ℕ) → Settles s t v stripe work b after → Mended s t img work b after
   mended-by v e work b after w = record { found = v; stripe = stripe; repaired = (mend-found v e, whole); settles = w }
+
+-- ---- what an accepted repair comes to
+
+begun-says : (o : Outcome) (s x : State) → begun o s x .outcome ≡ o
+begun-says Done s x = refl
+begun-says (Refused why) s x = refl
+
+accused : (v : Verdict) (l : Label) (room : ℕ) → mendAnswer v l room ≡ Done → (r : ℕ) × (v ≡ verdict.Accused r)
+accused (verdict.Accused r) l room e = (r, refl)
+accused verdict.Sound l room e = absurd (never NotNow e)
+accused verdict.Unsound l room e = absurd (never NotNow e)
+accused (verdict.Refused x) l room e = absurd (never NotNow e)
+
+module _ (s : State) (t : ℕ) (img work : List ℕ) (b : Begun) (after : List ℕ) (w : Repairs s t img work b after) (done : b .outcome ≡ Done) where
+  answered-so : first (mayRepair (s .now) (s .kind) (s .absent) (s .count) t img) (mendAnswer (w .found) (s .now) (length work)) ≡ Done
+  answered-so = sym (begun-says _ s (mended s t (w .found))) ∙ sym (ap (λ (x : Begun). x .outcome) (w .answers)) ∙ done
+
+  may : mayRepair (s .now) (s .kind) (s .absent) (s .count) t img ≡ Done
+  may = first-done (mayRepair (s .now) (s .kind) (s .absent) (s .count) t img) (mendAnswer (w .found) (s .now) (length work)) answered-so .0
+
+  -- A SHARD IS ACCUSED, AND IT IS THE ONE THAT IS WRITTEN
+  pub repair-accuses : (r : ℕ) × (w .found ≡ verdict.Accused r) × (b .state ≡ mending s t r)
+  repair-accuses =
+      let a = accused (w .found) (s .now) (length work) (first-done (mayRepair (s .now) (s .kind) (s .absent) (s .count) t img) (mendAnswer (w .found) (s .now) (length work)) answered-so .1) in
+      let e : b .state ≡ mended s t (w .found) =
+      ap (λ (x : Begun). x .state) (w .answers) ∙ ap (λ (o : Outcome). begun o s (mended s t (w .found)) .state) answered-so in
+      (a .0, a .1, e ∙ ap (mended s t) (a .1))
+
+  left-so : after ≡ w .stripe ++ drop (halfOf (s .now)) work
+  left-so = w .left ∙ ap (λ (o : Outcome). leaves o (s .now) (w .stripe) work) done
+
+  -- THE FIRST HALF OF THE WORK AREA IS THE MENDED STRIPE
+  pub repair-half : RepairedOf (s .now) img t (w .found) (take (halfOf (s .now)) after)
+  repair-half =
+      subst (λ (x : List ℕ). RepairedOf (s .now) img t (w .found) x)
+      (sym (ap (take (halfOf (s .now))) left-so ∙ take-at (w .stripe) (drop (halfOf (s .now)) work) (halfOf (s .now)) (w .repaired may .1)))
+      (w .repaired may .0)
+
+  -- ITS SECOND HALF IS AS IT WAS
+  pub repair-rest : drop (halfOf (s .now)) after ≡ drop (halfOf (s .now)) work
+  repair-rest = ap (drop (halfOf (s .now))) left-so ∙ drop-at (w .stripe) (drop (halfOf (s .now)) work) (halfOf (s .now)) (w .repaired may .1)
+
+-- A REFUSAL CHANGES NOTHING
+pub repair-refused : (s : State) (t : ℕ) (img work : List ℕ) (b : Begun) (after : List ℕ) → Repairs s t img work b after → (why : Refusal) → b .outcome ≡ Refused why
+    → (b .state ≡ s) × (after ≡ work)
+repair-refused s t img work b after w why e =
+    let o = first (mayRepair (s .now) (s .kind) (s .absent) (s .count) t img) (mendAnswer (w .found) (s .now) (length work)) in
+    let x : State = mended s t (w .found) in
+    let f : o ≡ Refused why = sym (begun-says o s x) ∙ sym (ap (λ (y : Begun). y .outcome) (w .answers)) ∙ e in
+    (ap (λ (y : Begun). y .state) (w .answers) ∙ ap (λ (y : Outcome). begun y s x .state) f, w .left ∙ ap (λ (y : Outcome). leaves y (s .now) (w .stripe) work) e)

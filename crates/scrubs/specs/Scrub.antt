@@ -1,6 +1,6 @@
 -- Scrub: when it is refused, and what is said of the stripe as it is seen. Assumes nothing.
 use mathlib.Core.Path.{_≡_, refl, sym, ap, subst, _∙_}
-use mathlib.Core.Bool.{Bool, true, false, _&&_}
+use mathlib.Core.Bool.{Bool, true, _&&_}
 use mathlib.Core.List.{List}
 use Prim.Native.Nat.{ℕ, _+_, _-_, _*_, _≤_, _<_}
 use native.Mathlib.Nat.{mul-assoc}
@@ -14,7 +14,6 @@ use Rattle.code.specs.declared.Verdict.{Verdict}
 use Rattle.disk.specs.Limits.{mostN, mostC, sectorBytes}
 use Rattle.disk.specs.Geometry.{stripesOf, product-le, InRange}
 use Rattle.disk.specs.Image.{fitsImage}
-use Rattle.disk.specs.Tests.{and-right}
 use Rattle.disk.specs.declared.geometry.Geometry.{Geometry}
 use Rattle.disk.specs.declared.refusal.Outcome.{Outcome}
 use Rattle.disk.specs.declared.refusal.Outcome.the-variants.{Done, Refused}

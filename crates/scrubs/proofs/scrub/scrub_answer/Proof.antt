@@ -1,5 +1,5 @@
 -- By what comes first.
-use mathlib.Core.Path.{sym, ap, ap₂, _∙_}
+use mathlib.Core.Path.{sym, ap₂, _∙_}
 use mathlib.Core.Bool.{Bool, true, _&&_}
 use borrow.Author.Needs.{needs}
 use Rattle.scrubs.specs.Slots.{noneMissing}
