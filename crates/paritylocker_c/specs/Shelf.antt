@@ -37,12 +37,12 @@ bytesBegun (outcome.Refused why) s bytes = bytes
 abbrev pub afterBegun : Begun → List ℕ → List ℕ
 afterBegun b bytes = bytesBegun (b .outcome) (b .state) bytes
 
--- a step: kind + 256 * slot + 65536 * sector
-abbrev pub answerNumber : Answer → ℕ
-answerNumber (Put d s) = 1 + 256 * (d % 256) + 65536 * (s % 4294967296)
-answerNumber (Flush d) = 2 + 256 * (d % 256)
-answerNumber Done = 3
-answerNumber (Refused why) = 256 * numberOf why
+-- a step: kind + 256 * slot + 65536 * sector, or the number of the request that is done
+abbrev pub answerNumber : ℕ → Answer → ℕ
+answerNumber done (Put d s) = 1 + 256 * (d % 256) + 65536 * (s % 4294967296)
+answerNumber done (Flush d) = 2 + 256 * (d % 256)
+answerNumber done Done = done
+answerNumber done (Refused why) = 256 * numberOf why
 
 abbrev pub isRefused : Answer → Bool
 isRefused (Put d s) = false

@@ -1,5 +1,7 @@
 // The C interface: numbers and byte slices. Each function takes any argument; include/paritylocker.h says what each answers.
+mod ended;
 mod labels;
+mod rebuilding;
 mod shelves;
 
 use code::Verdict;
