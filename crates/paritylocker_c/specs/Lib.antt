@@ -1,4 +1,5 @@
 -- What the functions of the C interface answer.
 pub mod Answers
+pub mod Blocks
 pub mod Labels
 pub mod Shelf

@@ -42,7 +42,7 @@ pub extern "C" fn pl_work_bytes(n: u8, c: u8) -> usize
 }
 
 // Keeps the state of a request that is accepted. 0, or the refusal's code.
-fn keep(begun: Begun, state: &mut [u8]) -> u32
+pub(crate) fn keep(begun: Begun, state: &mut [u8]) -> u32
     ensures { λ r. ⌜ (r ≡ begunNumber begun (length (now (state .entry)))) × (now (state .exit) ≡ afterBegun begun (now (state .entry))) ⌝ }
 {
     let outcome = begun.outcome;
