@@ -219,7 +219,7 @@ impl Disks {
                 self.assert_no_other_change();
                 self.flush(slot);
             }
-            Step::Done => self.assert_unchanged(),
+            Step::Done { .. } | Step::Healthy { .. } => self.assert_unchanged(),
             Step::Refused(why) => panic!("a step of an accepted request is refused: {why:?}"),
         }
         step
