@@ -238,7 +238,10 @@ impl Files {
             s.shelf, s.k, s.m, s.c, s.sectors, s.generation, s.out, s.absent
         );
         if s.rebuilding != 255 {
-            println!("slot {} is being rebuilt, {} strips done", s.rebuilding, s.mark);
+            println!(
+                "slot {} is being rebuilt, {} strips done",
+                s.rebuilding, s.mark
+            );
         }
         Ok(())
     }
@@ -278,13 +281,7 @@ fn new_disk(dir: &Path, slot: usize, sectors: u32) -> Result<bool, Stop> {
 
 /// Rebuilds a slot. A disk with no label is declared absent until then, and where the file is missing a new one is made; a refusal
 /// removes that again.
-fn rebuild(
-    dir: &Path,
-    slot: u32,
-    batch: u32,
-    absent: u64,
-    steps: &mut u64,
-) -> Result<Files, Stop> {
+fn rebuild(dir: &Path, slot: u32, batch: u32, absent: u64, steps: &mut u64) -> Result<Files, Stop> {
     let mut files = Files::find(dir)?;
     let mut made = false;
     let mut strange = 0;
@@ -334,10 +331,7 @@ fn run(arguments: &[&str], absent: u64, mut steps: u64) -> Result<(), Stop> {
             let block = number(block)?;
             let mut files = ready(dir, absent, &mut steps)?;
             let mut data = vec![0; files.block_bytes()];
-            files
-                .shelf
-                .read(block, &mut data)
-                .map_err(Stop::Refused)?;
+            files.shelf.read(block, &mut data).map_err(Stop::Refused)?;
             let told = io::stdout().lock().write_all(&data);
             return told.map_err(of(Path::new("the standard output")));
         }
@@ -348,9 +342,7 @@ fn run(arguments: &[&str], absent: u64, mut steps: u64) -> Result<(), Stop> {
             files.finish(&mut steps)?;
             files
         }
-        ["rebuild", dir, slot] => {
-            rebuild(Path::new(dir), small(slot)?, BATCH, absent, &mut steps)?
-        }
+        ["rebuild", dir, slot] => rebuild(Path::new(dir), small(slot)?, BATCH, absent, &mut steps)?,
         ["rebuild", dir, slot, batch] => {
             let (slot, batch) = (small(slot)?, small(batch)?);
             rebuild(Path::new(dir), slot, batch, absent, &mut steps)?

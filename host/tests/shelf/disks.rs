@@ -158,7 +158,7 @@ impl Disks {
     }
 
     /// A request is accepted, or it is refused and changes nothing; the image is not changed at all.
-    fn asked(&mut self, before: Vec<u8>, answer: Result<(), Refusal>) -> Result<(), Refusal> {
+    pub fn asked(&mut self, before: Vec<u8>, answer: Result<(), Refusal>) -> Result<(), Refusal> {
         self.assert_unchanged();
         assert!(
             answer.is_ok() || self.state == before,
@@ -230,7 +230,7 @@ impl Disks {
     }
 
     /// The label in that place of a slot, if the sector has this content.
-    fn copy(&self, slot: usize, place: usize, value: u32) -> Parsed {
+    pub fn copy(&self, slot: usize, place: usize, value: u32) -> Parsed {
         let mut parsed = self.parsed.borrow_mut();
         let known = parsed.entry((value, slot, place));
         *known.or_insert_with(|| parse(&self.contents[value as usize], slot, place))

@@ -4,7 +4,7 @@ use crate::explore::Explorer;
 use crate::random::Random;
 use crate::watch::Watch;
 use crate::writes::Write;
-use paritylocker::shelf::{Shelf, Step};
+use paritylocker::shelf::Shelf;
 
 /// Two stripes of one sector.
 const TWO_STRIPES: Shape = Shape {
