@@ -55,7 +55,11 @@ impl Bays {
             .collect();
         let mut sectors = BTreeMap::new();
         for at in here {
-            sectors.insert(at.1, world.remove(&at).unwrap());
+            // What is still in its cache reaches the disk.
+            let newest = world.remove(&at).unwrap().pop().unwrap();
+            if newest != 0 {
+                sectors.insert(at.1, vec![newest]);
+            }
         }
         let next = which.map(|i| self.drawers[slot].swap_remove(i));
         let last = self.last[slot];

@@ -109,12 +109,13 @@ impl Explorer {
             }
             self.worlds += 1;
             self.rig.load(&left, &saved.facts);
+            let unlabelled = self.rig.unlabelled(0);
             for absent in self.sets(level.sets) {
                 self.rig.load(&left, &saved.facts);
                 self.trail
                     .push(format!("cut; start-up without {absent:#b}"));
                 let accepted = self.rig.start(absent);
-                let must = saved.facts.created && absent == saved.facts.strange;
+                let must = saved.facts.created && absent == unlabelled;
                 assert!(accepted || !must, "refused, though no disk is missing");
                 if accepted {
                     self.run(depth + 1);

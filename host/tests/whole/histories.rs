@@ -120,9 +120,6 @@ impl Run {
             }
             _ => {}
         }
-        if kind < 4 {
-            self.rig.facts.strange |= 1 << slot;
-        }
     }
 
     /// Takes the request to its end, or to a random step and cuts it there; whether it is done.
@@ -175,7 +172,7 @@ impl Run {
                     absent = more;
                 }
             }
-            let strange = self.rig.facts.strange;
+            let strange = self.rig.unlabelled(self.bays.others());
             if self.rig.may_lack(absent | strange, self.bays.others())
                 && !self.rig.random.once_in(8)
             {
@@ -188,7 +185,8 @@ impl Run {
         ));
         let others = self.bays.others();
         if !self.rig.start(absent) {
-            let must = whole && self.rig.facts.created && self.rig.facts.strange == 0;
+            let must =
+                whole && self.rig.facts.created && self.rig.unlabelled(self.bays.others()) == 0;
             assert!(!must, "refused, though each slot has its last disk");
             self.counts.refused += 1;
             return false;

@@ -31,8 +31,8 @@ pub struct Facts {
     pub named: u32,
     /// For k <= m: a slot that every start-up until the next settled label is to have.
     pub witness: usize,
-    /// Slots that hold a disk which never was a part of the shelf, as far as was acknowledged.
-    pub strange: u64,
+    /// The slot whose last strips are being rebuilt: it may be called healthy.
+    pub healing: u32,
     /// A shard that rotted (stripe, shard): it reads as it was, or as it is now.
     pub rotten: Option<(usize, usize)>,
 }
@@ -113,7 +113,7 @@ impl Rig {
                 pending: None,
                 named: 0,
                 witness: seed as usize % shape.n(),
-                strange: 0,
+                healing: 0,
                 rotten: None,
             },
             absent: 0,
@@ -157,12 +157,37 @@ impl Rig {
         self.disks.work.fill(0xd7);
     }
 
+    /// The greatest generation of this shelf that any sector in the bays may hold after a cut.
+    fn greatest_generation(&self) -> u64 {
+        let mut greatest = 0;
+        for (&(slot, place), cell) in self.disks.world().iter().filter(|((_, s), _)| *s < 2) {
+            for &value in cell {
+                let found = self.disks.copy(slot, place, value);
+                let own = found.filter(|(s, _)| *s == self.shape());
+                greatest = greatest.max(own.map_or(0, |(_, l)| l.generation));
+            }
+        }
+        greatest
+    }
+
+    /// The slots whose disk has no label of this shelf: they can only be declared absent. Once the shelf is created they are out, or
+    /// among the `others` that hold another disk than their last.
+    pub fn unlabelled(&self, others: u64) -> u64 {
+        let shape = self.shape();
+        let own = |slot: usize| self.disks.label(slot).is_some_and(|(s, _)| s == shape);
+        let mask = (0..shape.n()).filter(|&d| !own(d)).map(|d| 1 << d).sum();
+        let known = u64::from(self.facts.settled.out) | others;
+        let lost = mask & !known;
+        assert!(!self.facts.created || lost == 0, "{lost:#b} without label");
+        mask
+    }
+
     fn expects(&mut self, request: Request, label: Content, puts: Vec<(usize, usize, Sector)>) {
         self.goal = Some(Goal {
             request,
             label,
             puts,
-            before: self.disks.greatest_generation(),
+            before: self.greatest_generation(),
             steps: 0,
             put: 0,
             flushed: 0,
@@ -278,10 +303,14 @@ impl Rig {
         };
         assert_eq!(self.disks.rebuild_on(batch), expected, "rebuild on");
         if expected.is_ok() {
+            let (from, most) = (l.mark as usize, batch.max(1) as usize);
+            if from + most >= self.shape().stripes() {
+                self.facts.healing = 1 << l.rebuilding;
+            }
             let request = Request::RebuildOn {
                 slot: l.rebuilding.into(),
-                from: l.mark as usize,
-                most: batch.max(1) as usize,
+                from,
+                most,
             };
             self.expects(request, l, Vec::new());
         }
@@ -431,17 +460,14 @@ impl Rig {
     }
 
     fn settle(&mut self, l: Content, request: Request) {
-        let must = match request {
-            Request::RebuildOn { .. } => self.absent as u32,
-            _ => self.absent as u32 | self.facts.settled.out,
-        };
+        let must = self.absent as u32 | self.facts.settled.out & !self.facts.healing;
         assert_eq!(l.out & must, must, "a slot that was out is called healthy");
         assert_eq!(l.out & !self.facts.named, 0, "a slot is out for no reason");
         assert!(l.out.count_ones() <= u32::from(self.shape().m));
         self.facts.named = l.out;
         self.facts.settled = l;
         self.facts.created |= request == Request::Create;
-        self.facts.strange &= self.absent;
+        self.facts.healing = 0;
         let healthy: Vec<usize> = (0..self.shape().n())
             .filter(|&d| l.out >> d & 1 == 0)
             .collect();
@@ -594,7 +620,7 @@ impl Rig {
     pub fn check_other_losses(&mut self) {
         let shape = self.shape();
         let saved = self.save();
-        let mut absent = 0;
+        let mut absent = self.unlabelled(0);
         let mut order: Vec<usize> = (0..shape.n()).collect();
         for i in (1..order.len()).rev() {
             order.swap(i, self.random.below(i + 1));

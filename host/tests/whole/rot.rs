@@ -45,6 +45,7 @@ fn each_shard(mut test: impl FnMut(Shape, usize, usize)) {
 fn scrub_accuses_and_repair_mends() {
     each_shard(|shape, stripe, shard| {
         let mut rig = Rig::new(shape, 5 + shard as u64);
+        rig.peeks = if shape.k < 10 { 4 } else { 60 };
         ready(&mut rig);
         rot(&mut rig, stripe, shard);
         let found = rig.disks.scrub_stripe(stripe as u64);
@@ -95,6 +96,7 @@ fn cut_at_each_step(
     request: impl Fn(&mut Rig),
 ) -> usize {
     let mut rig = Rig::new(shape, 77 + shard as u64);
+    rig.peeks = if shape.k < 10 { 4 } else { 60 };
     ready(&mut rig);
     rot(&mut rig, stripe, shard);
     request(&mut rig);
