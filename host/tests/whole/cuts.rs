@@ -257,16 +257,16 @@ fn tried(name: &str, prepare: fn(&mut Rig)) {
         true => vec![
             Level {
                 every: 1,
-                outcomes: 300,
-                sets: 64,
+                outcomes: 24,
+                sets: 4,
             },
             Level {
-                every: 5,
-                outcomes: 4,
-                sets: 2,
+                every: 8,
+                outcomes: 2,
+                sets: 1,
             },
             Level {
-                every: 20,
+                every: 40,
                 outcomes: 1,
                 sets: 1,
             },
@@ -316,4 +316,36 @@ fn write_and_start_up_each_cut_everywhere() {
     write(&mut explorer.rig);
     explorer.run(0);
     explorer.tell("write, then start-up, every outcome");
+}
+
+/// Every set of lost slots that may be: every block reads as it was written. Then each slot is rebuilt, on a disk that held anything,
+/// with as many others lost as may be.
+#[test]
+fn every_set_of_lost_slots() {
+    let mut tried = 0;
+    for (seed, shape) in SHAPES.into_iter().chain([shape(10, 2, 8, 2)]).enumerate() {
+        let mut rig = Rig::new(shape, 3 + seed as u64);
+        rig.peeks = 0;
+        ready(&mut rig);
+        let saved = rig.save();
+        for absent in 0..1 << shape.n() {
+            rig.load(&saved.world, &saved.facts);
+            if u64::count_ones(absent) > u32::from(shape.m) {
+                continue;
+            }
+            assert!(rig.start(absent));
+            rig.finish();
+            tried += 1;
+            let Some(slot) = (0..shape.n()).find(|d| absent >> d & 1 == 1) else {
+                continue;
+            };
+            rig.spoil(slot);
+            assert!(rig.begin(slot));
+            rig.finish();
+            assert!(rig.rebuild_on(u32::MAX));
+            rig.finish();
+            assert_eq!(u64::from(rig.facts.settled.out), absent & !(1 << slot));
+        }
+    }
+    println!("{tried} sets of lost slots");
 }

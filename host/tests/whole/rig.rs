@@ -364,6 +364,9 @@ impl Rig {
                     goal.request
                 );
                 goal.put += 1;
+                if sector < 2 {
+                    self.check_told(slot, sector);
+                }
                 if goal.request == Request::Start && sector >= 2 {
                     let put = goal.puts.remove(0);
                     let right = put.2 == self.disks.sector(slot, sector);
@@ -378,6 +381,43 @@ impl Rig {
         }
         self.goal = Some(goal);
         false
+    }
+
+    /// A label is put: whichever slot was out and isn't according to it, or has a higher mark, has its strips, flushed.
+    fn check_told(&mut self, slot: usize, place: usize) {
+        let shape = self.shape();
+        let bytes = self.disks.sector(slot, place);
+        let Some((_, l)) = crate::bytes::parse(&bytes, slot, place) else {
+            assert_eq!(
+                bytes, ZEROS,
+                "a sector of the label is neither label nor zeros"
+            );
+            return;
+        };
+        if self.facts.pending.is_some() || self.disks.left_out.is_some() {
+            return;
+        }
+        let settled = self.facts.settled;
+        let absent = self.absent;
+        for d in (0..shape.n()).filter(|&d| !has(absent, d)) {
+            for stripe in 0..shape.stripes() {
+                if expect::believed(&l, d, stripe) && !expect::believed(&settled, d, stripe) {
+                    let shard = shape.shard_in(d, stripe);
+                    let right = self.right(stripe)[shard] == self.disks.strip(d, stripe);
+                    assert!(right, "slot {d}, stripe {stripe} is told to be rebuilt");
+                    let strip = (d, shape.strip(stripe))..(d, shape.strip(stripe + 1));
+                    let sure = self
+                        .disks
+                        .world()
+                        .range(strip)
+                        .all(|(_, cell)| cell.len() == 1);
+                    assert!(
+                        sure,
+                        "slot {d}, stripe {stripe} is told to be rebuilt, and isn't flushed"
+                    );
+                }
+            }
+        }
     }
 
     pub fn finish(&mut self) {
