@@ -691,8 +691,10 @@ impl Rig {
         let last = shape.strip(shape.stripes());
         for sector in (0..3 + shape.strip_length()).chain(66..last) {
             let mut bytes = ZEROS;
-            if !self.random.once_in(4) {
-                self.random.fill(&mut bytes);
+            // One of few contents, or zeros.
+            let number = self.random.below(16) as u64;
+            if number > 2 {
+                Random(number * 0x5bd1_e995).fill(&mut bytes);
             }
             self.disks.put(slot, sector, bytes);
         }
