@@ -189,6 +189,7 @@ pub fn foreign(rig: &mut Rig, slot: usize, generation: u64, own: usize) {
     {
         rig.disks.put(slot, 2 + i, bytes);
     }
+    rig.disks.flush(slot);
 }
 
 fn begin_with_a_foreign_disk(rig: &mut Rig) {

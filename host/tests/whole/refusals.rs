@@ -149,11 +149,11 @@ fn no_work(case: &mut Case) {
 }
 
 fn shorter_data(case: &mut Case) {
-    case.data.pop();
+    case.data.truncate(100);
 }
 
 fn longer_data(case: &mut Case) {
-    case.data.push(1);
+    case.data.resize(700, 1);
 }
 
 fn sound_stripe(case: &mut Case) {
@@ -186,17 +186,28 @@ fn repair(case: &mut Case) -> Result<(), Refusal> {
 
 type Row = (&'static str, Refusal, Spoil);
 
+/// When it is done.
+fn rank(name: &str) -> u8 {
+    match name {
+        "one is out" | "one is absent" | "nothing is rebuilt" | "another is rebuilt" => 0,
+        "busy" => 1,
+        "far" | "very far" | "healthy slot" | "nobody is accused" | "no stamp left" => 2,
+        "too few" | "no label" => 3,
+        _ => 4,
+    }
+}
+
 /// In the order of the document; a state with no shelf comes first.
 fn table(base: &dyn Fn() -> Case, request: fn(&mut Case) -> Result<(), Refusal>, rows: &[Row]) {
     assert_eq!(request(&mut base()), Ok(()), "nothing is wrong");
     for (i, first) in rows.iter().enumerate() {
         for second in rows[i..].iter().rev() {
-            // The later ones replace more: they come first.
             let mut case = base();
-            (second.2)(&mut case);
-            if second.0 != first.0 {
-                (first.2)(&mut case);
-            }
+            // What asks for something comes before what makes that impossible; of two of a kind the first one stands.
+            let mut both = vec![second, first];
+            both.sort_by_key(|row| rank(row.0));
+            both.dedup_by_key(|row| row.0);
+            both.iter().for_each(|row| (row.2)(&mut case));
             let before = case.clone();
             // Labels are compared while nothing is under way.
             let why = match (first.0, second.0) {

@@ -685,7 +685,7 @@ impl Rig {
         self.restore(&saved);
     }
 
-    /// Garbage over labels, log and strips of a slot.
+    /// Garbage over labels, log and strips of a slot, flushed.
     pub fn spoil(&mut self, slot: usize) {
         let shape = self.shape();
         let last = shape.strip(shape.stripes());
@@ -698,6 +698,7 @@ impl Rig {
             }
             self.disks.put(slot, sector, bytes);
         }
+        self.disks.flush(slot);
     }
 
     /// In a world that a cut left: where a sector is a label of this shelf, the other one is zeros or the generation before or after.
