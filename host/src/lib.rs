@@ -85,6 +85,64 @@ mod c {
             work: *mut u8,
             work_len: usize,
         ) -> u32;
+        pub fn pl_write(
+            block: u64,
+            data: *const u8,
+            data_len: usize,
+            image: *mut u8,
+            image_len: usize,
+            state: *mut u8,
+            state_len: usize,
+            work: *mut u8,
+            work_len: usize,
+        ) -> u32;
+        pub fn pl_read(
+            block: u64,
+            data: *mut u8,
+            data_len: usize,
+            image: *const u8,
+            image_len: usize,
+            state: *const u8,
+            state_len: usize,
+            work: *mut u8,
+            work_len: usize,
+        ) -> u32;
+        pub fn pl_begin(
+            slot: u32,
+            image: *mut u8,
+            image_len: usize,
+            state: *mut u8,
+            state_len: usize,
+            work: *mut u8,
+            work_len: usize,
+        ) -> u32;
+        pub fn pl_rebuild_on(
+            batch: u32,
+            image: *mut u8,
+            image_len: usize,
+            state: *mut u8,
+            state_len: usize,
+            work: *mut u8,
+            work_len: usize,
+        ) -> u32;
+        pub fn pl_scrub_stripe(
+            stripe: u64,
+            image: *mut u8,
+            image_len: usize,
+            state: *mut u8,
+            state_len: usize,
+            work: *mut u8,
+            work_len: usize,
+        ) -> u32;
+        pub fn pl_repair_stripe(
+            stripe: u64,
+            image: *mut u8,
+            image_len: usize,
+            state: *mut u8,
+            state_len: usize,
+            work: *mut u8,
+            work_len: usize,
+        ) -> u32;
         pub fn pl_step(
             image: *mut u8,
             image_len: usize,
@@ -117,13 +175,13 @@ impl Refusal {
     pub const NO_LABEL: Refusal = Refusal(11);
     /// More than m slots absent or out.
     pub const TOO_FEW: Refusal = Refusal(12);
-    /// A slot number out of range.
+    /// A block, stripe or slot number out of range.
     pub const BAD_BLOCK: Refusal = Refusal(13);
     /// Another changing request is under way.
     pub const BUSY: Refusal = Refusal(14);
     /// The request makes no sense in this state.
     pub const NOT_NOW: Refusal = Refusal(15);
-    /// A state, a work area or a list of another length.
+    /// A data buffer, a state, a work area or a list of another length.
     pub const BAD_BUFFER: Refusal = Refusal(16);
 }
 
@@ -176,7 +234,7 @@ pub mod code {
     }
 
     /// 256 sound, 512 + r accused, 768 unsound, or the refusal.
-    fn verdict(answer: u32) -> Result<Verdict, Refusal> {
+    pub(crate) fn verdict(answer: u32) -> Result<Verdict, Refusal> {
         match answer {
             256 => Ok(Verdict::Sound),
             512..=767 => Ok(Verdict::Accused(answer as usize - 512)),

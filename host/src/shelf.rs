@@ -1,8 +1,10 @@
 //! The shelf: an image of n disks of S sectors, one behind the other; what the program remembers between two calls, as bytes
-//! that the caller keeps; and a work area. A request (`create`, `start`, `take_out`) is accepted or refused at once; `step` then
-//! does one action after the other until it says that the request is done.
+//! that the caller keeps; and a work area. A changing request (`create`, `start`, `take_out`, `write`, `begin`, `rebuild_on`,
+//! `repair_stripe`) is accepted or refused at once; `step` then does one action after the other until it says that the request is
+//! done. `read` and `scrub_stripe` answer at once, also while a request is under way.
 //!
 //! Any bytes may be handed in as image, state or work area. A refusal changes nothing.
+use crate::code::{self, Verdict};
 use crate::{c, Refusal};
 
 /// The bytes of a sector.
@@ -20,9 +22,25 @@ pub enum Step {
     Flush {
         slot: usize,
     },
-    /// The request is done; this is what acknowledges it.
-    Done,
+    /// The request is done; this is what acknowledges it. Of a rebuild: whether the survivors of a stripe contradicted each other,
+    /// and the mark that is reached. Of any other request: false and 0.
+    Done {
+        contradicted: bool,
+        mark: usize,
+    },
+    /// A rebuild is done as above, and with it the slot is healthy.
+    Healthy {
+        contradicted: bool,
+        mark: usize,
+    },
     Refused(Refusal),
+}
+
+impl Step {
+    /// Whether the request is done.
+    pub fn is_done(&self) -> bool {
+        matches!(self, Step::Done { .. } | Step::Healthy { .. })
+    }
 }
 
 /// What the program knows of the shelf; the masks have one bit a slot, and `sectors` is S.
@@ -141,6 +159,138 @@ pub fn take_out(
     })
 }
 
+/// Begins to write a block. The data may be forgotten at once; the write is acknowledged by the step that says `Done`.
+pub fn write(
+    block: u64,
+    data: &[u8],
+    image: &mut [u8],
+    state: &mut [u8],
+    work: &mut [u8],
+) -> Result<(), Refusal> {
+    // SAFETY: each pointer and length are one slice's; those that are written are lent to this call alone.
+    begun(unsafe {
+        c::pl_write(
+            block,
+            data.as_ptr(),
+            data.len(),
+            image.as_mut_ptr(),
+            image.len(),
+            state.as_mut_ptr(),
+            state.len(),
+            work.as_mut_ptr(),
+            work.len(),
+        )
+    })
+}
+
+/// Reads a block, also while a request is under way: of the write under way the old or the new.
+pub fn read(
+    block: u64,
+    data: &mut [u8],
+    image: &[u8],
+    state: &[u8],
+    work: &mut [u8],
+) -> Result<(), Refusal> {
+    // SAFETY: each pointer and length are one slice's; those that are written are lent to this call alone.
+    begun(unsafe {
+        c::pl_read(
+            block,
+            data.as_mut_ptr(),
+            data.len(),
+            image.as_ptr(),
+            image.len(),
+            state.as_ptr(),
+            state.len(),
+            work.as_mut_ptr(),
+            work.len(),
+        )
+    })
+}
+
+/// Begins to rebuild a slot that is out or absent. If it was absent, this says that a disk is there, whatever it holds.
+pub fn begin(
+    slot: u32,
+    image: &mut [u8],
+    state: &mut [u8],
+    work: &mut [u8],
+) -> Result<(), Refusal> {
+    // SAFETY: each pointer and length are one slice's, lent to this call alone.
+    begun(unsafe {
+        c::pl_begin(
+            slot,
+            image.as_mut_ptr(),
+            image.len(),
+            state.as_mut_ptr(),
+            state.len(),
+            work.as_mut_ptr(),
+            work.len(),
+        )
+    })
+}
+
+/// Begins to rebuild the next strips: at least one, at most `batch`.
+pub fn rebuild_on(
+    batch: u32,
+    image: &mut [u8],
+    state: &mut [u8],
+    work: &mut [u8],
+) -> Result<(), Refusal> {
+    // SAFETY: each pointer and length are one slice's, lent to this call alone.
+    begun(unsafe {
+        c::pl_rebuild_on(
+            batch,
+            image.as_mut_ptr(),
+            image.len(),
+            state.as_mut_ptr(),
+            state.len(),
+            work.as_mut_ptr(),
+            work.len(),
+        )
+    })
+}
+
+/// Whether the stripe's equations hold, and if not, which shard is accused. Image and state stay as they are.
+pub fn scrub_stripe(
+    stripe: u64,
+    image: &mut [u8],
+    state: &mut [u8],
+    work: &mut [u8],
+) -> Result<Verdict, Refusal> {
+    // SAFETY: each pointer and length are one slice's, lent to this call alone.
+    code::verdict(unsafe {
+        c::pl_scrub_stripe(
+            stripe,
+            image.as_mut_ptr(),
+            image.len(),
+            state.as_mut_ptr(),
+            state.len(),
+            work.as_mut_ptr(),
+            work.len(),
+        )
+    })
+}
+
+/// Begins to mend the shard of the stripe that a scrub accuses.
+pub fn repair_stripe(
+    stripe: u64,
+    image: &mut [u8],
+    state: &mut [u8],
+    work: &mut [u8],
+) -> Result<(), Refusal> {
+    // SAFETY: each pointer and length are one slice's, lent to this call alone.
+    begun(unsafe {
+        c::pl_repair_stripe(
+            stripe,
+            image.as_mut_ptr(),
+            image.len(),
+            state.as_mut_ptr(),
+            state.len(),
+            work.as_mut_ptr(),
+            work.len(),
+        )
+    })
+}
+
 /// Does the next action of the request that is under way.
 pub fn step(image: &mut [u8], state: &mut [u8], work: &mut [u8]) -> Step {
     // SAFETY: each pointer and length are one slice's, lent to this call alone.
@@ -154,14 +304,13 @@ pub fn step(image: &mut [u8], state: &mut [u8], work: &mut [u8]) -> Step {
             work.len(),
         )
     };
-    let slot = (answer >> 8 & 255) as usize;
+    let (slot, sector) = ((answer >> 8 & 255) as usize, (answer >> 16) as usize);
+    let (contradicted, mark) = (slot == 1, sector);
     match answer & 255 {
-        1 => Step::Put {
-            slot,
-            sector: (answer >> 16) as usize,
-        },
+        1 => Step::Put { slot, sector },
         2 => Step::Flush { slot },
-        3 => Step::Done,
+        3 => Step::Done { contradicted, mark },
+        4 => Step::Healthy { contradicted, mark },
         _ => Step::Refused(Refusal(slot as u32)),
     }
 }
@@ -231,6 +380,32 @@ impl<I: AsRef<[u8]> + AsMut<[u8]>> Shelf<I> {
 
     pub fn take_out(&mut self, slot: u32) -> Result<(), Refusal> {
         take_out(slot, self.image.as_mut(), &mut self.state, &mut self.work)
+    }
+
+    pub fn write(&mut self, block: u64, data: &[u8]) -> Result<(), Refusal> {
+        let image = self.image.as_mut();
+        write(block, data, image, &mut self.state, &mut self.work)
+    }
+
+    pub fn read(&mut self, block: u64, data: &mut [u8]) -> Result<(), Refusal> {
+        let image = self.image.as_ref();
+        read(block, data, image, &self.state, &mut self.work)
+    }
+
+    pub fn begin(&mut self, slot: u32) -> Result<(), Refusal> {
+        begin(slot, self.image.as_mut(), &mut self.state, &mut self.work)
+    }
+
+    pub fn rebuild_on(&mut self, batch: u32) -> Result<(), Refusal> {
+        rebuild_on(batch, self.image.as_mut(), &mut self.state, &mut self.work)
+    }
+
+    pub fn scrub_stripe(&mut self, stripe: u64) -> Result<Verdict, Refusal> {
+        scrub_stripe(stripe, self.image.as_mut(), &mut self.state, &mut self.work)
+    }
+
+    pub fn repair_stripe(&mut self, stripe: u64) -> Result<(), Refusal> {
+        repair_stripe(stripe, self.image.as_mut(), &mut self.state, &mut self.work)
     }
 
     pub fn step(&mut self) -> Step {

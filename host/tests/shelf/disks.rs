@@ -158,7 +158,7 @@ impl Disks {
     }
 
     /// A request is accepted, or it is refused and changes nothing; the image is not changed at all.
-    fn asked(&mut self, before: Vec<u8>, answer: Result<(), Refusal>) -> Result<(), Refusal> {
+    pub fn asked(&mut self, before: Vec<u8>, answer: Result<(), Refusal>) -> Result<(), Refusal> {
         self.assert_unchanged();
         assert!(
             answer.is_ok() || self.state == before,
@@ -219,7 +219,7 @@ impl Disks {
                 self.assert_no_other_change();
                 self.flush(slot);
             }
-            Step::Done => self.assert_unchanged(),
+            Step::Done { .. } | Step::Healthy { .. } => self.assert_unchanged(),
             Step::Refused(why) => panic!("a step of an accepted request is refused: {why:?}"),
         }
         step
@@ -230,7 +230,7 @@ impl Disks {
     }
 
     /// The label in that place of a slot, if the sector has this content.
-    fn copy(&self, slot: usize, place: usize, value: u32) -> Parsed {
+    pub fn copy(&self, slot: usize, place: usize, value: u32) -> Parsed {
         let mut parsed = self.parsed.borrow_mut();
         let known = parsed.entry((value, slot, place));
         *known.or_insert_with(|| parse(&self.contents[value as usize], slot, place))

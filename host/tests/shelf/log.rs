@@ -4,7 +4,7 @@ use crate::explore::Explorer;
 use crate::random::Random;
 use crate::watch::Watch;
 use crate::writes::Write;
-use paritylocker::shelf::{Shelf, Step};
+use paritylocker::shelf::Shelf;
 
 /// Two stripes of one sector.
 const TWO_STRIPES: Shape = Shape {
@@ -199,7 +199,7 @@ fn assert_absent_is_unseen(watch: &Watch, absent: u64, random: &mut Random) {
     while answer.is_ok() {
         let step = one.step();
         assert_eq!(step, two.step());
-        if step == Step::Done {
+        if step.is_done() {
             break;
         }
     }

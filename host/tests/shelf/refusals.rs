@@ -21,7 +21,7 @@ fn started() -> Shelf {
 }
 
 fn finish(shelf: &mut Shelf) {
-    while shelf.step() != Step::Done {}
+    while !shelf.step().is_done() {}
 }
 
 /// The request is refused with this, and nothing changes.

@@ -160,7 +160,7 @@ impl Watch {
                 );
                 goal.puts.remove(0);
             }
-            Step::Done => {
+            Step::Done { .. } => {
                 self.check_done(&goal);
                 return true;
             }

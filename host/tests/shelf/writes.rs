@@ -16,7 +16,7 @@ fn mul(mut a: u8, b: u8) -> u8 {
 }
 
 /// Parity shard j: the sum of g^(i * j) times data shard i.
-fn parity(data: &[Vec<u8>], j: usize) -> Vec<u8> {
+pub fn parity(data: &[Vec<u8>], j: usize) -> Vec<u8> {
     let mut sum = vec![0; data[0].len()];
     for (i, shard) in data.iter().enumerate() {
         let weight = (0..i * j).fold(1, |w, _| mul(w, 2));
