@@ -5,19 +5,23 @@ use mathlib.Core.List.{List}
 use Prim.Native.Nat.{ℕ, zero, suc, _+_, _-_, _≤_, _<_}
 use native.Mathlib.Omega.{arith}
 use lib.Dec.{leb, ltb, eqb}
+use lib.ListN.{length}
 use borrow.Author.Tests.{leb-true, leb-false, le-leb, lt-leb, ltb-true}
 use Rattle.disk.specs.Limits.{mostN, mostK, mostM}
 use Rattle.disk.specs.Tests.{and-left, and-right}
 use Rattle.disk.specs.Geometry.{inRange, inRangeWith, splits, stripesOf}
+use Rattle.disk.specs.Image.{fitsImage}
 use Rattle.disk.specs.Mask.{inMask, withoutSlot}
+use Rattle.disk.specs.declared.refusal.Refusal.the-variants.{BadImage, NotNow}
 use Rattle.disk.specs.declared.refusal.Outcome.{Outcome}
 use Rattle.disk.specs.declared.refusal.Outcome.the-variants.{Done}
 use Rattle.label.specs.Fields.{noSlot, mostGeneration, geometryOf, rebuildFits, fitsOf}
 use Rattle.label.specs.declared.fields.Label.{Label}
 use Rattle.label.proofs.Fits.{fits-says}
 use Rattle.requests.specs.Begun.{begun, first, slotsBut}
-use Rattle.requests.specs.Ready.{isIdle, readyOf}
-use Rattle.requests.specs.Accepted.{ready-done}
+use Rattle.position.specs.Search.{some}
+use Rattle.requests.specs.Ready.{isIdle, hasShelf, readyOf}
+use Rattle.requests.specs.Accepted.{passed, ready-done}
 use Rattle.requests.specs.TakeOut.{nextLabel}
 use Rattle.requests.specs.declared.begun.Begun.{Begun}
 use Rattle.shelf.specs.declared.state.State.{State}
@@ -26,6 +30,7 @@ use Rattle.shelf.specs.declared.state.Kind.{Kind}
 use Rattle.shelf.specs.declared.state.Kind.the-variants.{Filling}
 use Rattle.rebuilds.specs.Judge.{tooFew, lastOne, sized, judged, judged-done, first-done}
 use Rattle.rebuilds.specs.Begin.{only}
+use Rattle.rebuilds.specs.Survivors.{contradicted}
 
 -- no slot is being rebuilt, or it is absent, or no generation is left
 unfoldable pub cannotGoOn : Label → ℕ → Bool
@@ -57,8 +62,13 @@ onLabel l b =
     cond (lastBatch l b) (nextLabel l (withoutSlot (l .out) (l .rebuilding)) noSlot 0)
     (nextLabel l (l .out) (l .rebuilding) (l .mark + atLeastOne b))
 
-abbrev pub onMarks : Label → ℕ → ℕ → Marks
-onMarks l absent b =
+-- in a stripe of these strips, what is there and believed contradicts itself
+unfoldable pub someContradict : Label → ℕ → List ℕ → ℕ → Bool
+someContradict l absent img b = some (stripsOn l b) (λ i. contradicted (geometryOf l) (l .k) img l absent (l .mark + i))
+
+-- x: whether survivors contradict each other
+abbrev pub onMarks : Label → ℕ → ℕ → Bool → Marks
+onMarks l absent b x =
     record {
       present = cond (leb (l .k + l .m) mostN) (slotsBut absent (l .k + l .m)) 0;
       parts = 0;
@@ -67,7 +77,7 @@ onMarks l absent b =
       zeroed = 0;
       redo = only (l .rebuilding) true;
       stripe = stripsOn l b;
-      forward = false;
+      forward = x;
     }
 
 abbrev pub wentOnWith : State → Label → Marks → State
@@ -83,11 +93,11 @@ wentOnWith s next marks =
       cursor = record { stage = 0; slot = 0; sector = 0 };
     }
 
-abbrev pub wentOn : State → ℕ → State
-wentOn s b = wentOnWith s (onLabel (s .now) b) (onMarks (s .now) (s .absent) b)
+abbrev pub wentOn : State → ℕ → List ℕ → State
+wentOn s b img = wentOnWith s (onLabel (s .now) b) (onMarks (s .now) (s .absent) b (someContradict (s .now) (s .absent) img b))
 
 abbrev pub onOf : State → ℕ → List ℕ → ℕ → Begun
-onOf s b img room = begun (onAnswer (s .now) (s .kind) (s .absent) img room) s (wentOn s b)
+onOf s b img room = begun (onAnswer (s .now) (s .kind) (s .absent) img room) s (wentOn s b img)
 
 -- ---- what is accepted
 
@@ -131,6 +141,14 @@ on-done l kind absent img room e =
     let t : fitsOf l ≡ true = ready-done l kind absent img (f .0) in
     record { fits = t; there = slot-of l (fits-says l t .rebuild) (q .0); more = q .1 }
 
+-- and the image is the shelf's
+pub on-image : (l : Label) (kind : Kind) (absent : ℕ) (img : List ℕ) (room : ℕ) → onAnswer l kind absent img room ≡ Done → fitsImage (geometryOf l) (length img) ≡ true
+unfolding readyOf
+on-image l kind absent img room e =
+    let f = first-done (readyOf l kind absent img) (askedOn l (isIdle kind) absent room) e in
+    let p = passed (hasShelf l kind) _ NotNow (f .0) in
+    passed (fitsImage (geometryOf l) (length img)) _ BadImage (p .1) .0
+
 -- ---- the code beside the definitions
 
 pub at-least : (b : ℕ) → 1 ≤ b → b ≡ atLeastOne b
@@ -152,3 +170,15 @@ left-is t m b h = by (leb t (m + b)) refl
 pub mark-fits : (l : Label) (b : ℕ) → lastBatch l b ≡ false → l .mark + atLeastOne b < stripesOf (geometryOf l)
 unfolding lastBatch
 mark-fits l b e = leb-false (stripesOf (geometryOf l)) (l .mark + atLeastOne b) e
+
+-- the strips lie before the end
+pub strips-within : (l : Label) (b : ℕ) → l .mark ≤ stripesOf (geometryOf l) → l .mark + stripsOn l b ≤ stripesOf (geometryOf l)
+unfolding stripsOn
+strips-within l b h = by (lastBatch l b) refl
+  where
+    T : ℕ
+    T = stripesOf (geometryOf l)
+
+    by : (x : Bool) → lastBatch l b ≡ x → l .mark + cond x (T - l .mark) (atLeastOne b) ≤ T
+    by true e = omega arith
+    by false e = omega (arith, mark-fits l b e)

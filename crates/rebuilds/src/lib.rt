@@ -5,3 +5,4 @@ mod judge;
 mod next;
 pub mod on;
 mod readied;
+mod survivors;

@@ -6,6 +6,7 @@ use crate::judge::is_sized;
 use crate::judge::judge;
 use crate::judge::too_few;
 use crate::next::next_label;
+use crate::survivors::some_contradict;
 use disk::geometry::Found;
 use disk::geometry::Geometry;
 use disk::geometry::stripes;
@@ -24,10 +25,12 @@ use shelf::state::Marks;
 use shelf::state::State;
 ghost use mathlib.Core.Path.{_≡_};
 ghost use mathlib.Core.Bool.{true, false};
+ghost use lib.ListN.{length};
 ghost use Rattle.disk.specs.Geometry.{stripesOf};
+ghost use Rattle.disk.specs.Image.{fitsImage};
 ghost use Rattle.label.specs.Fields.{fitsOf, geometryOf};
 ghost use Rattle.rebuilds.specs.Judge.{lastOne};
-ghost use Rattle.rebuilds.specs.On.{cannotGoOn, askedOn, onAnswer, atLeastOne, lastBatch, stripsOn, onLabel, onMarks, wentOn, onOf, GoesOn};
+ghost use Rattle.rebuilds.specs.On.{cannotGoOn, askedOn, onAnswer, atLeastOne, lastBatch, stripsOn, onLabel, someContradict, onMarks, wentOn, onOf, GoesOn};
 
 // Whether this is not the time: no slot is being rebuilt, or it is absent, or no generation is left.
 fn cannot_go_on(l: Label, absent: u64) -> bool
@@ -124,10 +127,25 @@ fn on_label(l: Label, batch: usize) -> Label
     next_label(l, l.out, l.rebuilding, l.mark + more)
 }
 
-// What it goes by. Whether survivors contradict each other is not looked at.
-fn on_marks(l: Label, absent: u64, batch: usize) -> Marks
+// Whether survivors contradict each other: in a stripe of these strips more than k shards are there and believed, and with the lost
+// ones filled in an equation does not hold. Nothing is refused for it: the strips are computed all the same.
+fn are_contradicted(l: Label, absent: u64, batch: usize, image: &[u8]) -> bool
+    requires { ⌜ (fitsOf l ≡ true) × (fitsImage (geometryOf l) (length (now image)) ≡ true) ⌝ }
+    ensures { λ r. ⌜ r ≡ someContradict l absent (now (image .entry)) batch ⌝ }
+{
+    let count = strips_on(l, batch);
+    let g = Geometry {
+        n: l.k + l.m,
+        c: l.c,
+        sectors: l.sectors,
+    };
+    some_contradict(image, g, l, absent, l.mark, count)
+}
+
+// What it goes by. odd: whether survivors contradict each other.
+fn on_marks(l: Label, absent: u64, batch: usize, odd: bool) -> Marks
     requires { ⌜ GoesOn l ⌝ }
-    ensures { λ r. ⌜ r ≡ onMarks l absent batch ⌝ }
+    ensures { λ r. ⌜ r ≡ onMarks l absent batch odd ⌝ }
 {
     Marks {
         present: present_slots(absent, l.k + l.m),
@@ -137,18 +155,19 @@ fn on_marks(l: Label, absent: u64, batch: usize) -> Marks
         zeroed: 0,
         redo: only(l.rebuilding, true),
         stripe: strips_on(l, batch),
-        forward: false,
+        forward: odd,
     }
 }
 
 // The rebuild of these strips at its beginning.
-fn on_state(s: State, batch: usize) -> State
-    requires { ⌜ GoesOn (s .now) ⌝ }
-    ensures { λ r. ⌜ r ≡ wentOn s batch ⌝ }
+fn on_state(s: State, batch: usize, image: &[u8]) -> State
+    requires { ⌜ GoesOn (s .now) × (fitsImage (geometryOf (s .now)) (length (now image)) ≡ true) ⌝ }
+    ensures { λ r. ⌜ r ≡ wentOn s batch (now (image .entry)) ⌝ }
 {
     let now = s.now;
     let next = on_label(now, batch);
-    let marks = on_marks(now, s.absent, batch);
+    let odd = are_contradicted(now, s.absent, batch, image);
+    let marks = on_marks(now, s.absent, batch, odd);
     State {
         now: now,
         next: next,
@@ -168,6 +187,7 @@ fn on_state(s: State, batch: usize) -> State
 // Rebuilds the next strips, at most `batch` of them and one at least. Refused, in this order: no shelf is started NOT_NOW; another
 // image BAD_IMAGE; a present disk whose label is not the state's NO_LABEL; more than m slots out or absent TOO_FEW; a request under way
 // BUSY; no slot is being rebuilt, or it is absent, or no generation is left, NOT_NOW; another work area BAD_BUFFER.
+// What is accepted says in its marks (forward) whether survivors contradict each other.
 pub fn rebuild_on(s: State, batch: usize, image: &[u8], room: usize) -> Begun
     ensures { λ r. ⌜ r ≡ onOf s batch (now (image .entry)) room ⌝ }
 {
@@ -180,7 +200,7 @@ pub fn rebuild_on(s: State, batch: usize, image: &[u8], room: usize) -> Begun
             outcome: Outcome::Refused(why),
         },
         Outcome::Done => {
-            let first = on_state(s, batch);
+            let first = on_state(s, batch, image);
             Begun {
                 state: first,
                 outcome: Outcome::Done,

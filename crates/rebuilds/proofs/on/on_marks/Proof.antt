@@ -1,7 +1,6 @@
 -- `on_marks` meets its contract. Assumes nothing.
 use mathlib.Core.Path.{_≡_, refl, sym, ap, ap₂, _∙_}
 use native.Mathlib.Omega.{arith}
-use mathlib.Core.Bool.{false}
 use Rattle.shelf.specs.declared.state.Marks.{Marks}
 use Rattle.label.proofs.Fits.{fits-says}
 use borrow.Author.Needs.{needs}
@@ -22,7 +21,7 @@ strips-on-requires c κs = c .before .before .before .pre .fits
 
 returns : tie.Need-returns
 returns c =
-    λ i. record { present = c .before .before .present-slots .ensures i; parts = 0; late = 0; prep = 0; zeroed = 0; redo = c .before .only .ensures i; stripe = c .strips-on .ensures i; forward = false }
+    λ i. record { present = c .before .before .present-slots .ensures i; parts = 0; late = 0; prep = 0; zeroed = 0; redo = c .before .only .ensures i; stripe = c .strips-on .ensures i; forward = c .before .before .before .before .args .odd }
 
 pub on-marks-spec : {M : Type 1} → statement M
 on-marks-spec =
