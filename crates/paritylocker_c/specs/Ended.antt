@@ -27,10 +27,13 @@ markReached healed mark strips next = cond healed (mark % 4294967296 + strips % 
 unfoldable pub rebuiltNumber : Bool → Bool → ℕ → ℕ
 rebuiltNumber healed torn mark = cond healed 4 3 + cond torn 256 0 + 65536 * (mark % 4294967296)
 
+abbrev pub filledNumber : Label → Label → Marks → ℕ
+filledNumber l next marks =
+    let healed = eqb (next .rebuilding) 255 in
+    rebuiltNumber healed (marks .forward) (markReached healed (l .mark) (marks .stripe) (next .mark))
+
 unfoldable pub numberDone : Kind → Label → Label → Marks → ℕ
-numberDone kind l next marks =
-    cond (isFilling kind)
-    (rebuiltNumber (eqb (next .rebuilding) 255) (marks .forward) (markReached (eqb (next .rebuilding) 255) (l .mark) (marks .stripe) (next .mark))) 3
+numberDone kind l next marks = cond (isFilling kind) (filledNumber l next marks) 3
 
 -- the number of a request that is done, from the state before its last step
 abbrev pub doneNumber : State → ℕ

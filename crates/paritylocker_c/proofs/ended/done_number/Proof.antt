@@ -3,7 +3,7 @@ use mathlib.Core.Path.{sym, ap, _∙_}
 use mathlib.Core.Bool.{Bool, cond}
 use Prim.Native.Nat.{ℕ}
 use lib.Dec.{eqb}
-use Rattle.paritylocker_c.specs.Ended.{markReached, rebuiltNumber, numberDone}
+use Rattle.paritylocker_c.specs.Ended.{rebuiltNumber, filledNumber, numberDone}
 use borrow.Author.Tests.{not-true, not-false}
 use borrow.Author.Needs.{needs}
 use Rattle.paritylocker_c.proofs.ended.done_number.Statement.{statement}
@@ -14,7 +14,7 @@ is-filling-requires c κs = search needs
 
 returns : tie.Need-returns
 unfolding numberDone
-returns c = let a = c .before .before .args in sym (ap (λ (b : Bool). cond b (rebuiltNumber (eqb (a .next .rebuilding) 255) (a .marks .forward) (markReached (eqb (a .next .rebuilding) 255) (a .now .mark) (a .marks .stripe) (a .next .mark))) 3) (sym (c .before .is-filling .ensures) ∙ not-true _ (c .if1 .taken)))
+returns c = let a = c .before .before .args in sym (ap (λ (b : Bool). cond b (filledNumber (a .now) (a .next) (a .marks)) 3) (sym (c .before .is-filling .ensures) ∙ not-true _ (c .if1 .taken)))
 
 mark-reached-requires : tie.Need-mark-reached-requires
 mark-reached-requires c κs = search needs
@@ -27,7 +27,7 @@ unfolding numberDone
 returns-2 c =
     let a = c .before .before .before .before .before .args in
     c .rebuilt-number .ensures ∙ ap (λ (x : ℕ). rebuiltNumber (eqb (a .next .rebuilding) 255) (a .marks .forward) x) (c .before .mark-reached .ensures)
-    ∙ sym (ap (λ (b : Bool). cond b (rebuiltNumber (eqb (a .next .rebuilding) 255) (a .marks .forward) (markReached (eqb (a .next .rebuilding) 255) (a .now .mark) (a .marks .stripe) (a .next .mark))) 3) (sym (c .before .before .before .before .is-filling .ensures) ∙ not-false _ (c .before .before .before .if1 .left)))
+    ∙ sym (ap (λ (b : Bool). cond b (filledNumber (a .now) (a .next) (a .marks)) 3) (sym (c .before .before .before .before .is-filling .ensures) ∙ not-false _ (c .before .before .before .if1 .left)))
 
 pub done-number-spec : {M : Type 1} → statement M
 done-number-spec =
