@@ -1,6 +1,8 @@
 // The C interface: numbers and byte slices. Each function takes any argument; include/paritylocker.h says what each answers.
+mod ended;
 mod host;
 mod labels;
+mod rebuilding;
 mod shelves;
 
 use code::Verdict;
