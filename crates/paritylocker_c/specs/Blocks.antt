@@ -13,6 +13,8 @@ use Rattle.disk.specs.declared.refusal.Outcome.the-variants.{Done, Refused}
 use Rattle.disk.specs.declared.refusal.Refusal.the-variants.{BadBuffer}
 use Rattle.memory.specs.Bytes as memory
 use Rattle.memory.specs.Bytes.{stateLength, stateAt, stateBytes}
+use Rattle.requests.specs.declared.begun.Begun.{Begun}
+use Rattle.scrubs.specs.Repair.{Repairs, repair-refused}
 use Rattle.shelf.specs.declared.state.State.{State}
 use Rattle.strips.specs.declared.whole.Scrubbed.{Scrubbed}
 use Rattle.strips.specs.declared.whole.Scrubbed.the-variants as scrubbed
@@ -80,6 +82,15 @@ pub record Scrubs (o : Outcome) (P : Verdict → Type 0) (r : ℕ) : Type 0 wher
 abbrev pub SmallFound : Scrubbed → Type 0
 SmallFound (scrubbed.Found v) = Small v
 SmallFound (scrubbed.Refused why) = Unit {0}
+
+-- ---- repair
+
+-- how a repair begins, its number, and what is kept of it
+pub record Mends (st : List ℕ) (t : ℕ) (img work : List ℕ) (r : ℕ) (st' after : List ℕ) : Type 0 where
+  pub begun : Begun
+  pub repairs : length st ≡ stateLength → Repairs (stateAt st) t img work begun after
+  pub number : r ≡ numberOfOutcome (sizedOr (length st) (begun .outcome))
+  pub left : Left (sizedOr (length st) (begun .outcome)) (λ s. s ≡ begun .state) st st' work after
 
 -- ---- by cases
 
@@ -169,4 +180,35 @@ module _ (st : List ℕ) (t : ℕ) (img work : List ℕ) where
         holds =
             subst (λ (o : Outcome). ScrubbedBy o (SaysAt (stateAt st) t img work) f) (sym (sized-is (length st) (scrubOf (stateAt st) t (length img) (length work)) h))
             (subst (λ (x : State). ScrubbedBy (scrubOf x t (length img) (length work)) (SaysAt x t img work) f) e p);
+      }
+
+-- what is kept of a repair
+module _ (st : List ℕ) (t : ℕ) (img work : List ℕ) where
+  pub mends-short : (length st ≡ stateLength → ⊥) → Mends st t img work 16 st work
+  mends-short h =
+      let z = left-short st work (Refused BadBuffer) (λ s. s ≡ stateAt st) h in
+      record {
+        begun = record { state = stateAt st; outcome = Refused BadBuffer };
+        repairs = λ e. absurd (h e);
+        number = z .0;
+        left = z .1;
+      }
+
+  pub mends-kept : (b : Begun) (s : State) (st' after : List ℕ) (r : ℕ) (o : Outcome) → b .outcome ≡ o → length st ≡ stateLength → Repairs s t img work b after
+      → r ≡ numberBegun o (length st) → st' ≡ bytesBegun o (b .state) st → (r ≡ numberOfOutcome o) × Left o (λ x. x ≡ b .state) st st' work after
+  mends-kept b s st' after r Done q h w n k =
+      let e = write-fits (length st) h in
+      (n ∙ ap numberOfOutcome e, record { state = b .state; begins = refl; kept = k ∙ ap (λ (x : Outcome). memory.afterWrite x (b .state) st) e })
+  mends-kept b s st' after r (Refused why) q h w n k = (n, (k, repair-refused s t img work b after w why q .1))
+
+  pub mends : (b : Begun) (s : State) (st' after : List ℕ) (r : ℕ) → length st ≡ stateLength → s ≡ stateAt st → Repairs s t img work b after
+      → r ≡ numberBegun (b .outcome) (length st) → st' ≡ bytesBegun (b .outcome) (b .state) st → Mends st t img work r st' after
+  mends b s st' after r h e w n k =
+      let z = mends-kept b s st' after r (b .outcome) refl h w n k in
+      let q = sym (sized-is (length st) (b .outcome) h) in
+      record {
+        begun = b;
+        repairs = λ y. subst (λ (x : State). Repairs x t img work b after) e w;
+        number = z .0 ∙ ap numberOfOutcome q;
+        left = subst (λ (o : Outcome). Left o (λ x. x ≡ b .state) st st' work after) q (z .1);
       }

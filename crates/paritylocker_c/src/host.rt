@@ -8,6 +8,7 @@ use blocks::scrub::scrub_stripe;
 use blocks::write::write;
 use disk::refusal::number;
 use memory::state_bytes;
+use scrubs::repair::repair_stripe;
 use strips::whole::Scrubbed;
 ghost use mathlib.Core.Path.{_≡_};
 ghost use lib.ListN.{length};
@@ -15,7 +16,7 @@ ghost use Rattle.memory.specs.Bytes.{stateAt};
 ghost use Rattle.blocks.specs.Read.{afterRead};
 ghost use Rattle.blocks.specs.Write.{Written};
 ghost use Rattle.paritylocker_c.specs.Labels.{numberOfOutcome};
-ghost use Rattle.paritylocker_c.specs.Blocks.{readWith, writeWith, scrubWith, Left, SaysAt, SmallFound, numberOfScrubbed, Scrubs};
+ghost use Rattle.paritylocker_c.specs.Blocks.{readWith, writeWith, scrubWith, Left, SaysAt, SmallFound, numberOfScrubbed, Scrubs, Mends};
 
 // Reads a block.
 #[no_mangle]
@@ -90,4 +91,23 @@ pub extern "C" fn pl_scrub_stripe(
     let s = memory::read(state);
     let found = scrub_stripe(s, stripe as usize, image, work);
     scrubbed_number(found)
+}
+
+// Begins to repair a stripe.
+#[no_mangle]
+pub extern "C" fn pl_repair_stripe(
+    stripe: u64,
+    image: &mut [u8],
+    state: &mut [u8],
+    work: &mut [u8],
+) -> u32
+    ensures { λ r. ⌜ Mends (now (state .entry)) stripe (now (image .entry)) (now (work .entry)) r (now (state .exit)) (now (work .exit))
+        × (now (image .exit) ≡ now (image .entry)) ⌝ }
+{
+    if state.len() != state_bytes() {
+        return 16;
+    }
+    let s = memory::read(state);
+    let begun = repair_stripe(s, stripe as usize, image, work);
+    keep(begun, state)
 }
