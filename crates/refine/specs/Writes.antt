@@ -17,7 +17,7 @@ use Rattle.protocol.specs.Log.{Write}
 use Rattle.protocol.specs.Label.{belief}
 use Rattle.protocol.specs.Write.{log-write}
 use Rattle.protocol.specs.Host.{Change, writeOf}
-use Rattle.protocol.specs.Program.{Own, Memory, idle, doing, logging, storing, Reply, did, safe, done, step, beyond, asked-write, asked-store}
+use Rattle.protocol.specs.Program.{Own, Memory, idle, doing, logging, storing, Reply, did, safe, done, step, beyond, change-made, asked-write, asked-store}
 use Rattle.protocol.specs.Machine.{effect}
 use Rattle.protocol.specs.Even.{program-by}
 use Rattle.protocol.specs.Pairs.{no-sets}
@@ -280,12 +280,16 @@ module _ (z : Shelf) where
       (record { now = labelOf z (a .now j); absent = beyond (slots z) (inMask (a .absent j)); epoch = a .epoch j; count = before j })
       (record { now = labelOf z (a .next j); absent = beyond (slots z) (inMask (a .absent j)); epoch = a .epoch j; count = mine j }))
 
-  -- A WRITE OF THE HOST'S, accepted in state i, begins as the protocol's; f is what is seen of the disks
-  pub write-begins : (i s : State) (work img : List ℕ) (f : Image Sector) (t : ℕ) (ch : Change Sector)
-      → Asks i s work (writeOf (size z) (no-sets (slots z)) (records z) (any-code z) (labelOf z (i .now)) f t ch)
-      → memoryWith z (writeOf (size z) (no-sets (slots z)) (records z) (any-code z) (labelOf z (i .now)) f t ch) s work img
-      ≡ asked-write (size z) (no-sets (slots z)) (labels z) (records z) (any-code z) stamps (any-sectors z) (ownOf z i (i .now)) f t ch
-  write-begins i s work img f t ch a = log-begins i s work img (writeOf (size z) (no-sets (slots z)) (records z) (any-code z) (labelOf z (i .now)) f t ch) a
+  -- the write that the protocol's program makes of a change of the host's, asked for in state i; f is what is seen of the disks
+  abbrev pub write-asked : State → Image Sector → ℕ → Change Sector → Write Sector
+  write-asked i f t ch =
+      writeOf (size z) (no-sets (slots z)) (records z) (any-code z) (labelOf z (i .now)) f t
+      (change-made (size z) (no-sets (slots z)) (labels z) (records z) (any-code z) stamps (any-sectors z) (ownOf z i (i .now)) f t ch)
+
+  -- A WRITE OF THE HOST'S, accepted in state i, begins as the protocol's
+  pub write-begins : (i s : State) (work img : List ℕ) (f : Image Sector) (t : ℕ) (ch : Change Sector) → Asks i s work (write-asked i f t ch)
+      → memoryWith z (write-asked i f t ch) s work img ≡ asked-write (size z) (no-sets (slots z)) (labels z) (records z) (any-code z) stamps (any-sectors z) (ownOf z i (i .now)) f t ch
+  write-begins i s work img f t ch a = log-begins i s work img (write-asked i f t ch) a
 
   -- AND IT CAN BE CARRIED OUT: the slots that it is to put on are present, the stripe and the set of shards are the shelf's, the count is
   -- one of 8 bytes, and the work area has the stripe
