@@ -31,3 +31,5 @@ pub mod Holds
 pub mod Promise
 pub mod Blind
 pub mod Strips
+pub mod Sees
+pub mod WriteAsked
