@@ -33,3 +33,4 @@ pub mod Blind
 pub mod Strips
 pub mod Sees
 pub mod WriteAsked
+pub mod Hosts
