@@ -16,7 +16,7 @@ use Rattle.disk.specs.declared.refusal.Outcome.the-variants.{Done, Refused}
 use Rattle.disk.specs.Geometry.{blocksOf}
 use Rattle.label.specs.Fields.{geometryOf}
 use Rattle.label.specs.Bytes.{allZero}
-use Rattle.protocol.specs.World.{World, Possible, after, Always}
+use Rattle.protocol.specs.World.{Image, Action, put, flush, World, Possible, after, Always}
 use Rattle.protocol.specs.Log.{Write}
 use Rattle.protocol.specs.Label as Label
 use Rattle.protocol.specs.Host.{Host, one-block, replace}
@@ -24,6 +24,7 @@ use Rattle.protocol.specs.Program.{Memory, idle, Reply, accepted, refused, did,
 use Rattle.protocol.specs.Program as program
 use Rattle.protocol.specs.Machine.{Machine, effect, View, sure, open-write, kept-write, Saved, Ended, Answered}
 use Rattle.protocol.specs.Machine as machine
+use Rattle.protocol.specs.Even.{program-by}
 use Rattle.codecs.specs.Sector.{Sector, Bytes}
 use Rattle.codecs.specs.Shelf.{Shelf, slots, geometry, size}
 use Rattle.codecs.specs.Labels.{ours, labelOf}
@@ -52,7 +53,7 @@ use Rattle.refine.specs.ToDo.{toDo}
 use Rattle.refine.specs.Steps.{Fair}
 use Rattle.refine.specs.Tied.{ownOf, writeMemory, memoryBy, memoryWith, memoryOf, plain, Same, programOf, Tied}
 use Rattle.refine.specs.WriteList.{Writes}
-use Rattle.refine.specs.Writes.{TiedWrite, write-tied}
+use Rattle.refine.specs.Writes.{OfWrite, TiedWrite, write-tied}
 use Rattle.refine.specs.Other.{Sits}
 use Rattle.refine.specs.Named.{Named, Names, leftIn, step-names, names-log}
 use Rattle.refine.specs.Sees.{sectorsOf}
@@ -166,6 +167,16 @@ Seen (goes-on c x) p q = (r : View Sector) × Seen c p r × Saw x r q
 
 -- ---- THE TIE
 
+-- which answer it is
+abbrev NotSafe : Reply Sector → Type 0
+NotSafe accepted = Unit {0}
+NotSafe (refused why) = Unit {0}
+NotSafe (did a) = Unit {0}
+NotSafe safe = ⊥
+NotSafe (done k) = Unit {0}
+NotSafe (block b) = Unit {0}
+NotSafe (found x) = Unit {0}
+
 module _ (z : Shelf) (F : Family z) (first : Machine Sector) where
   -- a write is under way: which one, and what is remembered of it
   pub record Laying (p : View Sector) (w : World Sector) (img : List ℕ) (s : State) (work : List ℕ) : Type 1 where
@@ -272,3 +283,177 @@ module _ (z : Shelf) (F : Family z) (first : Machine Sector) where
         by Done e a =
             ⊎-elim (λ (x : Tie z F first p w img (chain.has s)). accepted-write e a x) (λ (x : Laying p w img s work). absurd (false≢true (sym (ap isIdle (x .writes .kind)) ∙ rest-of e))) t
         by (Refused why) e a = (p, refl, subst (λ (x : State). Bound p w img (has x then)) (sym (a .0)) (subst (λ (x : List ℕ). Bound p w img (has s x)) (sym (a .1)) t))
+
+  -- ---- a step
+
+  saw-refused : (k : Kind) (why : Refusal) (p : View Sector) → SawStep k (answer.Refused why) p p
+  saw-refused Nothing why p = refl
+  saw-refused Idle why p = refl
+  saw-refused Creating why p = refl
+  saw-refused Starting why p = refl
+  saw-refused Labelling why p = refl
+  saw-refused Writing why p = refl
+  saw-refused Beginning why p = refl
+  saw-refused Filling why p = refl
+
+  saw-started : (x : Action Sector) (a : Answer) → Same z a (did x) → (p q : View Sector) → q ≡ p → SawStart a p q
+  saw-started (put k v) a s p q e = subst (λ (y : Answer). SawStart y p q) (sym (s .1)) e
+  saw-started (flush d) a s p q e = subst (λ (y : Answer). SawStart y p q) (sym s) e
+
+  -- of a request that keeps nothing in the work area
+  saw-step : (k : Kind) → plain k ≡ true → (s : State) (v : Memory Sector) (l : List (Action Sector)) (f : Image Sector) (r : Reply Sector) (a : Answer) → programOf z (memoryBy k z s v l) f step .1 ≡ r → Same z a r
+      → (p q : View Sector) → Answered (z .c) step r p q → SawStep k a p q
+  unfolding program-by
+  saw-step Nothing e s v l f r a m same p q h = absurd (subst (Same z a) (sym m) same)
+  saw-step Idle e s v l f r a m same p q h = absurd (subst (Same z a) (sym m) same)
+  saw-step Creating e s v [] f r a m same p q h = subst (λ (x : Reply Sector). Answered (z .c) step x p q) (sym m) h
+  saw-step Creating e s v (x ∷ l) f r a m same p q h = subst (λ (x : Reply Sector). Answered (z .c) step x p q) (sym m) h
+  saw-step Starting e s v [] f r a m same p q h =
+      let d : a ≡ answer.Done = subst (Same z a) (sym m) same in
+      subst (λ (y : Answer). SawStart y p q) (sym d) (subst (λ (x : Reply Sector). Answered (z .c) step x p q) (sym m) h)
+  saw-step Starting e s v (x ∷ l) f r a m same p q h = saw-started x a (subst (Same z a) (sym m) same) p q (subst (λ (x : Reply Sector). Answered (z .c) step x p q) (sym m) h)
+  saw-step Labelling e s v [] f r a m same p q h = subst (λ (x : Reply Sector). Answered (z .c) step x p q) (sym m) h
+  saw-step Labelling e s v (x ∷ l) f r a m same p q h = subst (λ (x : Reply Sector). Answered (z .c) step x p q) (sym m) h
+  saw-step Writing e s v l f r a m same p q h = absurd (false≢true e)
+  saw-step Beginning e s v [] f r a m same p q h = subst (λ (x : Reply Sector). Answered (z .c) step x p q) (sym m) h
+  saw-step Beginning e s v (x ∷ l) f r a m same p q h = subst (λ (x : Reply Sector). Answered (z .c) step x p q) (sym m) h
+  saw-step Filling e s v l f r a m same p q h = absurd (false≢true e)
+
+  step-plain : (p : View Sector) (w : World Sector) (img : List ℕ) (s : State) (work : List ℕ) (w' : World Sector) → Tie z F first p w img (chain.has s)
+      → Heard z w (stepWith s img work .stepped .answer) (stepWith s img work .image) w'
+      → (q : View Sector) × SawStep (s .kind) (stepWith s img work .stepped .answer) p q × Bound q w' (stepWith s img work .image) (has (stepWith s img work .stepped .state) work)
+  unfolding memoryOf
+  step-plain p w img s work w' t h =
+      ⊎-elim
+      (λ (d : Tied z s [] img (stepWith s img work)).
+      let y = goes-to z F first p w img s (stepWith s img work) w' d t h in
+      (y .0, saw-step (s .kind) plainly s _ (toDo z s [] img) (curOf z img) (d .reply) (stepWith s img work .stepped .answer) (ap (λ (b : Memory Sector × Reply Sector). b .1) (d .steps)) (d .answers) p (y .0) (y .1), inl (y .2)))
+      (λ (d : (why : Refusal) × (stepWith s img work ≡ refuses s why img)).
+      (p, subst (λ (m : Move). SawStep (s .kind) (m .stepped .answer) p p) (sym (d .1)) (saw-refused (s .kind) (d .0) p), inl (refused-kept z F first p w img s (d .0) (stepWith s img work) w' (d .1) t h)))
+      (step-is z F first p w img s work t)
+    where
+      plainly : plain (s .kind) ≡ true
+      plainly = ⊎-elim (λ (f : Fair z s [] img × (plain (s .kind) ≡ true)). f .1) (λ (q : (s .kind ≡ Idle) × (ours z (s .now) ≡ true)). ap plain (q .0)) (t .order .1)
+
+  -- of a write
+  acknowledges : (x : Write Sector) (p q : View Sector) → Ended (program.storing x) p q → Acknowledged p q
+  acknowledges x (sure v) q h = h
+  acknowledges x (open-write v v') q h = absurd h
+  acknowledges x (kept-write v') q h = h
+
+  saved-then : (x : Write Sector) (p r q : View Sector) → Saved p r → Ended (program.storing x) r q → Acknowledged p q
+  saved-then x (sure v) r q s h = absurd s
+  saved-then x (open-write v v') r q s h = subst (λ (y : View Sector). Ended (program.storing x) y q) s h
+  saved-then x (kept-write v') r q s h = absurd s
+
+  may-save : (p r q : View Sector) → (r ≡ p) ⊎ Saved p r → q ≡ r → (q ≡ p) ⊎ Saved p q
+  may-save p r q (inl e) h = inl (h ∙ e)
+  may-save p r q (inr e) h = inr (subst (Saved p) (sym h) e)
+
+  saw-write : (y : Reply Sector) → OfWrite y → (a : Answer) → Same z a y → (p r q : View Sector) → (r ≡ p) ⊎ Saved p r → Answered (z .c) step y r q → SawWrite a p q
+  saw-write accepted o a s p r q e h = absurd s
+  saw-write (refused why) o a s p r q e h = absurd s
+  saw-write (did (put k v)) o a s p r q e h = subst (λ (y : Answer). SawWrite y p q) (sym (s .1)) (may-save p r q e h)
+  saw-write (did (flush d)) o a s p r q e h = subst (λ (y : Answer). SawWrite y p q) (sym s) (may-save p r q e h)
+  saw-write safe o a s p r q e h = absurd s
+  saw-write (done program.creating) o a s p r q e h = absurd o
+  saw-write (done program.starting) o a s p r q e h = absurd o
+  saw-write (done (program.logging x)) o a s p r q e h = absurd o
+  saw-write (done (program.storing x)) o a s p r q e h =
+      subst (λ (y : Answer). SawWrite y p q) (sym s)
+      (⊎-elim (λ (i : r ≡ p). acknowledges x p q (subst (λ (y : View Sector). Ended (program.storing x) y q) i h)) (λ (i : Saved p r). saved-then x p r q i h) e)
+  saw-write (done program.labelling) o a s p r q e h = absurd o
+  saw-write (block b) o a s p r q e h = absurd s
+  saw-write (found x) o a s p r q e h = absurd s
+
+  -- at rest it remembers its own
+  with-rests : (u : Write Sector) (s : State) (work img : List ℕ) → s .kind ≡ Idle → memoryWith z u s work img ≡ idle (ownOf z s (s .now))
+  with-rests u s work img e = ap (λ (k : Kind). memoryBy k z s (writeMemory z u s work (curOf z img)) (toDo z s work img)) e
+
+  safe-none : (why : program.Refusal) → _≡_ {A = Reply Sector} safe (refused why) → ⊥
+  safe-none why e = absurd (subst NotSafe (sym e) tt)
+
+  step-write : (p : View Sector) (w : World Sector) (img : List ℕ) (s : State) (work : List ℕ) (m : Move) (w' : World Sector) (t : Laying p w img s work) → TiedWrite z (t .written) s work img m → Heard z w (m .stepped .answer) (m .image) w'
+      → (q : View Sector) × SawWrite (m .stepped .answer) p q × Bound q w' (m .image) (has (m .stepped .state) work)
+  step-write p w img s work m w' t d h =
+      let y = asks-to z F first img (t .reads) (begins .2) (memoryWith z u (m .stepped .state) work (m .image)) step (d .reply) (d .steps) (step-some z F first p (d .reply) (m .stepped .answer) (d .answers)) (λ e x n. step-leaves z F first p (d .reply) (m .stepped .answer) (d .answers) e x _ n) in
+      let n = subst (λ (y : Memory Sector × Reply Sector). Always (effect w (y .1)) (Named z) × Names z (leftIn z (y .0))) (d .steps) (step-names z (d .before) (curOf z img) w (off z F first p (t .reached) .keeps .sane) (t .named) (begins .3)) in
+      (y .0, saw-write (d .reply) (d .of-write) (m .stepped .answer) (d .answers) p (begins .0) (y .0) (begins .1) (y .1),
+      subst (λ (x : World Sector). Bound (y .0) x (m .image) (has (m .stepped .state) work)) (heard-is z F first p w w' (m .image) (d .reply) (m .stepped .answer) (d .answers) (d .acts w (t .reads)) h)
+      (⊎-elim
+      (λ (g : Fair z (m .stepped .state) work (m .image) × Writes z (m .stepped .state) work u).
+      inr
+      (record {
+        written = u;
+        disks = g .0 .disks;
+        reads = d .acts w (t .reads);
+        reached = y .2;
+        named = n .0;
+        names = n .1;
+        next-ours = ap (ours z) (d .settles) ∙ t .next-ours;
+        fair = g .0;
+        writes = g .1;
+      }))
+      (λ (g : m ≡ finished s img).
+      let k : m .stepped .state .kind ≡ Idle = ap (λ (x : Move). x .stepped .state .kind) g in
+      let e : memoryWith z u (m .stepped .state) work (m .image) ≡ memoryOf z (m .stepped .state) [] (m .image) = with-rests u (m .stepped .state) work (m .image) k ∙ sym (rests z (m .stepped .state) (m .image) k) in
+      inl
+      (record {
+        disks = subst (λ (x : Move). Disks z (x .image)) (sym g) (t .disks);
+        reads = d .acts w (t .reads);
+        reached = subst (Reached z F first (y .0) (effect w (d .reply))) e (y .2);
+        named = n .0;
+        names = subst (λ (x : Memory Sector). Names z (leftIn z x)) e (n .1);
+        order = (ap (ours z) (d .settles) ∙ t .next-ours, inr (k, ap (λ (x : Move). ours z (x .stepped .state .now)) g ∙ t .next-ours));
+      })) (d .goes-on)))
+    where
+      u : Write Sector
+      u = t .written
+
+      begins : (r : View Sector) × ((r ≡ p) ⊎ Saved p r) × Reached z F first r w (d .before) × Names z (leftIn z (d .before))
+      begins =
+          ⊎-elim
+          (λ (e : memoryWith z u s work img ≡ d .before). (p, inl refl, subst (Reached z F first p w) e (t .reached), subst (λ (x : Memory Sector). Names z (leftIn z x)) e (t .names)))
+          (λ (e : programOf z (memoryWith z u s work img) (curOf z img) step ≡ (d .before, safe)).
+          let y = asks-to z F first img (t .reads) (t .reached) (d .before) step safe e safe-none (λ q. absurd (subst NotSafe (sym q) tt)) in
+          let n = subst (λ (y : Memory Sector × Reply Sector). Names z (leftIn z (y .0))) e (step-names z (memoryWith z u s work img) (curOf z img) w (off z F first p (t .reached) .keeps .sane) (t .named) (t .names) .1) in
+          (y .0, inr (y .1), y .2, n)) (d .first)
+
+  step-bound : (p : View Sector) (w : World Sector) (img : List ℕ) (s : State) (work : List ℕ) (w' : World Sector) → Bound p w img (has s work)
+      → Heard z w (stepWith s img work .stepped .answer) (stepWith s img work .image) w'
+      → (q : View Sector) × SawStep (s .kind) (stepWith s img work .stepped .answer) p q × Bound q w' (stepWith s img work .image) (has (stepWith s img work .stepped .state) work)
+  step-bound p w img s work w' (inl t) h = step-plain p w img s work w' t h
+  step-bound p w img s work w' (inr t) h = by (otherWork (s .now) (length img) (length work)) refl
+    where
+      kind-is : (q : View Sector) (a : Answer) → SawWrite a p q → SawStep (s .kind) a p q
+      kind-is q a x = subst (λ (k : Kind). SawStep k a p q) (sym (t .writes .kind)) x
+
+      by : (b : Bool) → otherWork (s .now) (length img) (length work) ≡ b → (q : View Sector) × SawStep (s .kind) (stepWith s img work .stepped .answer) p q × Bound q w' (stepWith s img work .image) (has (stepWith s img work .stepped .state) work)
+      by true e =
+          let d = step-short s img work (t .fair .in-range) e in
+          subst (λ (m : Move). Heard z w (m .stepped .answer) (m .image) w' → (q : View Sector) × SawStep (s .kind) (m .stepped .answer) p q × Bound q w' (m .image) (has (m .stepped .state) work)) (sym d)
+          (λ i. (p, saw-refused (s .kind) BadBuffer p, subst (λ (x : World Sector). Bound p x img (has s work)) (sym i) (inr t))) h
+      by false e =
+          let d = step-goes s img work (t .fair .in-range) e in
+          subst (λ (m : Move). Heard z w (m .stepped .answer) (m .image) w' → (q : View Sector) × SawStep (s .kind) (m .stepped .answer) p q × Bound q w' (m .image) (has (m .stepped .state) work)) (sym d)
+          (λ i. let y = step-write p w img s work (stepMove s work img) w' t (write-tied z (t .written) s work img (t .writes) (t .fair)) i in (y .0, kind-is (y .0) (stepMove s work img .stepped .answer) (y .1), y .2)) h
+
+  -- ---- A CALL KEEPS THE TIE, and the view goes on as it may
+
+  pub call-bound : {a b : Time} (x : HostCalls z a b) → Allowed z F (sets-call x) → (p : View Sector) → BoundAt p a → (q : View Sector) × Saw x p q × BoundAt q b
+  call-bound (creates {w} {img} {h} s work) ok p t = (p, refl, anew p w img h (createOf s (z .k) (z .m) (z .c) (z .sectors) (z .number) img (length work)) work t (create-kept z F first p w img chain.none s (length work) (loose p w img h t)))
+  call-bound (creates-late {w} {img} {h} s k m c S number work e) ok p t = (p, refl, anew p w img h (createOf s k m c S number img (length work)) work t (late-kept z F first p w img chain.none s k m c S number (length work) e (loose p w img h t)))
+  call-bound (starts {w} {img} {h} s g absent work sits) ok p t = (p, refl, anew p w img h (startOf s g absent img (length work)) work t (start-any z F first p w img chain.none s g absent (length work) sits ok (loose p w img h t)))
+  call-bound (takes-out {w} {img} {s} {work} d) ok p t = (p, refl, out-bound p w img s work d ok t)
+  call-bound (writes {w} {img} {s} {work} b given s' then x y e) ok p t = write-bound p w img s work b given s' then x y e t
+  call-bound (steps {w} {w'} {img} {s} {work} heard) ok p t = step-bound p w img s work w' t heard
+  call-bound (cut {w} {img} {h} left d x) ok p t = (p, refl, cut-kept z F first p w img chain.none left d x (loose p w img h t))
+  call-bound (dies {w} {img} {h}) ok p t = (p, refl, loose p w img h t)
+
+  -- AND A CHAIN
+  pub chain-bound : {a b : Time} (c : HostChain z a b) → Allowed z F (sets c) → (p : View Sector) → BoundAt p a → (q : View Sector) × Seen c p q × BoundAt q b
+  chain-bound stays ok p t = (p, refl, t)
+  chain-bound (goes-on c x) ok p t =
+      let y = chain-bound c (λ s m. ok s (Memᴰ·append-right (sets-call x) m)) p t in
+      let r = call-bound x (λ s m. ok s (Memᴰ·append-left (sets c) m)) (y .0) (y .2) in
+      (r .0, (y .0, y .1, r .1), r .2)
