@@ -596,7 +596,7 @@ module _ (z : Shelf) (img : List ℕ) (disks : Disks z img) (blank : allZero img
   fresh = machine.at (after (curOf z img)) nothing
 
   -- no state is held
-  fresh-tie : (F : Family z) → Tie z F fresh (sure blocks) (after (curOf z img)) img none
+  pub fresh-tie : (F : Family z) → Tie z F fresh (sure blocks) (after (curOf z img)) img none
   unfolding after Named
   fresh-tie F =
       let c = all-zeros z img blank in

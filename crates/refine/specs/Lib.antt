@@ -34,3 +34,4 @@ pub mod Strips
 pub mod Sees
 pub mod WriteAsked
 pub mod Hosts
+pub mod Reads
