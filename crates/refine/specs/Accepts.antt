@@ -2,6 +2,7 @@
 -- at rest. (It may refuse more, and nothing changes then: a disk whose newest label is another shelf's.) And start-up finds no
 -- garbage in the log, in a world that the protocol keeps. Assumes nothing.
 use mathlib.Core.Path.{_≡_, refl, sym, ap, ap₂, subst, _∙_, fun-ext}
+use mathlib.Core.Logic.{inl, inr}
 use mathlib.Core.Bool.{Bool, true, false, cond, not, _&&_, _||_}
 use mathlib.Core.List.{List, [], _∷_}
 use Prim.Native.Nat.{ℕ, zero, suc, _+_, _*_, _≤_, _<_, _%_, _^_}
@@ -34,8 +35,8 @@ use Rattle.protocol.specs.Label.{Label, plainly-out, looked, belief}
 use Rattle.protocol.specs.Startup as startup
 use Rattle.protocol.specs.Startup.{Framed, same-self, settled-D}
 use Rattle.protocol.specs.Decide.{settled, Accepted, Met, meets-shelf, done-above}
-use Rattle.protocol.specs.Host.{Host}
-use Rattle.protocol.specs.Machine.{sure}
+use Rattle.protocol.specs.Machine.{View, sure, open-write, kept-write}
+use Rattle.protocol.specs.Write.{Mid}
 use Rattle.protocol.specs.Invariant.{Ghost, Under, Off}
 use Rattle.protocol.specs.Promise.{under-framed, accept-f, same-label}
 use Rattle.protocol.specs.Request as protocol
@@ -94,6 +95,15 @@ none-there [] e zero = refl
 none-there [] e (suc p) = refl
 none-there (x ∷ b) e zero = eqb-true x 0 (and-left (eqb x 0) (allZero b) e)
 none-there (x ∷ b) e (suc p) = none-there b (and-right (eqb x 0) (allZero b) e) p
+
+-- whatever the host's view, the log is in order
+logs-under : (z : Shelf) (F : Family z) (g : Ghost Sector) (p : View Sector) (B : Belief) (f : Image Sector)
+    → Under (size z) (F .sets) (labels z) (records z) (codeIn z F) stamps (sectorsIn z F) g p B f → Logs (records z) B (g .history) (g .u) f
+unfolding Quiet Mid
+logs-under z F g (sure v) B f h = h .logs
+logs-under z F g (open-write v v') B f (inl h) = h .logs
+logs-under z F g (open-write v v') B f (inr h) = h .logs
+logs-under z F g (kept-write v') B f h = h .logs
 
 module _ (z : Shelf) (img : List ℕ) where
   -- such an image holds zeros everywhere
@@ -183,7 +193,7 @@ module _ (z : Shelf) (img : List ℕ) where
         ∙ le-leb (ones (slotsThat (geometry z) img absent Out l)) (l .m) (omega (arith, r .few-out, ap (λ (x : Plan). ones (x .next .out)) (r .is)))
 
     -- NO TAIL IS GARBAGE under the label that it settles, where the protocol's invariant holds for a family in which the slots lie that go out
-    module _ (F : Family z) (in-family : F .sets .few (inMask (p .next .out)) ≡ true) (w : World Sector) (reads : w .cur ≡ curOf z img) (v : Host Sector) (off : Off (size z) (F .sets) (labels z) (records z) (codeIn z F) stamps (sectorsIn z F) (sure v) w) where
+    module _ (F : Family z) (in-family : F .sets .few (inMask (p .next .out)) ≡ true) (w : World Sector) (reads : w .cur ≡ curOf z img) (view : View Sector) (off : Off (size z) (F .sets) (labels z) (records z) (codeIn z F) stamps (sectorsIn z F) view w) where
       abbrev f : Image Sector
       f = curOf z img
 
@@ -194,10 +204,10 @@ module _ (z : Shelf) (img : List ℕ) where
       g = off .ghost
 
       abbrev D : Belief → Image Sector → Type 0
-      D = Under (size z) (F .sets) (labels z) (records z) (codeIn z F) stamps (sectorsIn z F) g (sure v)
+      D = Under (size z) (F .sets) (labels z) (records z) (codeIn z F) stamps (sectorsIn z F) g view
 
       framed : Framed D
-      framed = under-framed (size z) (F .sets) (labels z) (records z) (codeIn z F) stamps (sectorsIn z F) g (sure v)
+      framed = under-framed (size z) (F .sets) (labels z) (records z) (codeIn z F) stamps (sectorsIn z F) g view
 
       shelf : startup.Shelf (size z) (F .sets) (labels z) (g .base) D f
       shelf = subst (startup.Shelf (size z) (F .sets) (labels z) (g .base) D) reads (always-cur (startup.Shelf (size z) (F .sets) (labels z) (g .base) D) w (off .sane) (off .left))
@@ -235,7 +245,8 @@ module _ (z : Shelf) (img : List ℕ) where
       seen-logs =
           let B = belief (size z) (labelOf z new) in
           let dark : (d : ℕ) → looked (size z) (labelOf z new) d ≡ true → A d ≡ false = λ d a. settled-dark z img absent A l led d (sym (look-is z new d) ∙ a) in
-          framed B B (within-self B) f (seenOf z A img) (record { on-log = λ d j a. agree (log d j) (dark d a); on-strip = λ d t j a. agree (strip d t j) (dark d a) }) under .logs
+          logs-under z F g view B (seenOf z A img)
+          (framed B B (within-self B) f (seenOf z A img) (record { on-log = λ d j a. agree (log d j) (dark d a); on-strip = λ d t j a. agree (strip d t j) (dark d a) }) under)
 
       pub start-real : Redo.Fair z new img (led .disks) A (settled-dark z img absent A l led)
       start-real = logs-fair z new img (led .disks) A (settled-dark z img absent A l led) (g .history) (g .u) seen-logs (let h : g .u < suc (g .base .generation) * counts = off .early in omega (arith, h, suc-mul (g .base .generation) counts, above))

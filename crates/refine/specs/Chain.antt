@@ -196,54 +196,69 @@ module _ (z : Shelf) where
   rests s img e = ap (λ (k : Kind). memoryBy k z s (writeMemory z (writeIn z s []) s [] (curOf z img)) (toDo z s [] img)) e
 
 module _ (z : Shelf) (F : Family z) (first : Machine Sector) where
-  -- the protocol's machine comes here from the first one by its own events, and its invariant holds for the family, with the host's blocks all zeros;
+  -- the protocol's machine comes here from the first one by its own events, and its invariant holds for the family, with the host's view p;
   -- and the disks' labels have their shape (document 02, C6)
-  pub record Reached (w : World Sector) (m : Memory Sector) : Type 1 where
+  pub record Reached (p : View Sector) (w : World Sector) (m : Memory Sector) : Type 1 where
     pub events : List (Event Sector)
     pub runs : ShelfRuns z first events (machine.at w m)
-    pub keeps : KeepsIn z F (machine.at w m) (sure blocks)
+    pub keeps : KeepsIn z F (machine.at w m) p
     pub tidy : Shaped (size z) (F .sets) (labels z) (records z) (codeIn z F) stamps (sectorsIn z F) (machine.at w m)
 
   -- the image is that of the disks as they are read, no label on them names another shelf or is about to, and what the caller holds is in order
-  pub record Tie (w : World Sector) (img : List ℕ) (h : Hand) : Type 1 where
+  pub record Tie (p : View Sector) (w : World Sector) (img : List ℕ) (h : Hand) : Type 1 where
     pub disks : Disks z img
     pub reads : w .cur ≡ curOf z img
-    pub reached : Reached w (memoryIn z h img)
+    pub reached : Reached p w (memoryIn z h img)
     pub named : Always w (Named z)
     pub names : Names z (leftIn z (memoryIn z h img))
     pub order : InOrder z h img
 
-  abbrev pub On : Moment → Type 1
-  On (at w img h) = Tie w img h
+  abbrev pub On : View Sector → Moment → Type 1
+  On p (at w img h) = Tie p w img h
 
-  -- one event more, that leaves the blocks
-  happens : {w w' : World Sector} {m m' : Memory Sector} {e : Event Sector} → Reached w m → HappensTo z (machine.at w m) e (machine.at w' m') → (h : HappensIn z F (machine.at w m) e (machine.at w' m'))
-      → AllShaped (size z) (F .sets) (labels z) (records z) (codeIn z F) stamps (sectorsIn z F) h → ((q : View Sector) → Goes (z .c) e (sure blocks) q → q ≡ sure blocks) → Reached w' m'
-  happens {w} {w'} {m} {m'} {e} t x h new same =
-      let r = simulate (size z) (F .sets) (labels z) (records z) (codeIn z F) stamps (sectorsIn z F) h (sure blocks) (t .keeps) in
-      record {
-        events = t .events ++ (e ∷ []);
-        runs = run-on z (t .events) (t .runs) x;
-        keeps = subst (KeepsIn z F (machine.at w' m')) (same (r .0) (r .1)) (r .2);
-        tidy = shaped (size z) (F .sets) (labels z) (records z) (codeIn z F) stamps (sectorsIn z F) h new (sure blocks) (t .keeps) (t .tidy);
-      }
-
-  -- the program dies
-  pub off : {w : World Sector} {m : Memory Sector} → Reached w m → Reached w nothing
-  off t = happens t (even.from-outside program-dies) (from-outside program-dies) tt (λ q e. e)
+  -- one event more: the view goes on as it may
+  happens-to : {p : View Sector} {w w' : World Sector} {m m' : Memory Sector} {e : Event Sector} → Reached p w m → HappensTo z (machine.at w m) e (machine.at w' m') → (h : HappensIn z F (machine.at w m) e (machine.at w' m'))
+      → AllShaped (size z) (F .sets) (labels z) (records z) (codeIn z F) stamps (sectorsIn z F) h → (q : View Sector) × Goes (z .c) e p q × Reached q w' m'
+  happens-to {p} {w} {w'} {m} {m'} {e} t x h new =
+      let r = simulate (size z) (F .sets) (labels z) (records z) (codeIn z F) stamps (sectorsIn z F) h p (t .keeps) in (
+        r .0,
+        r .1,
+        record {
+          events = t .events ++ (e ∷ []);
+          runs = run-on z (t .events) (t .runs) x;
+          keeps = r .2;
+          tidy = shaped (size z) (F .sets) (labels z) (records z) (codeIn z F) stamps (sectorsIn z F) h new p (t .keeps) (t .tidy);
+        },
+      )
 
   -- something is asked, and answered by no refusal; the set that is left out is in the family
-  asks : {w : World Sector} {m : Memory Sector} (img : List ℕ) → w .cur ≡ curOf z img → Reached w m → (m' : Memory Sector) (i : Input Sector) (r : Reply Sector)
+  pub asks-to : {p : View Sector} {w : World Sector} {m : Memory Sector} (img : List ℕ) → w .cur ≡ curOf z img → Reached p w m → (m' : Memory Sector) (i : Input Sector) (r : Reply Sector)
       → programOf z m (curOf z img) i ≡ (m', r) → ((why : program.Refusal) → r ≡ refused why → ⊥) → (r ≡ accepted → (s : ℕ → Bool) → List·Memᴰ s (leavesOf z m (curOf z img) i) → F .sets .few s ≡ true)
-      → ((q : View Sector) → Answered (z .c) i r (sure blocks) q → q ≡ sure blocks) → Reached (effect w r) m'
-  asks {w} {m} img reads t m' i r e some shared same =
+      → (q : View Sector) × Answered (z .c) i r p q × Reached q (effect w r) m'
+  asks-to {p} {w} {m} img reads t m' i r e some shared =
       let y : programOf z m (w .cur) i ≡ (m', r) = ap (λ (f : Image Sector). programOf z m f i) reads ∙ e in
       let x = program-in z F m (w .cur) i m' r y some (λ a s j. shared a s (subst (λ (f : Image Sector). List·Memᴰ s (leavesOf z m f i)) reads j)) in
       let h = subst (λ (b : Memory Sector × Reply Sector). (h : HappensIn z F (machine.at w m) (ask i (b .1)) (machine.at (effect w (b .1)) (b .0))) × AllShaped (size z) (F .sets) (labels z) (records z) (codeIn z F) stamps (sectorsIn z F) h) x (from-host i, tt) in
-      happens t (subst (λ (b : Memory Sector × Reply Sector). HappensTo z (machine.at w m) (ask i (b .1)) (machine.at (effect w (b .1)) (b .0))) y (even.from-host i)) (h .0) (h .1) same
+      happens-to t (subst (λ (b : Memory Sector × Reply Sector). HappensTo z (machine.at w m) (ask i (b .1)) (machine.at (effect w (b .1)) (b .0))) y (even.from-host i)) (h .0) (h .1)
+
+module _ (z : Shelf) (F : Family z) (first : Machine Sector) (view : View Sector) where
+  -- one event more, that leaves the view
+  happens : {w w' : World Sector} {m m' : Memory Sector} {e : Event Sector} → Reached z F first view w m → HappensTo z (machine.at w m) e (machine.at w' m') → (h : HappensIn z F (machine.at w m) e (machine.at w' m'))
+      → AllShaped (size z) (F .sets) (labels z) (records z) (codeIn z F) stamps (sectorsIn z F) h → ((q : View Sector) → Goes (z .c) e view q → q ≡ view) → Reached z F first view w' m'
+  happens {w' = w'} {m' = m'} t x h new same = let y = happens-to z F first t x h new in subst (λ (q : View Sector). Reached z F first q w' m') (same (y .0) (y .1)) (y .2)
+
+  -- the program dies
+  pub off : {w : World Sector} {m : Memory Sector} → Reached z F first view w m → Reached z F first view w nothing
+  off t = happens t (even.from-outside program-dies) (from-outside program-dies) tt (λ q e. e)
+
+  -- something is asked, and answered by no refusal, which leaves the view; the set that is left out is in the family
+  asks : {w : World Sector} {m : Memory Sector} (img : List ℕ) → w .cur ≡ curOf z img → Reached z F first view w m → (m' : Memory Sector) (i : Input Sector) (r : Reply Sector)
+      → programOf z m (curOf z img) i ≡ (m', r) → ((why : program.Refusal) → r ≡ refused why → ⊥) → (r ≡ accepted → (s : ℕ → Bool) → List·Memᴰ s (leavesOf z m (curOf z img) i) → F .sets .few s ≡ true)
+      → ((q : View Sector) → Answered (z .c) i r view q → q ≡ view) → Reached z F first view (effect w r) m'
+  asks {w} img reads t m' i r e some shared same = let y = asks-to z F first img reads t m' i r e some shared in subst (λ (q : View Sector). Reached z F first q (effect w r) m') (same (y .0) (y .1)) (y .2)
 
   -- a request that is accepted, and leaves out one set, or none
-  accepted-none : (why : program.Refusal) → _≡_ {A = Reply Sector} accepted (refused why) → ⊥
+  pub accepted-none : (why : program.Refusal) → _≡_ {A = Reply Sector} accepted (refused why) → ⊥
   unfolding is-accepted
   accepted-none why e = absurd (true≢false (ap is-accepted e))
 
@@ -253,13 +268,13 @@ module _ (z : Shelf) (F : Family z) (first : Machine Sector) where
   -- ---- each call
 
   -- create
-  create-kept : (w : World Sector) (img : List ℕ) (h : Hand) (s : State) (room : ℕ) → Tie w img h → Tie w img (handed h (createOf s (z .k) (z .m) (z .c) (z .sectors) (z .number) img room))
+  pub create-kept : (w : World Sector) (img : List ℕ) (h : Hand) (s : State) (room : ℕ) → Tie z F first view w img h → Tie z F first view w img (handed h (createOf s (z .k) (z .m) (z .c) (z .sectors) (z .number) img room))
   create-kept w img h s room t = by (createAnswer (z .k) (z .m) (z .c) (z .sectors) img room) refl
     where
       fresh : State
       fresh = created (z .k) (z .m) (z .c) (z .sectors) (z .number)
 
-      by : (o : Outcome) → createAnswer (z .k) (z .m) (z .c) (z .sectors) img room ≡ o → Tie w img (handed h (begun o s fresh))
+      by : (o : Outcome) → createAnswer (z .k) (z .m) (z .c) (z .sectors) img room ≡ o → Tie z F first view w img (handed h (begun o s fresh))
       by Done e =
           let y : createOf s (z .k) (z .m) (z .c) (z .sectors) (z .number) img room .outcome ≡ Done = ap (λ (o : Outcome). begun o s fresh .outcome) e in
           let b = create-begins z img (t .disks) s room y in
@@ -269,7 +284,7 @@ module _ (z : Shelf) (F : Family z) (first : Machine Sector) where
             disks = t .disks;
             reads = t .reads;
             reached =
-                subst (Reached w) (sym m)
+                subst (Reached z F first view w) (sym m)
                 (asks img (t .reads) (off (t .reached)) _ create accepted (create-accepted z img (create-done (z .k) (z .m) (z .c) (z .sectors) img room e .1)) accepted-none (λ q x n. absurd (List·Memᴰ·not-nil n)) (λ p a. a));
             named = t .named;
             names = subst (λ (x : Memory Sector). Names z (leftIn z x)) (sym m) (create-names z);
@@ -283,7 +298,7 @@ module _ (z : Shelf) (F : Family z) (first : Machine Sector) where
   settled-ours img absent l e = e
 
   -- the survey goes by a label of this shelf
-  led-by : (w : World Sector) (img : List ℕ) (h : Hand) (absent : ℕ) → Tie w img h → (p : Plan) → surveyOf (geometry z) img absent ≡ survey.Plan p → Led z img absent (beyond (slots z) (inMask absent)) (p .lead)
+  pub led-by : (w : World Sector) (img : List ℕ) (h : Hand) (absent : ℕ) → Tie z F first view w img h → (p : Plan) → surveyOf (geometry z) img absent ≡ survey.Plan p → Led z img absent (beyond (slots z) (inMask absent)) (p .lead)
   led-by w img h absent t p e =
       let r = survey-grounds (geometry z) img absent p e in
       record {
@@ -294,56 +309,56 @@ module _ (z : Shelf) (F : Family z) (first : Machine Sector) where
         agree = r .agree;
       }
 
-  start-kept : (w : World Sector) (img : List ℕ) (h : Hand) (s : State) (absent room : ℕ) → Allowed z F (outs (startOf s (geometry z) absent img room)) → Tie w img h → Tie w img (handed h (startOf s (geometry z) absent img room))
+  start-kept : (w : World Sector) (img : List ℕ) (h : Hand) (s : State) (absent room : ℕ) → Allowed z F (outs (startOf s (geometry z) absent img room)) → Tie z F first view w img h → Tie z F first view w img (handed h (startOf s (geometry z) absent img room))
   start-kept w img h s absent room ok t = by (surveyOf (geometry z) img absent) refl
     where
       A : ℕ → Bool
       A = beyond (slots z) (inMask absent)
 
-      off-w : Reached w nothing
+      off-w : Reached z F first view w nothing
       off-w = off (t .reached)
 
-      begins : (p : Plan) → surveyOf (geometry z) img absent ≡ survey.Plan p → eqb room (workBytes (slots z) (z .c)) ≡ true → Tie w img (has (started (geometry z) absent p img))
+      begins : (p : Plan) → surveyOf (geometry z) img absent ≡ survey.Plan p → eqb room (workBytes (slots z) (z .c)) ≡ true → Tie z F first view w img (has (started (geometry z) absent p img))
       begins p e q =
           let led = led-by w img h absent t p e in
           let is : startOf s (geometry z) absent img room ≡ record { state = started (geometry z) absent p img; outcome = Done } =
           ap (λ (x : Survey). bySurvey x s (geometry z) absent img room) e ∙ ap (λ (b : Bool). cond b (record { state = started (geometry z) absent p img; outcome = Done }) (record { state = s; outcome = Refused BadBuffer })) q in
           let in-family = subst (λ (x : Begun). Allowed z F (outs x)) is ok (inMask (p .next .out)) (List·Memᴰ·head refl) (start-few z img absent p e led) in
-          let b = start-begins z img absent p led e (start-real z img absent p e led F in-family w (t .reads) blocks (off-w .keeps)) s room (ap (λ (x : Begun). x .outcome) is) in
+          let b = start-begins z img absent p led e (start-real z img absent p e led F in-family w (t .reads) view (off-w .keeps)) s room (ap (λ (x : Begun). x .outcome) is) in
           let m = ap (λ (x : Begun). memoryOf z (x .state) [] img) (sym is) ∙ b .1 in
           record {
             disks = t .disks;
             reads = t .reads;
-            reached = subst (Reached w) (sym m) (asks img (t .reads) off-w _ (start (inMask absent)) accepted (start-accepted z img absent p e led) accepted-none (λ y. one-allowed (inMask (p .next .out)) _ (start-leaves z img absent p e led) in-family) (λ y a. a));
+            reached = subst (Reached z F first view w) (sym m) (asks img (t .reads) off-w _ (start (inMask absent)) accepted (start-accepted z img absent p e led) accepted-none (λ y. one-allowed (inMask (p .next .out)) _ (start-leaves z img absent p e led) in-family) (λ y a. a));
             named = t .named;
             names = subst (λ (x : Memory Sector). Names z (leftIn z x)) (sym m) (start-names z A _);
             order = (ap (λ (x : Plan). ours z (x .next)) (survey-grounds (geometry z) img absent p e .is) ∙ settled-ours img absent (p .lead) (led .own), inl (subst (λ (x : Begun). Fair z (x .state) [] img) is (b .0), refl));
           }
 
-      by : (x : Survey) → surveyOf (geometry z) img absent ≡ x → Tie w img (handed h (bySurvey x s (geometry z) absent img room))
+      by : (x : Survey) → surveyOf (geometry z) img absent ≡ x → Tie z F first view w img (handed h (bySurvey x s (geometry z) absent img room))
       by (survey.Refused why) e = t
       by (survey.Plan p) e = fits (eqb room (workBytes (slots z) (z .c))) refl
         where
-          fits : (b : Bool) → eqb room (workBytes (slots z) (z .c)) ≡ b → Tie w img (handed h (cond b (record { state = started (geometry z) absent p img; outcome = Done }) (record { state = s; outcome = Refused BadBuffer })))
+          fits : (b : Bool) → eqb room (workBytes (slots z) (z .c)) ≡ b → Tie z F first view w img (handed h (cond b (record { state = started (geometry z) absent p img; outcome = Done }) (record { state = s; outcome = Refused BadBuffer })))
           fits true q = begins p e q
           fits false q = t
 
   -- with any numbers
-  late-kept : (w : World Sector) (img : List ℕ) (h : Hand) (s : State) (k m c S number room : ℕ) → allZero img ≡ false → Tie w img h → Tie w img (handed h (createOf s k m c S number img room))
-  late-kept w img h s k m c S number room e t = subst (λ (o : Outcome). Tie w img (handed h (begun o s (created k m c S number)))) (sym (create-late k m c S img room e)) t
+  pub late-kept : (w : World Sector) (img : List ℕ) (h : Hand) (s : State) (k m c S number room : ℕ) → allZero img ≡ false → Tie z F first view w img h → Tie z F first view w img (handed h (createOf s k m c S number img room))
+  late-kept w img h s k m c S number room e t = subst (λ (o : Outcome). Tie z F first view w img (handed h (begun o s (created k m c S number)))) (sym (create-late k m c S img room e)) t
 
-  ours-in : (w : World Sector) (img : List ℕ) (h : Hand) → Tie w img h → (d s : ℕ) (a : bytes.Label) → d < slots z → s < 2 → copyOf (geometry z) img d s ≡ Valid a → ours z a ≡ true
+  pub ours-in : (w : World Sector) (img : List ℕ) (h : Hand) → Tie z F first view w img h → (d s : ℕ) (a : bytes.Label) → d < slots z → s < 2 → copyOf (geometry z) img d s ≡ Valid a → ours z a ≡ true
   ours-in w img h t = copy-ours z img (t .disks) (subst (Named z) (t .reads) (always-cur (Named z) w (off (t .reached) .keeps .sane) (t .named)))
 
-  start-any : (w : World Sector) (img : List ℕ) (h : Hand) (s : State) (g : Geometry) (absent room : ℕ) → Sits z g absent → Allowed z F (outs (startOf s g absent img room))
-      → Tie w img h → Tie w img (handed h (startOf s g absent img room))
+  pub start-any : (w : World Sector) (img : List ℕ) (h : Hand) (s : State) (g : Geometry) (absent room : ℕ) → Sits z g absent → Allowed z F (outs (startOf s g absent img room))
+      → Tie z F first view w img h → Tie z F first view w img (handed h (startOf s g absent img room))
   start-any w img h s g absent room sits ok t =
       ⊎-elim
-      (λ (e : g ≡ geometry z). subst (λ (x : Geometry). Allowed z F (outs (startOf s x absent img room)) → Tie w img (handed h (startOf s x absent img room))) (sym e) (λ y. start-kept w img h s absent room y t) ok)
-      (λ (other : g ≡ geometry z → ⊥). subst (λ (x : Survey). Tie w img (handed h (bySurvey x s g absent img room))) (sym (start-other z img (t .disks) (ours-in w img h t) g absent other sits)) t) (same-numbers z g)
+      (λ (e : g ≡ geometry z). subst (λ (x : Geometry). Allowed z F (outs (startOf s x absent img room)) → Tie z F first view w img (handed h (startOf s x absent img room))) (sym e) (λ y. start-kept w img h s absent room y t) ok)
+      (λ (other : g ≡ geometry z → ⊥). subst (λ (x : Survey). Tie z F first view w img (handed h (bySurvey x s g absent img room))) (sym (start-other z img (t .disks) (ours-in w img h t) g absent other sits)) t) (same-numbers z g)
 
   -- taking a slot out
-  idle-is : (k : Kind) → isIdle k ≡ true → k ≡ Idle
+  pub idle-is : (k : Kind) → isIdle k ≡ true → k ≡ Idle
   idle-is Nothing e = absurd (false≢true e)
   idle-is Idle e = refl
   idle-is Creating e = absurd (false≢true e)
@@ -353,13 +368,13 @@ module _ (z : Shelf) (F : Family z) (first : Machine Sector) where
   idle-is Beginning e = absurd (false≢true e)
   idle-is Filling e = absurd (false≢true e)
 
-  out-kept : (w : World Sector) (img : List ℕ) (s : State) (d room : ℕ) → Allowed z F (outs (takeOutOf s d img room)) → Tie w img (has s) → Tie w img (handed (has s) (takeOutOf s d img room))
+  pub out-kept : (w : World Sector) (img : List ℕ) (s : State) (d room : ℕ) → Allowed z F (outs (takeOutOf s d img room)) → Tie z F first view w img (has s) → Tie z F first view w img (handed (has s) (takeOutOf s d img room))
   out-kept w img s d room ok t = by (takeAnswer (s .now) (s .kind) (s .absent) img d room) refl
     where
       own : ours z (s .now) ≡ true
       own = ⊎-elim (λ (f : Fair z s [] img × (plain (s .kind) ≡ true)). f .0 .ours-now) (λ (q : (s .kind ≡ Idle) × (ours z (s .now) ≡ true)). q .1) (t .order .1)
 
-      by : (o : Outcome) → takeAnswer (s .now) (s .kind) (s .absent) img d room ≡ o → Tie w img (handed (has s) (begun o s (tookOut s d)))
+      by : (o : Outcome) → takeAnswer (s .now) (s .kind) (s .absent) img d room ≡ o → Tie z F first view w img (handed (has s) (begun o s (tookOut s d)))
       by Done e =
           let y : takeOutOf s d img room .outcome ≡ Done = ap (λ (o : Outcome). begun o s (tookOut s d) .outcome) e in
           let in-family = subst (λ (o : Outcome). Allowed z F (outs (begun o s (tookOut s d)))) e ok (inMask (outed (s .now) d .out)) (List·Memᴰ·head refl) (out-few z img (t .disks) s own d room e) in
@@ -370,37 +385,35 @@ module _ (z : Shelf) (F : Family z) (first : Machine Sector) where
           record {
             disks = t .disks;
             reads = t .reads;
-            reached = subst (Reached w) (sym m) (asks img (t .reads) (subst (Reached w) r (t .reached)) _ (take-out d) accepted (out-accepted z img (t .disks) s own d room e) accepted-none (λ p. one-allowed (inMask (outed (s .now) d .out)) _ (out-leaves z img (t .disks) s own d room e) in-family) (λ p a. a));
+            reached = subst (Reached z F first view w) (sym m) (asks img (t .reads) (subst (Reached z F first view w) r (t .reached)) _ (take-out d) accepted (out-accepted z img (t .disks) s own d room e) accepted-none (λ p. one-allowed (inMask (outed (s .now) d .out)) _ (out-leaves z img (t .disks) s own d room e) in-family) (λ p a. a));
             named = t .named;
             names = subst (λ (x : Memory Sector). Names z (leftIn z x)) (sym m) (out-names z (ownOf z s (s .now)) d);
             order = (out-ours z img (t .disks) s own d, inl (subst (λ (x : State). Fair z x [] img) q (b .0), refl));
           }
       by (Refused why) e = t
 
+  pub cut-kept : (w : World Sector) (img : List ℕ) (h : Hand) (left : List ℕ) → Disks z left → Possible w (curOf z left) → Tie z F first view w img h → Tie z F first view (after (curOf z left)) left none
+  unfolding after Always
+  cut-kept w img h left d p t =
+      record {
+        disks = d;
+        reads = refl;
+        reached = happens (t .reached) (even.from-outside (power-cut (curOf z left) p)) (from-outside (power-cut (curOf z left) p)) tt (λ q e. e);
+        named = always-after (Named z) (curOf z left) (t .named (curOf z left) p);
+        names = tt;
+        order = tt;
+      }
+
   -- ---- a step
 
-  -- no answer of a step changes the blocks
-  step-same : (r : Reply Sector) (a : Answer) → Same z a r → (q : View Sector) → Answered (z .c) step r (sure blocks) q → q ≡ sure blocks
-  step-same accepted a s q h = absurd s
-  step-same (refused why) a s q h = absurd s
-  step-same (did x) a s q h = h
-  step-same safe a s q h = absurd s
-  step-same (done program.creating) a s q h = h
-  step-same (done program.starting) a s q h = h
-  step-same (done (program.logging x)) a s q h = absurd h
-  step-same (done (program.storing x)) a s q h = absurd h
-  step-same (done program.labelling) a s q h = h
-  step-same (block b) a s q h = absurd s
-  step-same (found x) a s q h = absurd s
-
-  step-some : (r : Reply Sector) (a : Answer) → Same z a r → (why : program.Refusal) → r ≡ refused why → ⊥
+  pub step-some : (r : Reply Sector) (a : Answer) → Same z a r → (why : program.Refusal) → r ≡ refused why → ⊥
   step-some r a s why e = subst (Same z a) e s
 
-  step-leaves : (r : Reply Sector) (a : Answer) → Same z a r → r ≡ accepted → (s : ℕ → Bool) (l : List (ℕ → Bool)) → List·Memᴰ s l → F .sets .few s ≡ true
+  pub step-leaves : (r : Reply Sector) (a : Answer) → Same z a r → r ≡ accepted → (s : ℕ → Bool) (l : List (ℕ → Bool)) → List·Memᴰ s l → F .sets .few s ≡ true
   step-leaves r a s e t l m = absurd (subst (Same z a) e s)
 
   -- what the caller does with the disks is what the protocol's program did
-  heard-is : (w w' : World Sector) (img : List ℕ) (r : Reply Sector) (a : Answer) → Same z a r → effect w r .cur ≡ curOf z img → Heard z w a img w' → effect w r ≡ w'
+  pub heard-is : (w w' : World Sector) (img : List ℕ) (r : Reply Sector) (a : Answer) → Same z a r → effect w r .cur ≡ curOf z img → Heard z w a img w' → effect w r ≡ w'
   heard-is w w' img accepted a s c h = absurd s
   heard-is w w' img (refused why) a s c h = absurd s
   heard-is w w' img (did (put k v)) a s c h =
@@ -415,37 +428,42 @@ module _ (z : Shelf) (F : Family z) (first : Machine Sector) where
   heard-is w w' img (found x) a s c h = absurd s
 
   -- a step of a request under way
-  goes-kept : (w : World Sector) (img : List ℕ) (s : State) (m : Move) (w' : World Sector) → Tied z s [] img m → Tie w img (has s) → Heard z w (m .stepped .answer) (m .image) w' → Tie w' (m .image) (has (m .stepped .state))
-  goes-kept w img s m w' tied t h =
+  pub goes-to : (w : World Sector) (img : List ℕ) (s : State) (m : Move) (w' : World Sector) (tied : Tied z s [] img m) → Tie z F first view w img (has s) → Heard z w (m .stepped .answer) (m .image) w'
+      → (q : View Sector) × Answered (z .c) step (tied .reply) view q × Tie z F first q w' (m .image) (has (m .stepped .state))
+  goes-to w img s m w' tied t h =
       let r = tied .reply in
       let o = off (t .reached) .keeps in
       let n = subst (λ (y : Memory Sector × Reply Sector). Always (effect w (y .1)) (Named z) × Names z (leftIn z (y .0))) (tied .steps) (step-names z (memoryOf z s [] img) (curOf z img) w (o .sane) (t .named) (t .names)) in
       let next-ours = ap (ours z) (tied .settles) ∙ t .order .0 in
-      subst (λ (x : World Sector). Tie x (m .image) (has (m .stepped .state))) (heard-is w w' (m .image) r (m .stepped .answer) (tied .answers) (tied .acts w (t .reads)) h)
-      (record {
-        disks = ⊎-elim (λ (f : Fair z (m .stepped .state) [] (m .image)). f .disks) (λ (q : m ≡ finished s img). subst (λ (x : Move). Disks z (x .image)) (sym q) (t .disks)) (tied .goes-on);
-        reads = tied .acts w (t .reads);
-        reached = asks img (t .reads) (t .reached) (memoryOf z (m .stepped .state) [] (m .image)) step r (tied .steps) (step-some r (m .stepped .answer) (tied .answers)) (λ e x n. step-leaves r (m .stepped .answer) (tied .answers) e x _ n) (step-same r (m .stepped .answer) (tied .answers));
-        named = n .0;
-        names = n .1;
-        order = (
-          next-ours,
-          ⊎-elim (λ (f : Fair z (m .stepped .state) [] (m .image)). inl (f, tied .keeps-plain))
-              (λ (q : m ≡ finished s img). inr (ap (λ (x : Move). x .stepped .state .kind) q, ap (λ (x : Move). ours z (x .stepped .state .now)) q ∙ t .order .0)) (tied .goes-on),
-        );
-      })
+      let y = asks-to z F first img (t .reads) (t .reached) (memoryOf z (m .stepped .state) [] (m .image)) step r (tied .steps) (step-some r (m .stepped .answer) (tied .answers)) (λ e x n. step-leaves r (m .stepped .answer) (tied .answers) e x _ n) in (
+        y .0,
+        y .1,
+        subst (λ (x : World Sector). Tie z F first (y .0) x (m .image) (has (m .stepped .state))) (heard-is w w' (m .image) r (m .stepped .answer) (tied .answers) (tied .acts w (t .reads)) h)
+        (record {
+          disks = ⊎-elim (λ (f : Fair z (m .stepped .state) [] (m .image)). f .disks) (λ (q : m ≡ finished s img). subst (λ (x : Move). Disks z (x .image)) (sym q) (t .disks)) (tied .goes-on);
+          reads = tied .acts w (t .reads);
+          reached = y .2;
+          named = n .0;
+          names = n .1;
+          order = (
+            next-ours,
+            ⊎-elim (λ (f : Fair z (m .stepped .state) [] (m .image)). inl (f, tied .keeps-plain))
+                (λ (q : m ≡ finished s img). inr (ap (λ (x : Move). x .stepped .state .kind) q, ap (λ (x : Move). ours z (x .stepped .state .now)) q ∙ t .order .0)) (tied .goes-on),
+          );
+        }),
+      )
 
   -- a step that is refused
-  refused-kept : (w : World Sector) (img : List ℕ) (s : State) (why : Refusal) (m : Move) (w' : World Sector) → m ≡ refuses s why img → Tie w img (has s) → Heard z w (m .stepped .answer) (m .image) w' → Tie w' (m .image) (has (m .stepped .state))
+  pub refused-kept : (w : World Sector) (img : List ℕ) (s : State) (why : Refusal) (m : Move) (w' : World Sector) → m ≡ refuses s why img → Tie z F first view w img (has s) → Heard z w (m .stepped .answer) (m .image) w' → Tie z F first view w' (m .image) (has (m .stepped .state))
   refused-kept w img s why m w' e t =
-      subst (λ (x : Move). Heard z w (x .stepped .answer) (x .image) w' → Tie w' (x .image) (has (x .stepped .state))) (sym e) (λ h. subst (λ (x : World Sector). Tie x img (has s)) (sym h) t)
+      subst (λ (x : Move). Heard z w (x .stepped .answer) (x .image) w' → Tie z F first view w' (x .image) (has (x .stepped .state))) (sym e) (λ h. subst (λ (x : World Sector). Tie z F first view x img (has s)) (sym h) t)
 
   -- at rest every step is refused
   and-none : (a : Bool) → (a && false) ≡ false
   and-none true = refl
   and-none false = refl
 
-  step-rests : (s : State) (img : List ℕ) (work : List ℕ) → s .kind ≡ Idle → stepWith s img work ≡ refuses s NotNow img
+  pub step-rests : (s : State) (img : List ℕ) (work : List ℕ) → s .kind ≡ Idle → stepWith s img work ≡ refuses s NotNow img
   unfolding sound stepMove
   step-rests s img work k =
       let no : sound s ≡ false = ap (λ (x : Kind). fitsOf (s .now) && (underWay x && (leb (s .cursor .stage) mostStages && ltb (s .cursor .sector) (s .now .sectors)))) k ∙ and-none (fitsOf (s .now)) in
@@ -453,7 +471,7 @@ module _ (z : Shelf) (F : Family z) (first : Machine Sector) where
       ∙ ap (λ (b : Bool). cond b (cond (fitsImage (geometryOf (s .now)) (length img)) (Step.keeps s (walk mostStages s (geometryOf (s .now)) work img)) (refuses s BadImage img)) (refuses s NotNow img)) no
 
   -- A STEP is the program's, or it is refused and nothing changes
-  pub step-is : (w : World Sector) (img : List ℕ) (s : State) (work : List ℕ) → Tie w img (has s) → Tied z s [] img (stepWith s img work) ⊎ ((why : Refusal) × (stepWith s img work ≡ refuses s why img))
+  pub step-is : (w : World Sector) (img : List ℕ) (s : State) (work : List ℕ) → Tie z F first view w img (has s) → Tied z s [] img (stepWith s img work) ⊎ ((why : Refusal) × (stepWith s img work ≡ refuses s why img))
   step-is w img s work t =
       ⊎-elim (λ (f : Fair z s [] img × (plain (s .kind) ≡ true)). busy (f .0) (f .1) (otherWork (s .now) (length img) (length work)) refl) (λ (q : (s .kind ≡ Idle) × (ours z (s .now) ≡ true)). inr (NotNow, step-rests s img work (q .0))) (t .order .1)
     where
@@ -461,41 +479,52 @@ module _ (z : Shelf) (F : Family z) (first : Machine Sector) where
       busy f p true e = inr (BadBuffer, step-short s img work (f .in-range) e)
       busy f p false e = inl (subst (Tied z s [] img) (sym (step-goes s img work (f .in-range) e)) (step-tied z s [] work img p f))
 
-  step-kept : (w : World Sector) (img : List ℕ) (s : State) (work : List ℕ) (w' : World Sector) → Tie w img (has s)
-      → Heard z w (stepWith s img work .stepped .answer) (stepWith s img work .image) w' → Tie w' (stepWith s img work .image) (has (stepWith s img work .stepped .state))
+-- ---- NOTHING IS WRITTEN: the host's blocks stay zeros
+
+module _ (z : Shelf) (F : Family z) (first : Machine Sector) where
+  -- no answer of a step changes the blocks
+  step-same : (r : Reply Sector) (a : Answer) → Same z a r → (q : View Sector) → Answered (z .c) step r (sure blocks) q → q ≡ sure blocks
+  step-same accepted a s q h = absurd s
+  step-same (refused why) a s q h = absurd s
+  step-same (did x) a s q h = h
+  step-same safe a s q h = absurd s
+  step-same (done program.creating) a s q h = h
+  step-same (done program.starting) a s q h = h
+  step-same (done (program.logging x)) a s q h = absurd h
+  step-same (done (program.storing x)) a s q h = absurd h
+  step-same (done program.labelling) a s q h = h
+  step-same (block b) a s q h = absurd s
+  step-same (found x) a s q h = absurd s
+
+  -- a step of a request under way
+  goes-kept : (w : World Sector) (img : List ℕ) (s : State) (m : Move) (w' : World Sector) → Tied z s [] img m → Tie z F first (sure blocks) w img (has s) → Heard z w (m .stepped .answer) (m .image) w' → Tie z F first (sure blocks) w' (m .image) (has (m .stepped .state))
+  goes-kept w img s m w' tied t h =
+      let y = goes-to z F first (sure blocks) w img s m w' tied t h in
+      subst (λ (p : View Sector). Tie z F first p w' (m .image) (has (m .stepped .state))) (step-same (tied .reply) (m .stepped .answer) (tied .answers) (y .0) (y .1)) (y .2)
+
+  step-kept : (w : World Sector) (img : List ℕ) (s : State) (work : List ℕ) (w' : World Sector) → Tie z F first (sure blocks) w img (has s)
+      → Heard z w (stepWith s img work .stepped .answer) (stepWith s img work .image) w' → Tie z F first (sure blocks) w' (stepWith s img work .image) (has (stepWith s img work .stepped .state))
   step-kept w img s work w' t h =
       ⊎-elim (λ (d : Tied z s [] img (stepWith s img work)). goes-kept w img s (stepWith s img work) w' d t h)
-      (λ (d : (why : Refusal) × (stepWith s img work ≡ refuses s why img)). refused-kept w img s (d .0) (stepWith s img work) w' (d .1) t h) (step-is w img s work t)
+      (λ (d : (why : Refusal) × (stepWith s img work ≡ refuses s why img)). refused-kept z F first (sure blocks) w img s (d .0) (stepWith s img work) w' (d .1) t h) (step-is z F first (sure blocks) w img s work t)
 
   -- ---- A CALL KEEPS THE TIE
 
-  cut-kept : (w : World Sector) (img : List ℕ) (h : Hand) (left : List ℕ) → Disks z left → Possible w (curOf z left) → Tie w img h → Tie (after (curOf z left)) left none
-  unfolding after Always
-  cut-kept w img h left d p t =
-      record {
-        disks = d;
-        reads = refl;
-        reached = happens (t .reached) (even.from-outside (power-cut (curOf z left) p)) (from-outside (power-cut (curOf z left) p)) tt (λ q e. e);
-        named = always-after (Named z) (curOf z left) (t .named (curOf z left) p);
-        names = tt;
-        order = tt;
-      }
-
-  pub call-kept : {a b : Moment} (x : Calls z a b) → Allowed z F (sets-call x) → On a → On b
-  call-kept (creates {w} {img} {h} s room) ok t = create-kept w img h s room t
-  call-kept (creates-late {w} {img} {h} s k m c S number room e) ok t = late-kept w img h s k m c S number room e t
-  call-kept (starts {w} {img} {h} s g absent room sits) ok t = start-any w img h s g absent room sits ok t
-  call-kept (takes-out {w} {img} {s} d room) ok t = out-kept w img s d room ok t
+  pub call-kept : {a b : Moment} (x : Calls z a b) → Allowed z F (sets-call x) → On z F first (sure blocks) a → On z F first (sure blocks) b
+  call-kept (creates {w} {img} {h} s room) ok t = create-kept z F first (sure blocks) w img h s room t
+  call-kept (creates-late {w} {img} {h} s k m c S number room e) ok t = late-kept z F first (sure blocks) w img h s k m c S number room e t
+  call-kept (starts {w} {img} {h} s g absent room sits) ok t = start-any z F first (sure blocks) w img h s g absent room sits ok t
+  call-kept (takes-out {w} {img} {s} d room) ok t = out-kept z F first (sure blocks) w img s d room ok t
   call-kept (steps {w} {w'} {img} {s} work heard) ok t = step-kept w img s work w' t heard
-  call-kept (cut {w} {img} {h} left d p) ok t = cut-kept w img h left d p t
-  call-kept (dies {w} {img} {h}) ok t = record { disks = t .disks; reads = t .reads; reached = off (t .reached); named = t .named; names = tt; order = tt }
+  call-kept (cut {w} {img} {h} left d p) ok t = cut-kept z F first (sure blocks) w img h left d p t
+  call-kept (dies {w} {img} {h}) ok t = record { disks = t .disks; reads = t .reads; reached = off z F first (sure blocks) (t .reached); named = t .named; names = tt; order = tt }
 
-  pub chain-kept : {a b : Moment} (c : Chain z a b) → Allowed z F (sets c) → On a → On b
+  pub chain-kept : {a b : Moment} (c : Chain z a b) → Allowed z F (sets c) → On z F first (sure blocks) a → On z F first (sure blocks) b
   chain-kept stays ok t = t
   chain-kept (goes-on c x) ok t = call-kept x (λ s m. ok s (Memᴰ·append-left (sets c) m)) (chain-kept c (λ s m. ok s (Memᴰ·append-right (sets-call x) m)) t)
 
   -- THE SETS THAT A CHAIN LEAVES OUT are of at most m slots each
-  start-passed : (w : World Sector) (img : List ℕ) (h : Hand) (s : State) (absent room : ℕ) → Tie w img h → (a : ℕ → Bool) → List·Memᴰ a (outs (startOf s (geometry z) absent img room)) → fewOf z a ≡ true
+  start-passed : (w : World Sector) (img : List ℕ) (h : Hand) (s : State) (absent room : ℕ) → Tie z F first (sure blocks) w img h → (a : ℕ → Bool) → List·Memᴰ a (outs (startOf s (geometry z) absent img room)) → fewOf z a ≡ true
   start-passed w img h s absent room t a = by (surveyOf (geometry z) img absent) refl
     where
       by : (x : Survey) → surveyOf (geometry z) img absent ≡ x → List·Memᴰ a (outs (bySurvey x s (geometry z) absent img room)) → fewOf z a ≡ true
@@ -503,10 +532,10 @@ module _ (z : Shelf) (F : Family z) (first : Machine Sector) where
       by (survey.Plan p) e m = fits (eqb room (workBytes (slots z) (z .c))) m
         where
           fits : (b : Bool) → List·Memᴰ a (outs (cond b (record { state = started (geometry z) absent p img; outcome = Done }) (record { state = s; outcome = Refused BadBuffer }))) → fewOf z a ≡ true
-          fits true m = ⊎-elim (λ q. ap (fewOf z) q ∙ start-few z img absent p e (led-by w img h absent t p e)) (λ n. absurd (List·Memᴰ·not-nil n)) (List·Memᴰ·cases-cons m)
+          fits true m = ⊎-elim (λ q. ap (fewOf z) q ∙ start-few z img absent p e (led-by z F first (sure blocks) w img h absent t p e)) (λ n. absurd (List·Memᴰ·not-nil n)) (List·Memᴰ·cases-cons m)
           fits false m = absurd (List·Memᴰ·not-nil m)
 
-  out-passed : (w : World Sector) (img : List ℕ) (s : State) (d room : ℕ) → Tie w img (has s) → (a : ℕ → Bool) → List·Memᴰ a (outs (takeOutOf s d img room)) → fewOf z a ≡ true
+  out-passed : (w : World Sector) (img : List ℕ) (s : State) (d room : ℕ) → Tie z F first (sure blocks) w img (has s) → (a : ℕ → Bool) → List·Memᴰ a (outs (takeOutOf s d img room)) → fewOf z a ≡ true
   out-passed w img s d room t a = by (takeAnswer (s .now) (s .kind) (s .absent) img d room) refl
     where
       own : ours z (s .now) ≡ true
@@ -516,18 +545,18 @@ module _ (z : Shelf) (F : Family z) (first : Machine Sector) where
       by Done e m = ⊎-elim (λ q. ap (fewOf z) q ∙ out-few z img (t .disks) s own d room e) (λ n. absurd (List·Memᴰ·not-nil n)) (List·Memᴰ·cases-cons m)
       by (Refused why) e m = absurd (List·Memᴰ·not-nil m)
 
-  pub call-passed : {a b : Moment} (x : Calls z a b) → On a → (s : ℕ → Bool) → List·Memᴰ s (sets-call x) → fewOf z s ≡ true
+  pub call-passed : {a b : Moment} (x : Calls z a b) → On z F first (sure blocks) a → (s : ℕ → Bool) → List·Memᴰ s (sets-call x) → fewOf z s ≡ true
   call-passed (creates s room) t a m = absurd (List·Memᴰ·not-nil m)
   call-passed (creates-late s k m c S number room e) t a n = absurd (List·Memᴰ·not-nil n)
   call-passed (starts {w} {img} {h} s g absent room sits) t a m =
       ⊎-elim (λ (e : g ≡ geometry z). subst (λ (x : Geometry). List·Memᴰ a (outs (startOf s x absent img room)) → fewOf z a ≡ true) (sym e) (start-passed w img h s absent room t a))
-      (λ (other : g ≡ geometry z → ⊥). subst (λ (x : Survey). List·Memᴰ a (outs (bySurvey x s g absent img room)) → fewOf z a ≡ true) (sym (start-other z img (t .disks) (ours-in w img h t) g absent other sits)) (λ n. absurd (List·Memᴰ·not-nil n))) (same-numbers z g) m
+      (λ (other : g ≡ geometry z → ⊥). subst (λ (x : Survey). List·Memᴰ a (outs (bySurvey x s g absent img room)) → fewOf z a ≡ true) (sym (start-other z img (t .disks) (ours-in z F first (sure blocks) w img h t) g absent other sits)) (λ n. absurd (List·Memᴰ·not-nil n))) (same-numbers z g) m
   call-passed (takes-out {w} {img} {s} d room) t a m = out-passed w img s d room t a m
   call-passed (steps work heard) t a m = absurd (List·Memᴰ·not-nil m)
   call-passed (cut left d p) t a m = absurd (List·Memᴰ·not-nil m)
   call-passed dies t a m = absurd (List·Memᴰ·not-nil m)
 
-  pub chain-passed : {a b : Moment} (c : Chain z a b) → Allowed z F (sets c) → On a → (s : ℕ → Bool) → List·Memᴰ s (sets c) → fewOf z s ≡ true
+  pub chain-passed : {a b : Moment} (c : Chain z a b) → Allowed z F (sets c) → On z F first (sure blocks) a → (s : ℕ → Bool) → List·Memᴰ s (sets c) → fewOf z s ≡ true
   chain-passed stays ok t s m = absurd (List·Memᴰ·not-nil m)
   chain-passed (goes-on c x) ok t s m =
       let before : Allowed z F (sets c) = λ a n. ok a (Memᴰ·append-right (sets-call x) n) in
@@ -545,13 +574,13 @@ module _ (z : Shelf) (F : Family z) (first : Machine Sector) where
   heard-by w img (block b) a s c = absurd s
   heard-by w img (found x) a s c = absurd s
 
-  pub followed : (w : World Sector) (img : List ℕ) (s : State) (work : List ℕ) → On (at w img (has s)) → (w' : World Sector) × Heard z w (stepWith s img work .stepped .answer) (stepWith s img work .image) w'
+  pub followed : (w : World Sector) (img : List ℕ) (s : State) (work : List ℕ) → On z F first (sure blocks) (at w img (has s)) → (w' : World Sector) × Heard z w (stepWith s img work .stepped .answer) (stepWith s img work .image) w'
   followed w img s work t =
       ⊎-elim (λ (d : Tied z s [] img (stepWith s img work)). heard-by w (stepWith s img work .image) (d .reply) (stepWith s img work .stepped .answer) (d .answers) (d .acts w (t .reads)))
-      (λ (d : (why : Refusal) × (stepWith s img work ≡ refuses s why img)). subst (λ (m : Move). (w' : World Sector) × Heard z w (m .stepped .answer) (m .image) w') (sym (d .1)) (w, refl)) (step-is w img s work t)
+      (λ (d : (why : Refusal) × (stepWith s img work ≡ refuses s why img)). subst (λ (m : Move). (w' : World Sector) × Heard z w (m .stepped .answer) (m .image) w') (sym (d .1)) (w, refl)) (step-is z F first (sure blocks) w img s work t)
 
   -- step after step; they leave nothing out
-  pub followed-on : (work : List ℕ) (n : ℕ) (w : World Sector) (img : List ℕ) (s : State) → On (at w img (has s))
+  pub followed-on : (work : List ℕ) (n : ℕ) (w : World Sector) (img : List ℕ) (s : State) → On z F first (sure blocks) (at w img (has s))
       → (w' : World Sector) × (c : Chain z (at w img (has s)) (at w' (nth work n s img .image) (has (nth work n s img .stepped .state)))) × (sets c ≡ [])
   followed-on work zero w img s t = let y = followed w img s work t in (y .0, goes-on stays (steps work (y .1)), refl)
   followed-on work (suc n) w img s t =
@@ -567,7 +596,7 @@ module _ (z : Shelf) (img : List ℕ) (disks : Disks z img) (blank : allZero img
   fresh = machine.at (after (curOf z img)) nothing
 
   -- no state is held
-  fresh-tie : (F : Family z) → Tie z F fresh (after (curOf z img)) img none
+  pub fresh-tie : (F : Family z) → Tie z F fresh (sure blocks) (after (curOf z img)) img none
   unfolding after Named
   fresh-tie F =
       let c = all-zeros z img blank in
@@ -590,11 +619,11 @@ module _ (z : Shelf) (img : List ℕ) (disks : Disks z img) (blank : allZero img
   -- FROM AN IMAGE OF ZEROS ON, whatever is called, and however often power is lost or the program dies: the disks and what the
   -- program remembers beside the state are reached by the protocol's own events, and its invariant holds of them, with the host's
   -- blocks all zeros; for any family that the sets are in which the chain leaves out
-  pub chained-in : (F : Family z) {b : Moment} (c : Chain z (at (after (curOf z img)) img none) b) → Allowed z F (sets c) → On z F fresh b
+  pub chained-in : (F : Family z) {b : Moment} (c : Chain z (at (after (curOf z img)) img none) b) → Allowed z F (sets c) → On z F fresh (sure blocks) b
   chained-in F c ok = chain-kept z F fresh c ok (fresh-tie F)
 
   -- FOR EVERY SHELF, where any two of these sets leave a slot out in common
-  pub chained-any : {b : Moment} (c : Chain z (at (after (curOf z img)) img none) b) (two : AnyTwo (slots z) (sets c)) → On z (parts-few z (sets c) two) fresh b
+  pub chained-any : {b : Moment} (c : Chain z (at (after (curOf z img)) img none) b) (two : AnyTwo (slots z) (sets c)) → On z (parts-few z (sets c) two) fresh (sure blocks) b
   chained-any c two = chained-in (parts-few z (sets c) two) c (in-parts z (sets c) two)
 
   -- FOR k > m nothing is asked: any two sets of at most m slots leave a slot out
@@ -603,5 +632,5 @@ module _ (z : Shelf) (img : List ℕ) (disks : Disks z img) (blank : allZero img
       let passed = chain-passed z (every-few z more) fresh c (λ a m e. e) (fresh-tie (every-few z more)) in
       quorum z more .meet s t (passed s i) (passed t j)
 
-  pub chained : (more : z .m < z .k) {b : Moment} → Chain z (at (after (curOf z img)) img none) b → On z (every-few z more) fresh b
+  pub chained : (more : z .m < z .k) {b : Moment} → Chain z (at (after (curOf z img)) img none) b → On z (every-few z more) fresh (sure blocks) b
   chained more c = chained-in (every-few z more) c (λ s m e. e)

@@ -213,13 +213,13 @@ module _ (z : Shelf) (F : Family z) where
 
   module _ (first : List ℕ) (disks : Disks z first) (blank : allZero first ≡ true) where
     module _ {w : World Sector} {img : List ℕ} {h : Hand} (chain : ComesTo z first (at w img h)) (ok : Allowed z F (sets chain)) where
-      tie : Tie z F (fresh z first disks blank) w img h
+      tie : Tie z F (fresh z first disks blank) (sure blocks) w img h
       tie = chained-in z first disks blank F chain ok
 
       -- what is read is one of the things that a cut may leave
       pub read-possible : Possible w (curOf z img)
       unfolding Sane
-      read-possible = subst (Possible w) (tie .reads) (off z F (fresh z first disks blank) (tie .reached) .keeps .sane)
+      read-possible = subst (Possible w) (tie .reads) (off z F (fresh z first disks blank) (sure blocks) (tie .reached) .keeps .sane)
 
       -- START WITH ANOTHER n, c OR S is refused, with this code, and changes nothing
       pub start-elsewhere : (s : State) (g : Geometry) (absent room : ℕ) → (g ≡ geometry z → ⊥) → Sits z g absent
@@ -236,7 +236,7 @@ module _ (z : Shelf) (F : Family z) where
         -- NO LABEL ON ANY DISK LIES, whatever a cut leaves
         pub honest-labels : NoLies z left
         unfolding Always
-        honest-labels = no-lies left here own (honest (size z) (F .sets) (labels z) (records z) (codeIn z F) stamps (sectorsIn z F) blocks w (off z F (fresh z first disks blank) (tie .reached) .keeps) (curOf z left) possible)
+        honest-labels = no-lies left here own (honest (size z) (F .sets) (labels z) (records z) (codeIn z F) stamps (sectorsIn z F) blocks w (off z F (fresh z first disks blank) (sure blocks) (tie .reached) .keeps) (curOf z left) possible)
 
         -- NO DISK NAMES ANOTHER SHELF
         pub own-labels : (d s : ℕ) (a : bytes.Label) → d < slots z → s < 2 → copyOf (geometry z) left d s ≡ Valid a → ours z a ≡ true
@@ -250,7 +250,7 @@ module _ (z : Shelf) (F : Family z) where
             (shaped-off (size z) (F .sets) (labels z) (records z) (codeIn z F) stamps (sectorsIn z F) w (memoryIn z h img) (tie .reached .tidy) (curOf z left) possible d i)
 
     module _ {w : World Sector} {img : List ℕ} {s : State} (chain : ComesTo z first (at w img (has s))) (ok : Allowed z F (sets chain)) where
-      held : Tie z F (fresh z first disks blank) w img (has s)
+      held : Tie z F (fresh z first disks blank) (sure blocks) w img (has s)
       held = chained-in z first disks blank F chain ok
 
       -- AT REST the state's own label is true, whatever a cut leaves
@@ -319,7 +319,7 @@ module _ (z : Shelf) (F : Family z) where
           (ap (λ (y : Memory Sector × Reply Sector). y .1)
           (program-in z F (memoryOf z s [] img) (w .cur) step _ (d .reply) (ap (λ (f : Image Sector). programOf z (memoryOf z s [] img) f step) (held .reads) ∙ d .steps)
           (λ why r. subst (Same z (stepWith s img work .stepped .answer)) r (d .answers)) (λ r. absurd (subst (Same z (stepWith s img work .stepped .answer)) r (d .answers)))) ∙ q))))
-          (λ (d : (why : Refusal) × (stepWith s img work ≡ refuses s why img)). absurd (subst (λ (m : Move). Touches (m .stepped .answer) e) (d .1) t)) (step-is z F (fresh z first disks blank) w img s work held)
+          (λ (d : (why : Refusal) × (stepWith s img work ≡ refuses s why img)). absurd (subst (λ (m : Move). Touches (m .stepped .answer) e) (d .1) t)) (step-is z F (fresh z first disks blank) (sure blocks) w img s work held)
 
       -- A STEP CAN BE FOLLOWED
       pub step-followed : (work : List ℕ) → (w' : World Sector) × Heard z w (stepWith s img work .stepped .answer) (stepWith s img work .image) w'

@@ -31,3 +31,7 @@ pub mod Holds
 pub mod Promise
 pub mod Blind
 pub mod Strips
+pub mod Sees
+pub mod WriteAsked
+pub mod Hosts
+pub mod Reads

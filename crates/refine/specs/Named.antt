@@ -25,8 +25,8 @@ use Rattle.protocol.specs.Label.{Label, again, belief, copy, round, round-batch
 use Rattle.protocol.specs.Redo.{redo}
 use Rattle.protocol.specs.Startup.{M, L, late, level-to, again-to, last-to, rounds}
 use Rattle.protocol.specs.Decide.{data-place, Touch, Looked, strips-each, redo-each, in-turn, settled, startup}
-use Rattle.protocol.specs.Log.{Write}
-use Rattle.protocol.specs.Write.{store}
+use Rattle.protocol.specs.Log.{Write, Belief}
+use Rattle.protocol.specs.Write.{logged, log-batch, log-write, store}
 use Rattle.protocol.specs.Request.{outed}
 use Rattle.protocol.specs.Program.{Own, creating, starting, logging, storing, labelling, Memory, nothing, idle, doing, step, new-label, beyond, flushed-first, told-to, asked-create, asked-start, asked-out}
 use Rattle.protocol.specs.Machine.{effect}
@@ -192,6 +192,15 @@ module _ (z : Shelf) where
   names-store x o =
       let B = belief (size z) (o .now) in
       names-data (Touch B) (Looked B) (λ k t. t .0) (store (records z) B (x .stripe) (x .changes) (x .new)) (strips-each (records z) B (x .stripe) (x .changes) (x .new))
+
+  pub names-log : (B : Belief) (σ : ℕ) (x : Write Sector) → Names (log-write (records z) B σ x)
+  unfolding log-batch
+  names-log B σ x = names-batch (log-batch (records z) B σ x) go
+    where
+      go : (k : Place) → NamesIn z k (logged (records z) σ x k)
+      go (label d b) = zeros-named (label d b)
+      go (log d j) = tt
+      go (strip d t j) = tt
 
   -- A STEP
   pub step-names : (m : Memory Sector) (f : Image Sector) (w : World Sector) → Sane w → Always w (Named z) → Names (leftIn m)

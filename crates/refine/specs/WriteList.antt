@@ -48,7 +48,7 @@ pub record Writes (z : Shelf) (s : State) (work : List ℕ) (w : Write Sector) :
 
 -- ---- a record goes by the strip and by what the write changes
 
-strip-same : (v u : ℕ → Sector) (c : ℕ) → ((j : ℕ) → j < c → v j ≡ u j) → stripBytes v c ≡ stripBytes u c
+pub strip-same : (v u : ℕ → Sector) (c : ℕ) → ((j : ℕ) → j < c → v j ≡ u j) → stripBytes v c ≡ stripBytes u c
 strip-same v u zero h = refl
 strip-same v u (suc c) h = ap₂ (λ (a : List ℕ) (x : Sector). a ++ x .bytes) (strip-same v u c (λ j l. h j (omega arith))) (h c (omega arith))
 

@@ -17,7 +17,7 @@ use Rattle.protocol.specs.Log.{Write}
 use Rattle.protocol.specs.Label.{belief}
 use Rattle.protocol.specs.Write.{log-write}
 use Rattle.protocol.specs.Host.{Change, writeOf}
-use Rattle.protocol.specs.Program.{Own, Memory, idle, doing, logging, storing, Reply, did, safe, done, step, beyond, asked-write, asked-store}
+use Rattle.protocol.specs.Program.{Own, Memory, idle, doing, creating, starting, logging, storing, labelling, Reply, accepted, refused, did, safe, done, block, found, step, beyond, change-made, asked-write, asked-store}
 use Rattle.protocol.specs.Machine.{effect}
 use Rattle.protocol.specs.Even.{program-by}
 use Rattle.protocol.specs.Pairs.{no-sets}
@@ -58,6 +58,20 @@ cancel [] (y ∷ m) b e = absurd (let q : length b ≡ suc (length (m ++ b)) = a
 cancel (x ∷ l) [] b e = absurd (let q : suc (length (l ++ b)) ≡ length b = ap length e in omega (arith, length-append l b))
 cancel (x ∷ l) (y ∷ m) b e = ap₂ (λ a c. a ∷ c) (ap (headOr x) e) (cancel l m b (ap rest e))
 
+-- no other request ends
+abbrev pub OfWrite : Reply Sector → Type 0
+OfWrite accepted = Unit {0}
+OfWrite (refused why) = Unit {0}
+OfWrite (did a) = Unit {0}
+OfWrite safe = Unit {0}
+OfWrite (done creating) = ⊥
+OfWrite (done starting) = ⊥
+OfWrite (done (logging x)) = ⊥
+OfWrite (done (storing x)) = Unit {0}
+OfWrite (done labelling) = ⊥
+OfWrite (block b) = Unit {0}
+OfWrite (found x) = Unit {0}
+
 module _ (z : Shelf) where
   -- the program, asked for one step, or for two of which the first is `safe`, remembers what it has to beside the state that the move leaves,
   -- answers the same, and acts as the move does; the write goes on as the same write, or is done
@@ -65,6 +79,7 @@ module _ (z : Shelf) where
     pub before : Memory Sector
     pub first : (memoryWith z w s work img ≡ before) ⊎ (programOf z (memoryWith z w s work img) (curOf z img) step ≡ (before, safe))
     pub reply : Reply Sector
+    pub of-write : OfWrite reply
     pub steps : programOf z before (curOf z img) step ≡ (memoryWith z w (m .stepped .state) work (m .image), reply)
     pub answers : Same z (m .stepped .answer) reply
     pub acts : (v : World Sector) → v .cur ≡ curOf z img → effect v reply .cur ≡ curOf z (m .image)
@@ -149,6 +164,7 @@ module _ (z : Shelf) where
             before = b;
             first = first;
             reply = done (storing w);
+            of-write = tt;
             steps = ap (λ (x : Memory Sector). programOf z x F step) e ∙ ends ∙ sym (ap (λ (x : Move). (memoryWith z w (x .stepped .state) work (x .image), done (storing w))) d);
             answers = ap (λ (x : Move). x .stepped .answer) d;
             acts = λ v c. c ∙ sym (ap (λ (x : Move). curOf z (x .image)) d);
@@ -160,6 +176,7 @@ module _ (z : Shelf) where
             before = b;
             first = first;
             reply = did (put k v);
+            of-write = tt;
             steps =
                 ap (λ (x : Memory Sector). programOf z x F step) e ∙ stores (put k v) l
                 ∙ sym (ap (λ (x : Move). (memoryWith z w (x .stepped .state) work (x .image), did (put k v))) (d .is)
@@ -174,6 +191,7 @@ module _ (z : Shelf) where
             before = b;
             first = first;
             reply = did (flush e);
+            of-write = tt;
             steps =
                 ap (λ (x : Memory Sector). programOf z x F step) q ∙ stores (flush e) l
                 ∙ sym (ap (λ (x : Move). (memoryWith z w (x .stepped .state) work (x .image), did (flush e))) (d .is)
@@ -209,6 +227,7 @@ module _ (z : Shelf) where
             before = memoryWith z w s work img;
             first = inl refl;
             reply = did (put k v);
+            of-write = tt;
             steps =
                 ap (λ (x : Memory Sector). programOf z x F step) (memory-early s img (put k v ∷ l) refl early e) ∙ logs (put k v) l
                 ∙ sym (ap (λ (x : Move). (memoryWith z w (x .stepped .state) work (x .image), did (put k v))) (d .is)
@@ -224,6 +243,7 @@ module _ (z : Shelf) where
             before = memoryWith z w s work img;
             first = inl refl;
             reply = did (flush c);
+            of-write = tt;
             steps =
                 ap (λ (x : Memory Sector). programOf z x F step) (memory-early s img (flush c ∷ l) refl early e) ∙ logs (flush c) l
                 ∙ sym (ap (λ (x : Move). (memoryWith z w (x .stepped .state) work (x .image), did (flush c))) (d .is)
@@ -280,12 +300,16 @@ module _ (z : Shelf) where
       (record { now = labelOf z (a .now j); absent = beyond (slots z) (inMask (a .absent j)); epoch = a .epoch j; count = before j })
       (record { now = labelOf z (a .next j); absent = beyond (slots z) (inMask (a .absent j)); epoch = a .epoch j; count = mine j }))
 
-  -- A WRITE OF THE HOST'S, accepted in state i, begins as the protocol's; f is what is seen of the disks
-  pub write-begins : (i s : State) (work img : List ℕ) (f : Image Sector) (t : ℕ) (ch : Change Sector)
-      → Asks i s work (writeOf (size z) (no-sets (slots z)) (records z) (any-code z) (labelOf z (i .now)) f t ch)
-      → memoryWith z (writeOf (size z) (no-sets (slots z)) (records z) (any-code z) (labelOf z (i .now)) f t ch) s work img
-      ≡ asked-write (size z) (no-sets (slots z)) (labels z) (records z) (any-code z) stamps (any-sectors z) (ownOf z i (i .now)) f t ch
-  write-begins i s work img f t ch a = log-begins i s work img (writeOf (size z) (no-sets (slots z)) (records z) (any-code z) (labelOf z (i .now)) f t ch) a
+  -- the write that the protocol's program makes of a change of the host's, asked for in state i; f is what is seen of the disks
+  abbrev pub write-asked : State → Image Sector → ℕ → Change Sector → Write Sector
+  write-asked i f t ch =
+      writeOf (size z) (no-sets (slots z)) (records z) (any-code z) (labelOf z (i .now)) f t
+      (change-made (size z) (no-sets (slots z)) (labels z) (records z) (any-code z) stamps (any-sectors z) (ownOf z i (i .now)) f t ch)
+
+  -- A WRITE OF THE HOST'S, accepted in state i, begins as the protocol's
+  pub write-begins : (i s : State) (work img : List ℕ) (f : Image Sector) (t : ℕ) (ch : Change Sector) → Asks i s work (write-asked i f t ch)
+      → memoryWith z (write-asked i f t ch) s work img ≡ asked-write (size z) (no-sets (slots z)) (labels z) (records z) (any-code z) stamps (any-sectors z) (ownOf z i (i .now)) f t ch
+  write-begins i s work img f t ch a = log-begins i s work img (write-asked i f t ch) a
 
   -- AND IT CAN BE CARRIED OUT: the slots that it is to put on are present, the stripe and the set of shards are the shelf's, the count is
   -- one of 8 bytes, and the work area has the stripe
