@@ -348,6 +348,8 @@ module _ (z : Shelf) (F : Family z) (first-one : Machine Sector) (p : View Secto
           (may-read z img (t .disks) (s .now) own (s .absent) b work buf shows-it))
 
   -- A READ, whenever it answers Done, shows the view's entry
-  pub read-right : Bound z F first-one p w img (has s work) → afterRead Done s b img work buf ≡ stripBytes (list-of p (b / s .now .k) (b % s .now .k)) (z .c)
-  read-right (inl t) = read-plain t
-  read-right (inr t) = read-writing t
+  pub read-right : Bound z F first-one p w img (has s work) → afterRead Done s b img work buf ≡ stripBytes (list-of p (b / z .k) (b % z .k)) (z .c)
+  read-right (inl t) =
+      let own = ⊎-elim (λ (f : Fair z s [] img × (plain (s .kind) ≡ true)). f .0 .ours-now) (λ (q : (s .kind ≡ Idle) × (ours z (s .now) ≡ true)). q .1) (t .order .1) in
+      read-plain t ∙ ap (λ (k : ℕ). stripBytes (list-of p (b / k) (b % k)) (z .c)) (sym (same-says (fieldsOf z 0 (noLabel z)) (s .now) own .same-k))
+  read-right (inr t) = read-writing t ∙ ap (λ (k : ℕ). stripBytes (list-of p (b / k) (b % k)) (z .c)) (sym (same-says (fieldsOf z 0 (noLabel z)) (s .now) (t .fair .ours-now) .same-k))
