@@ -36,7 +36,7 @@ use Rattle.shelf.specs.declared.state.Kind.{Kind}
 use Rattle.shelf.specs.declared.state.Kind.the-variants.{Nothing, Idle, Creating, Starting, Labelling, Writing, Beginning, Filling}
 use Rattle.shelf.specs.declared.state.Answer.{Answer}
 use Rattle.shelf.specs.declared.state.Answer.the-variants as answer
-use Rattle.requests.specs.Begun.{begun}
+use Rattle.requests.specs.Begun.{workBytes, begun}
 use Rattle.requests.specs.Create.{createOf}
 use Rattle.requests.specs.Start.{startOf}
 use Rattle.requests.specs.TakeOut.{takeAnswer, tookOut, takeOutOf}
@@ -46,7 +46,8 @@ use Rattle.requests.specs.Ready.{isIdle, readyOf}
 use Rattle.requests.specs.declared.begun.Begun.{Begun}
 use Rattle.blocks.specs.Slots.{tooFew}
 use Rattle.blocks.specs.Answers.{sizes, blockAnswer, first-done, answered-done}
-use Rattle.blocks.specs.Write.{stampLeft, writeAnswer, Written, AfterWrite}
+use Rattle.blocks.specs.Write.{stampLeft, writeAnswer, Written, AfterWrite, write-done}
+use Rattle.refine.specs.Given.{shelf-geometry}
 use Rattle.refine.specs.Family.{Family, KeepsIn}
 use Rattle.refine.specs.Disks.{Disks, curOf}
 use Rattle.refine.specs.Rounds.{beyond-below}
@@ -190,6 +191,7 @@ module _ (z : Shelf) (F : Family z) (first : Machine Sector) where
     pub next-ours : ours z (s .next) ≡ true
     pub fair : Fair z s work img
     pub writes : Writes z s work written
+    pub sized : length work ≡ workBytes (slots z) (z .c)
 
   abbrev pub Bound : View Sector → World Sector → List ℕ → Held → Type 1
   Bound p w img none = Tie z F first p w img chain.none
@@ -271,6 +273,7 @@ module _ (z : Shelf) (F : Family z) (first : Machine Sector) where
                     next-ours = ap (ours z) (g .3) ∙ own;
                     fair = g .0;
                     writes = g .1;
+                    sized = g .4 ∙ write-done (s .now) (s .kind) (s .absent) (s .count) img b given work e .0 .whole ∙ ap (λ (x : Geometry). workBytes (x .n) (x .c)) (shelf-geometry z (s .now) own);
                   }),
             )
         by (open-write v v') r = absurd (r .keeps)
@@ -394,6 +397,7 @@ module _ (z : Shelf) (F : Family z) (first : Machine Sector) where
         next-ours = ap (ours z) (d .settles) ∙ t .next-ours;
         fair = g .0;
         writes = g .1;
+        sized = t .sized;
       }))
       (λ (g : m ≡ finished s img).
       let k : m .stepped .state .kind ≡ Idle = ap (λ (x : Move). x .stepped .state .kind) g in

@@ -36,3 +36,4 @@ pub mod WriteAsked
 pub mod Hosts
 pub mod Reads
 pub mod Serves
+pub mod HostHolds
