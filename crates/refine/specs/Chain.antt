@@ -564,7 +564,7 @@ module _ (z : Shelf) (F : Family z) (first : Machine Sector) where
       ⊎-elim (λ n. call-passed x there s n) (λ n. chain-passed c before t s n) (List·Memᴰ·append-cases (sets-call x) m)
 
   -- and each step can be followed: its answer names a sector of the shelf
-  heard-by : (w : World Sector) (img : List ℕ) (r : Reply Sector) (a : Answer) → Same z a r → effect w r .cur ≡ curOf z img → (w' : World Sector) × Heard z w a img w'
+  pub heard-by : (w : World Sector) (img : List ℕ) (r : Reply Sector) (a : Answer) → Same z a r → effect w r .cur ≡ curOf z img → (w' : World Sector) × Heard z w a img w'
   heard-by w img accepted a s c = absurd s
   heard-by w img (refused why) a s c = absurd s
   heard-by w img (did (put k v)) a s c = (act w (put k (curOf z img k)), subst (λ (x : Answer). Heard z w x img (act w (put k (curOf z img k)))) (sym (s .1)) (k, s .0, refl, refl, refl))

@@ -16,6 +16,7 @@ use Rattle.disk.specs.declared.refusal.Outcome.the-variants.{Done, Refused}
 use Rattle.disk.specs.Geometry.{blocksOf}
 use Rattle.label.specs.Fields.{geometryOf}
 use Rattle.label.specs.Bytes.{allZero}
+use Rattle.label.proofs.Counts.{same-says}
 use Rattle.protocol.specs.World.{Image, Action, put, flush, World, Possible, after, Always}
 use Rattle.protocol.specs.Log.{Write}
 use Rattle.protocol.specs.Label as Label
@@ -27,7 +28,7 @@ use Rattle.protocol.specs.Machine as machine
 use Rattle.protocol.specs.Even.{program-by}
 use Rattle.codecs.specs.Sector.{Sector, Bytes}
 use Rattle.codecs.specs.Shelf.{Shelf, slots, geometry, size}
-use Rattle.codecs.specs.Labels.{ours, labelOf}
+use Rattle.codecs.specs.Labels.{fieldsOf, noLabel, ours, labelOf}
 use Rattle.shelf.specs.Act.{Move, refuses}
 use Rattle.shelf.specs.Step.{stepMove, finished}
 use Rattle.shelf.specs.declared.state.State.{State}
@@ -35,7 +36,7 @@ use Rattle.shelf.specs.declared.state.Kind.{Kind}
 use Rattle.shelf.specs.declared.state.Kind.the-variants.{Nothing, Idle, Creating, Starting, Labelling, Writing, Beginning, Filling}
 use Rattle.shelf.specs.declared.state.Answer.{Answer}
 use Rattle.shelf.specs.declared.state.Answer.the-variants as answer
-use Rattle.requests.specs.Begun.{begun}
+use Rattle.requests.specs.Begun.{workBytes, begun}
 use Rattle.requests.specs.Create.{createOf}
 use Rattle.requests.specs.Start.{startOf}
 use Rattle.requests.specs.TakeOut.{takeAnswer, tookOut, takeOutOf}
@@ -45,7 +46,8 @@ use Rattle.requests.specs.Ready.{isIdle, readyOf}
 use Rattle.requests.specs.declared.begun.Begun.{Begun}
 use Rattle.blocks.specs.Slots.{tooFew}
 use Rattle.blocks.specs.Answers.{sizes, blockAnswer, first-done, answered-done}
-use Rattle.blocks.specs.Write.{stampLeft, writeAnswer, Written, AfterWrite}
+use Rattle.blocks.specs.Write.{stampLeft, writeAnswer, Written, AfterWrite, write-done}
+use Rattle.refine.specs.Given.{shelf-geometry}
 use Rattle.refine.specs.Family.{Family, KeepsIn}
 use Rattle.refine.specs.Disks.{Disks, curOf}
 use Rattle.refine.specs.Rounds.{beyond-below}
@@ -155,7 +157,7 @@ Saw (creates-late s k m c S number work e) p q = q ≡ p
 Saw (starts s g absent work sits) p q = q ≡ p
 Saw (takes-out d) p q = q ≡ p
 Saw {z} (writes {img = img} {s = s} {work = work} b given s' then x y e) p q =
-    SawAsked (writeAnswer (s .now) (s .kind) (s .absent) (s .count) img b (length given) (length work)) (b / s .now .k) (b % s .now .k) (sectorsOf (z .c) given) p q
+    SawAsked (writeAnswer (s .now) (s .kind) (s .absent) (s .count) img b (length given) (length work)) (b / z .k) (b % z .k) (sectorsOf (z .c) given) p q
 Saw (steps {img = img} {s = s} {work = work} heard) p q = SawStep (s .kind) (stepWith s img work .stepped .answer) p q
 Saw (cut left d x) p q = q ≡ p
 Saw dies p q = q ≡ p
@@ -189,6 +191,7 @@ module _ (z : Shelf) (F : Family z) (first : Machine Sector) where
     pub next-ours : ours z (s .next) ≡ true
     pub fair : Fair z s work img
     pub writes : Writes z s work written
+    pub sized : length work ≡ workBytes (slots z) (z .c)
 
   abbrev pub Bound : View Sector → World Sector → List ℕ → Held → Type 1
   Bound p w img none = Tie z F first p w img chain.none
@@ -244,13 +247,13 @@ module _ (z : Shelf) (F : Family z) (first : Machine Sector) where
         (first-done (readyOf (s .now) (s .kind) (s .absent) img) (blockAnswer (s .now) (s .absent) (isIdle (s .kind)) (stampLeft (s .count)) b (length given) (length work)) e .1) .at-rest
 
     accepted-write : asked ≡ Done → Written s b given img work s' then → Tie z F first p w img (chain.has s)
-        → (q : View Sector) × SawAsked Done (b / s .now .k) (b % s .now .k) (sectorsOf (z .c) given) p q × Bound q w img (has s' then)
+        → (q : View Sector) × SawAsked Done (b / z .k) (b % z .k) (sectorsOf (z .c) given) p q × Bound q w img (has s' then)
     accepted-write e h t = by p (subst (Reached z F first p w) (rests z s img (idle-is z F first p (s .kind) (rest-of e))) (t .reached))
       where
         own : ours z (s .now) ≡ true
         own = ⊎-elim (λ (f : Fair z s [] img × (plain (s .kind) ≡ true)). f .0 .ours-now) (λ (q : (s .kind ≡ Idle) × (ours z (s .now) ≡ true)). q .1) (t .order .1)
 
-        by : (p : View Sector) → Reached z F first p w (idle (ownOf z s (s .now))) → (q : View Sector) × SawAsked Done (b / s .now .k) (b % s .now .k) (sectorsOf (z .c) given) p q × Bound q w img (has s' then)
+        by : (p : View Sector) → Reached z F first p w (idle (ownOf z s (s .now))) → (q : View Sector) × SawAsked Done (b / z .k) (b % z .k) (sectorsOf (z .c) given) p q × Bound q w img (has s' then)
         by (sure v) r =
             let dark : (d : ℕ) → d < slots z → inMask (s .absent) d ≡ true → Label.looked (size z) (labelOf z (s .now)) d ≡ true → ⊥ =
             λ d i a l. r .keeps .1 .dark d (beyond-below (slots z) (s .absent) d i ∙ a) l in
@@ -258,7 +261,7 @@ module _ (z : Shelf) (F : Family z) (first : Machine Sector) where
             let y = asks-to z F first img (t .reads) r _ (write (b / s .now .k) (one-block (b % s .now .k) (sectorsOf (z .c) given))) accepted (write-accepted z img (t .disks) s own dark b given work small e)
             (accepted-none z F first (sure v)) (λ x a n. absurd (List·Memᴰ·not-nil n)) in (
               y .0,
-              (v, refl, y .1),
+              (v, refl, y .1 ∙ ap (λ (k : ℕ). open-write v (replace v (b / k) (one-block (b % k) (sectorsOf (z .c) given)))) (sym (same-says (fieldsOf z 0 (noLabel z)) (s .now) own .same-k))),
               inr
                   (record {
                     written = W z img (t .disks) s own dark b given work small e;
@@ -270,16 +273,17 @@ module _ (z : Shelf) (F : Family z) (first : Machine Sector) where
                     next-ours = ap (ours z) (g .3) ∙ own;
                     fair = g .0;
                     writes = g .1;
+                    sized = g .4 ∙ write-done (s .now) (s .kind) (s .absent) (s .count) img b given work e .0 .whole ∙ ap (λ (x : Geometry). workBytes (x .n) (x .c)) (shelf-geometry z (s .now) own);
                   }),
             )
         by (open-write v v') r = absurd (r .keeps)
         by (kept-write v') r = absurd (r .keeps)
 
     write-bound : AfterWrite asked s b given img work s' then → Bound p w img (has s work)
-        → (q : View Sector) × SawAsked asked (b / s .now .k) (b % s .now .k) (sectorsOf (z .c) given) p q × Bound q w img (has s' then)
+        → (q : View Sector) × SawAsked asked (b / z .k) (b % z .k) (sectorsOf (z .c) given) p q × Bound q w img (has s' then)
     write-bound h t = by asked refl h
       where
-        by : (o : Outcome) → asked ≡ o → AfterWrite o s b given img work s' then → (q : View Sector) × SawAsked o (b / s .now .k) (b % s .now .k) (sectorsOf (z .c) given) p q × Bound q w img (has s' then)
+        by : (o : Outcome) → asked ≡ o → AfterWrite o s b given img work s' then → (q : View Sector) × SawAsked o (b / z .k) (b % z .k) (sectorsOf (z .c) given) p q × Bound q w img (has s' then)
         by Done e a =
             ⊎-elim (λ (x : Tie z F first p w img (chain.has s)). accepted-write e a x) (λ (x : Laying p w img s work). absurd (false≢true (sym (ap isIdle (x .writes .kind)) ∙ rest-of e))) t
         by (Refused why) e a = (p, refl, subst (λ (x : State). Bound p w img (has x then)) (sym (a .0)) (subst (λ (x : List ℕ). Bound p w img (has s x)) (sym (a .1)) t))
@@ -393,6 +397,7 @@ module _ (z : Shelf) (F : Family z) (first : Machine Sector) where
         next-ours = ap (ours z) (d .settles) ∙ t .next-ours;
         fair = g .0;
         writes = g .1;
+        sized = t .sized;
       }))
       (λ (g : m ≡ finished s img).
       let k : m .stepped .state .kind ≡ Idle = ap (λ (x : Move). x .stepped .state .kind) g in

@@ -4,14 +4,17 @@ use mathlib.Core.Path.{_≡_, refl, sym, ap, ap₂, subst, _∙_, fun-ext}
 use mathlib.Core.Logic.{_⊎_, ⊎-elim, inl, inr}
 use mathlib.Core.Bool.{Bool, true, false, cond, not, _&&_, true≢false, false≢true}
 use mathlib.Core.List.{List, [], _∷_, List·Memᴰ·not-nil}
-use Prim.Native.Nat.{ℕ, _+_, _*_, _<_, _/_, _%_}
+use Prim.Native.Nat.{ℕ, _+_, _-_, _*_, _≤_, _<_, _/_, _%_}
+use native.Mathlib.Nat.{mod-lt, mod-eq-of-lt, suc-mul, mul-assoc, mul-le-mul-right}
 use native.Mathlib.Omega.{arith}
-use lib.Dec.{ltb, lit<}
-use lib.ListN.{length}
-use borrow.Author.Tests.{lt-ltb}
-use Rattle.disk.specs.Tests.{both}
+use lib.Dec.{eqb, leb, ltb, lit<}
+use lib.ListN.{length, getD}
+use lib.Seq.{getD-take}
+use borrow.Author.Tests.{lt-ltb, le-ltb, le-leb, leb-true, eq-eqb, ne-eqb, eqb-true, eqb-false}
+use Rattle.disk.specs.Tests.{both, and-right}
 use Rattle.disk.specs.Limits.{sectorBytes}
-use Rattle.disk.specs.Geometry.{stripesOf, slotOf, block-inside}
+use Rattle.disk.specs.Geometry.{stripesOf, slotOf, slot-lt, shard-slot, block-inside}
+use Rattle.disk.specs.Image.{sector, lt-or-ge}
 use Rattle.disk.specs.Mask.{inMask, in-past}
 use Rattle.disk.specs.declared.geometry.Geometry.{Geometry}
 use Rattle.disk.specs.declared.refusal.Outcome.the-variants.{Done}
@@ -22,24 +25,31 @@ use Rattle.label.proofs.Counts.{same-says}
 use Rattle.position.specs.Row.{listed}
 use Rattle.protocol.specs.World.{strip, Image, World, Action}
 use Rattle.protocol.specs.Label as Label
-use Rattle.protocol.specs.Host.{Blocks, missing, read}
-use Rattle.protocol.specs.Program.{BAD_BLOCK, Verdict, clear, first, Own, Memory, idle, doing, labelling, logging, Reply, accepted, refused, did, safe, done, block, found, read-block, beyond, mask, answer, meanwhile}
+use Rattle.protocol.specs.Log.{Write}
+use Rattle.protocol.specs.Host.{Blocks, missing, read, read-through}
+use Rattle.protocol.specs.Program.{BAD_BLOCK, Verdict, clear, first, Own, Memory, idle, doing, labelling, logging, storing, Reply, accepted, refused, did, safe, done, block, found, read-block, beyond, mask, answer, meanwhile}
 use Rattle.protocol.specs.Program as program
 use Rattle.protocol.specs.Even.{program-by}
 use Rattle.protocol.specs.Machine.{Machine, View, sure, open-write, kept-write, list-of}
 use Rattle.protocol.specs.Pairs.{no-sets}
-use Rattle.codecs.specs.Sector.{Sector}
-use Rattle.codecs.specs.Shelf.{Shelf, slots, geometry, size}
+use Rattle.codecs.specs.Sector.{Sector, Bytes}
+use Rattle.codecs.specs.Shelf.{Shelf, slots, geometry, size, some-slots}
 use Rattle.codecs.specs.Labels.{fieldsOf, noLabel, labelOf, labels, ours}
 use Rattle.codecs.specs.Records.{stripBytes, records}
 use Rattle.codecs.specs.Media.{stamps}
+use Rattle.shards.specs.Parity.{byte-of}
+use Rattle.shards.specs.Exact.{blocks-blind}
 use Rattle.shards.specs.Even.{any-code, any-sectors}
+use Rattle.stripes.specs.Slice.{sector-is}
 use Rattle.strips.specs.Seen.{shownByte, shardShown}
 use Rattle.views.specs.Seen.{Keeping, gone, none-over, shown-block}
+use Rattle.views.specs.Seen as views
 use Rattle.views.specs.Program.{bad-same}
 use Rattle.blocks.specs.Slots.{tooFew}
 use Rattle.blocks.specs.Answers.{serves, lookAnswer, sizes, blockAnswer, first-done, answered-done}
-use Rattle.blocks.specs.Read.{laidBy, laidOver, blockShown, halfOf, shownOf, readAnswer, Shows, read-done}
+use Rattle.blocks.specs.Read.{laidBy, laidOver, blockShown, halfOf, shownOf, readAnswer, afterRead, Shows, read-done, shows-block}
+use Rattle.shelf.specs.Limits.{mostStages}
+use Rattle.shelf.specs.Stage.{writeStage, stageAt}
 use Rattle.shelf.specs.declared.state.State.{State}
 use Rattle.shelf.specs.declared.state.Kind.{Kind}
 use Rattle.shelf.specs.declared.state.Kind.the-variants.{Nothing, Idle, Creating, Starting, Labelling, Writing, Beginning, Filling}
@@ -47,13 +57,15 @@ use Rattle.refine.specs.Given.{shelf-geometry}
 use Rattle.refine.specs.Family.{Family}
 use Rattle.refine.specs.Disks.{Disks, curOf, seenOf}
 use Rattle.refine.specs.Rounds.{beyond-below}
-use Rattle.refine.specs.ToDo.{toDo}
-use Rattle.refine.specs.Steps.{Fair}
-use Rattle.refine.specs.Tied.{ownOf, writeIn, writeMemory, memoryBy, memoryOf, plain, programOf}
+use Rattle.refine.specs.Keeps.{Works, keptAt, keptByte, keptStrip}
+use Rattle.refine.specs.ToDo.{stampIn, leftOf, toDo}
+use Rattle.refine.specs.Steps.{Can, Fair}
+use Rattle.refine.specs.Tied.{ownOf, ownBefore, writeIn, writeMemory, memoryBy, memoryWith, memoryOf, plain, programOf}
 use Rattle.refine.specs.WriteList.{strip-same}
 use Rattle.refine.specs.Sees.{seenSlots, there-believed, there-lying}
 use Rattle.refine.specs.Chain.{Reached, Tie, asks-to}
 use Rattle.refine.specs.Chain as chain
+use Rattle.refine.specs.Hosts.{has, Laying, Bound}
 
 -- no refusal, and nothing accepted
 abbrev NoBlock : Reply Sector → Type 0
@@ -64,6 +76,13 @@ NoBlock safe = Unit {0}
 NoBlock (done k) = Unit {0}
 NoBlock (block b) = ⊥
 NoBlock (found x) = Unit {0}
+
+lt-leb-false : (a c : ℕ) → c < a → leb a c ≡ false
+lt-leb-false a c h = by (leb a c) refl
+  where
+    by : (x : Bool) → leb a c ≡ x → x ≡ false
+    by true e = absurd (omega (arith, leb-true a c e))
+    by false e = refl
 
 module _ (z : Shelf) (img : List ℕ) (disks : Disks z img) (l : bytes.Label) (own : ours z l ≡ true) (absent b : ℕ) (work buf : List ℕ) (shows : Shows l absent img work b buf) where
   abbrev pub stripe : ℕ
@@ -123,6 +142,23 @@ module _ (z : Shelf) (img : List ℕ) (disks : Disks z img) (l : bytes.Label) (o
         nothing-over : Keeping z stripe (halfOf (geometryOf l) work) 0 g
         nothing-over r j hr hj e = absurd (false≢true (sym (in-past 0 0 (slotOf (slots z) stripe r) (lit< tt) (omega arith)) ∙ e))
 
+    -- READ, with the shards of a write laid over that is on its way to its strips
+    pub shown-through : (u : Write Sector) (over : ℕ) → ((d : ℕ) → d < slots z → Label.believed (size z) (labelOf z l) d stripe ≡ true → inMask over d ≡ (eqb stripe (u .stripe) && u .changes d))
+        → Keeping z stripe (halfOf (geometryOf l) work) over (u .new)
+        → shownOf l absent over img work b ≡ stripBytes (read-through (size z) (no-sets (slots z)) (records z) (any-code z) u (labelOf z l) f stripe inStripe) (z .c)
+    unfolding read-through views.laidOver gone
+    shown-through u over same keeps =
+        let bad : ℕ → Bool = missing (size z) (no-sets (slots z)) (records z) (any-code z) (labelOf z l) stripe in
+        shown-is over ∙ shown-block z stripe img th over (halfOf (geometryOf l) work) g (u .new) (there-lying z l own absent stripe img disks in-T) keeps inStripe in-n
+        ∙ ap (λ (x : Blocks Sector). stripBytes (x inStripe) (z .c)) (bad-same z stripe (gone th) bad (views.laidOver over (u .new) g) (λ d h. ap not (there-believed z l own absent stripe dark d h)))
+        ∙ ap (λ (x : ℕ → Sector). stripBytes x (z .c))
+        (fun-ext (λ j. blocks-blind z stripe bad (views.laidOver over (u .new) g) inStripe j in-n (λ d i. cond (eqb stripe (u .stripe) && u .changes d) (u .new d i) (g d i))
+        (λ d h e. ap (λ (x : Bool). cond x (u .new d j) (g d j)) (same d h (sees (Label.believed (size z) (labelOf z l) d stripe) e)))))
+      where
+        sees : (x : Bool) → not x ≡ false → x ≡ true
+        sees true e = refl
+        sees false e = sym e
+
   -- the program may read this block
   pub may-read : (ltb stripe (stripesOf (geometry z)) && ltb inStripe (z .k)) ≡ true
   may-read = both (ltb stripe (stripesOf (geometry z))) (ltb inStripe (z .k)) (lt-ltb stripe (stripesOf (geometry z)) in-T) (lt-ltb inStripe (z .k) in-k)
@@ -134,6 +170,22 @@ module _ (z : Shelf) (img : List ℕ) (disks : Disks z img) (l : bytes.Label) (o
     given-entry m x r e =
         let y = asks-to z F first-one img reads r m (read-block stripe inStripe) (block x) e (λ why q. absurd (subst NoBlock (sym q) tt)) (λ q. absurd (subst NoBlock (sym q) tt)) in
         strip-same x (list-of p stripe inStripe) (z .c) (y .1 .1)
+
+  -- the work area's shards, as strips
+  pub half-keeps : Works z work → (r j : ℕ) → r < slots z → j < z .c → sector (z .c) (halfOf (geometryOf l) work) r j ≡ keptStrip z work stripe (slotOf (slots z) stripe r) j .bytes
+  unfolding halfOf keptStrip Bytes
+  half-keeps works r j hr hj =
+      let d : ℕ = slotOf (slots z) stripe r in
+      let len : length (halfOf (geometryOf l) work) ≡ slots z * (z .c * sectorBytes) = shows-block l absent img work b buf shows .keeps ∙ ap (λ (x : Geometry). x .n * (x .c * sectorBytes)) geo in
+      let H : ℕ = (l .k + l .m) * (l .c * sectorBytes) in
+      let he : H ≡ slots z * (z .c * sectorBytes) = ap (λ (x : Geometry). x .n * (x .c * sectorBytes)) geo in
+      sector-is z (halfOf (geometryOf l) work) r j len hr hj (keptStrip z work stripe d j)
+      (λ p hp.
+      let at : r * (z .c * sectorBytes) + (j * sectorBytes + p) < H = omega (arith, he, mul-le-mul-right (z .c * sectorBytes) hr, suc-mul r (z .c * sectorBytes), mul-le-mul-right sectorBytes hj, suc-mul j sectorBytes) in
+      getD-take H work (r * (z .c * sectorBytes) + (j * sectorBytes + p)) 0 at
+      ∙ ap (λ (x : ℕ). getD work (x + (j * sectorBytes + p)) 0) (sym (mul-assoc r (z .c) sectorBytes) ∙ ap (λ (x : ℕ). x * z .c * sectorBytes) (sym (shard-slot (slots z) stripe (some-slots z) r hr)))
+      ∙ sym (mod-eq-of-lt (works .small (keptAt z stripe d j p)))
+      ∙ sym (byte-of (keptByte z work stripe d j) (λ i. mod-lt (getD work (keptAt z stripe d j i) 0) (lit< tt)) p hp))
 
 module _ (z : Shelf) (F : Family z) (first-one : Machine Sector) (p : View Sector) (w : World Sector) (img : List ℕ) (s : State) (b : ℕ) (work buf : List ℕ)
     (ok : readAnswer (s .now) (s .kind) (s .absent) b (length img) (length buf) (length work) ≡ Done) where
@@ -204,3 +256,100 @@ module _ (z : Shelf) (F : Family z) (first-one : Machine Sector) (p : View Secto
       by Writing e q v r = absurd (false≢true e)
       by Beginning e q v r = relabels (toDo z s [] img) r (label-dark p (toDo z s [] img) r)
       by Filling e q v r = absurd (false≢true e)
+
+  -- while a write is under way
+  pub read-writing : Laying z F first-one p w img s work → Right (s .kind)
+  unfolding writeMemory writeStage program-by mask seenOf laidBy
+  read-writing t =
+      subst Right (sym (t .writes .kind))
+      (⊎-elim early late (lt-or-ge (s .cursor .stage) 2))
+    where
+      u : Write Sector
+      u = t .written
+
+      own : ours z (s .now) ≡ true
+      own = t .fair .ours-now
+
+      T : ℕ
+      T = b / s .now .k
+
+      I : ℕ
+      I = b % s .now .k
+
+      o : Own
+      o = ownBefore z s
+
+      f : Image Sector
+      f = seenOf z (beyond (slots z) (inMask (s .absent))) img
+
+      memory-is : memoryWith z u s work img ≡ writeMemory z u s work (curOf z img)
+      memory-is = ap (λ (k : Kind). memoryBy k z s (writeMemory z u s work (curOf z img)) (toDo z s work img)) (t .writes .kind)
+
+      log-dark : (p : View Sector) (a : List (Action Sector)) → Reached z F first-one p w (doing (logging u) a o (ownOf z s (s .next))) → (d : ℕ) → o .absent d ≡ true → Label.looked (size z) (labelOf z (s .now)) d ≡ true → ⊥
+      log-dark (sure v) l r d a q = r .keeps .reads
+      log-dark (open-write v v') l r d a q = r .keeps .reads .0 .dark d a q
+      log-dark (kept-write v') l r d a q = r .keeps .reads
+
+      store-dark : (p : View Sector) (a : List (Action Sector)) → Reached z F first-one p w (doing (storing u) a o (ownOf z s (s .next))) → (d : ℕ) → o .absent d ≡ true → Label.looked (size z) (labelOf z (s .now)) d ≡ true → ⊥
+      store-dark (sure v) l r d a q = r .keeps .reads
+      store-dark (open-write v v') l r d a q = r .keeps .reads
+      store-dark (kept-write v') l r d a q = r .keeps .reads .0 .dark d a q
+
+      dark-from : ((d : ℕ) → o .absent d ≡ true → Label.looked (size z) (labelOf z (s .now)) d ≡ true → ⊥) → (d : ℕ) → d < slots z → inMask (s .absent) d ≡ true → Label.looked (size z) (labelOf z (s .now)) d ≡ true → ⊥
+      dark-from h d i a q = h d (beyond-below (slots z) (s .absent) d i ∙ a) q
+
+      early : s .cursor .stage < 2 → Right Writing
+      early e =
+          let X : ℕ → Sector = read (size z) (no-sets (slots z)) (records z) (any-code z) (labelOf z (s .now)) f T I in
+          let a : List (Action Sector) = leftOf z work (curOf z img) (2 - s .cursor .stage) s in
+          let m : memoryWith z u s work img ≡ doing (logging u) a o (ownOf z s (s .next)) =
+          memory-is ∙ ap (λ (x : Bool). cond x (doing (logging u) a o (ownOf z s (s .next))) (doing (storing u) (leftOf z work (curOf z img) mostStages s) o (ownOf z s (s .next)))) (lt-ltb (s .cursor .stage) 2 e) in
+          let r = subst (Reached z F first-one p w) m (t .reached) in
+          ap (λ (x : Bool). shownOf (s .now) (s .absent) (cond (x && eqb (s .marks .stripe) T) (s .marks .redo) 0) img work b) (lt-leb e)
+          ∙ shown-read z img (t .disks) (s .now) own (s .absent) b work buf shows-it (dark-from (log-dark p a r))
+          ∙ given-entry z img (t .disks) (s .now) own (s .absent) b work buf shows-it F first-one p w (t .reads) (doing (logging u) a o (ownOf z s (s .next))) X r
+          (ap (λ (x : Bool). (doing (logging u) a o (ownOf z s (s .next)), meanwhile (size z) (no-sets (slots z)) (labels z) (records z) (any-code z) stamps (any-sectors z) (logging u) o f T I (first (record { why = BAD_BLOCK; holds = not x } ∷ []))))
+          (may-read z img (t .disks) (s .now) own (s .absent) b work buf shows-it))
+        where
+          lt-leb : s .cursor .stage < 2 → leb 2 (s .cursor .stage) ≡ false
+          lt-leb h = lt-leb-false 2 (s .cursor .stage) h
+
+      works : Works z work
+      works = subst (λ (k : Kind). Can z (s .absent) (stampIn s) work (stageAt k s 2)) (t .writes .kind) (t .fair .stages 2) .2
+
+      same-over : (x : Bool) → eqb (s .marks .stripe) T ≡ x → (d : ℕ) → d < slots z → Label.believed (size z) (labelOf z (s .now)) d T ≡ true → inMask (cond x (s .marks .redo) 0) d ≡ (eqb T (u .stripe) && u .changes d)
+      same-over true e d h y =
+          let q : T ≡ u .stripe = sym (eqb-true (s .marks .stripe) T e) ∙ t .writes .stripe in
+          t .writes .involves d h ∙ ap (λ (x : ℕ). Label.believed (size z) (labelOf z (s .now)) d x && u .changes d) (sym q) ∙ ap (λ (x : Bool). x && u .changes d) (y ∙ sym (eq-eqb T (u .stripe) q))
+      same-over false e d h y =
+          in-past 0 0 d (lit< tt) (omega arith)
+          ∙ ap (λ (x : Bool). x && u .changes d) (sym (ne-eqb T (u .stripe) (λ q. eqb-false (s .marks .stripe) T e (t .writes .stripe ∙ sym q))))
+
+      keeps-over : (x : Bool) → eqb (s .marks .stripe) T ≡ x → Keeping z T (halfOf (geometryOf (s .now)) work) (cond x (s .marks .redo) 0) (u .new)
+      keeps-over true e r j hr hj y =
+          let d : ℕ = slotOf (slots z) T r in
+          let hd : d < slots z = slot-lt (slots z) T (some-slots z) r in
+          let c : u .changes d ≡ true = and-right (Label.believed (size z) (labelOf z (s .now)) d (u .stripe)) (u .changes d) (sym (t .writes .involves d hd) ∙ y) in
+          half-keeps z img (t .disks) (s .now) own (s .absent) b work buf shows-it works r j hr hj
+          ∙ ap (λ (x : ℕ). keptStrip z work x d j .bytes) (sym (eqb-true (s .marks .stripe) T e)) ∙ ap (λ (x : Sector). x .bytes) (t .writes .strips d j c hj)
+      keeps-over false e r j hr hj y = absurd (false≢true (sym (in-past 0 0 (slotOf (slots z) T r) (lit< tt) (omega arith)) ∙ y))
+
+      late : 2 ≤ s .cursor .stage → Right Writing
+      late e =
+          let X : ℕ → Sector = read-through (size z) (no-sets (slots z)) (records z) (any-code z) u (labelOf z (s .now)) f T I in
+          let a : List (Action Sector) = leftOf z work (curOf z img) mostStages s in
+          let m : memoryWith z u s work img ≡ doing (storing u) a o (ownOf z s (s .next)) =
+          memory-is ∙ ap (λ (x : Bool). cond x (doing (logging u) (leftOf z work (curOf z img) (2 - s .cursor .stage) s) o (ownOf z s (s .next))) (doing (storing u) a o (ownOf z s (s .next)))) (le-ltb (s .cursor .stage) 2 e) in
+          let r = subst (Reached z F first-one p w) m (t .reached) in
+          ap (λ (x : Bool). shownOf (s .now) (s .absent) (cond (x && eqb (s .marks .stripe) T) (s .marks .redo) 0) img work b) (le-leb 2 (s .cursor .stage) e)
+          ∙ shown-through z img (t .disks) (s .now) own (s .absent) b work buf shows-it (dark-from (store-dark p a r)) u (cond (eqb (s .marks .stripe) T) (s .marks .redo) 0) (same-over (eqb (s .marks .stripe) T) refl) (keeps-over (eqb (s .marks .stripe) T) refl)
+          ∙ given-entry z img (t .disks) (s .now) own (s .absent) b work buf shows-it F first-one p w (t .reads) (doing (storing u) a o (ownOf z s (s .next))) X r
+          (ap (λ (x : Bool). (doing (storing u) a o (ownOf z s (s .next)), meanwhile (size z) (no-sets (slots z)) (labels z) (records z) (any-code z) stamps (any-sectors z) (storing u) o f T I (first (record { why = BAD_BLOCK; holds = not x } ∷ []))))
+          (may-read z img (t .disks) (s .now) own (s .absent) b work buf shows-it))
+
+  -- A READ, whenever it answers Done, shows the view's entry
+  pub read-right : Bound z F first-one p w img (has s work) → afterRead Done s b img work buf ≡ stripBytes (list-of p (b / z .k) (b % z .k)) (z .c)
+  read-right (inl t) =
+      let own = ⊎-elim (λ (f : Fair z s [] img × (plain (s .kind) ≡ true)). f .0 .ours-now) (λ (q : (s .kind ≡ Idle) × (ours z (s .now) ≡ true)). q .1) (t .order .1) in
+      read-plain t ∙ ap (λ (k : ℕ). stripBytes (list-of p (b / k) (b % k)) (z .c)) (sym (same-says (fieldsOf z 0 (noLabel z)) (s .now) own .same-k))
+  read-right (inr t) = read-writing t ∙ ap (λ (k : ℕ). stripBytes (list-of p (b / k) (b % k)) (z .c)) (sym (same-says (fieldsOf z 0 (noLabel z)) (s .now) (t .fair .ours-now) .same-k))

@@ -1,0 +1,97 @@
+-- THE PROMISE TO THE HOST. Along every chain of calls from an image of zeros on there is a view of the host's, at first all blocks
+-- zeros, which each call changes only as its answer says, and at every moment a read that answers Done shows the view's entry. For every
+-- shelf, where any two of the sets of slots that the chain leaves out leave a slot out in common; for k > m nothing is asked. And what
+-- the list's entries are: those of a write that is acknowledged are the bytes given, all others stay. Assumes nothing.
+use mathlib.Core.Path.{_≡_, refl, sym, ap, subst, _∙_}
+use mathlib.Core.Bool.{Bool, true, false, cond}
+use mathlib.Core.List.{List}
+use mathlib.Core.List.{Memᴰ·append-left, Memᴰ·append-right}
+use Prim.Native.Nat.{ℕ, _+_, _*_, _<_, _/_, _%_}
+use native.Mathlib.Omega.{arith}
+use native.Mathlib.Nat.{div-add-mod'}
+use lib.Dec.{eqb}
+use lib.ListN.{length}
+use borrow.Author.Tests.{eq-eqb, eqb-true}
+use Rattle.disk.specs.Limits.{sectorBytes}
+use Rattle.disk.specs.declared.refusal.Outcome.the-variants.{Done}
+use Rattle.label.specs.Bytes.{allZero}
+use Rattle.protocol.specs.World.{after}
+use Rattle.protocol.specs.Host.{Host, one-block, set-block, replace}
+use Rattle.protocol.specs.Machine.{Machine, View, sure, list-of}
+use Rattle.protocol.specs.Pairs.{AnyTwo}
+use Rattle.codecs.specs.Sector.{Sector, Bytes}
+use Rattle.codecs.specs.Shelf.{Shelf, slots}
+use Rattle.codecs.specs.Records.{stripBytes}
+use Rattle.blocks.specs.Read.{readAnswer, afterRead}
+use Rattle.refine.specs.Family.{Family, every-few, parts-few, in-parts}
+use Rattle.refine.specs.Disks.{Disks, curOf}
+use Rattle.refine.specs.Sees.{sectorsOf, sectors-strip}
+use Rattle.refine.specs.Chain.{Allowed, blocks, fresh, fresh-tie}
+use Rattle.refine.specs.Hosts.{none, has, Time, at, HostChain, stays, goes-on, sets-call, sets, Saw, BoundAt, call-bound}
+use Rattle.refine.specs.Reads.{read-right}
+
+-- at this moment every read that answers Done shows the entry of the view p
+abbrev pub ReadsAs : Shelf → Time → View Sector → Type 0
+ReadsAs z (at w img none) p = Unit {0}
+ReadsAs z (at w img (has s work)) p =
+    (b : ℕ) (buf : List ℕ) → readAnswer (s .now) (s .kind) (s .absent) b (length img) (length buf) (length work) ≡ Done → afterRead Done s b img work buf ≡ stripBytes (list-of p (b / z .k) (b % z .k)) (z .c)
+
+-- the views along a chain: each call changes them as its answer says, and reads show their entries at every moment
+abbrev pub Served : {z : Shelf} {a b : Time} → HostChain z a b → View Sector → View Sector → Type 0
+Served {z} {a} stays p q = (q ≡ p) × ReadsAs z a q
+Served {z} {b = b} (goes-on c x) p q = (r : View Sector) × Served c p r × Saw x r q × ReadsAs z b q
+
+module _ (z : Shelf) (F : Family z) (first : Machine Sector) where
+  reads-as : (t : Time) (p : View Sector) → BoundAt z F first p t → ReadsAs z t p
+  reads-as (at w img none) p h = tt
+  reads-as (at w img (has s work)) p h = λ b buf ok. read-right z F first p w img s b work buf ok h
+
+  served-in : {a b : Time} (c : HostChain z a b) → Allowed z F (sets c) → (p : View Sector) → BoundAt z F first p a → (q : View Sector) × Served c p q × BoundAt z F first q b
+  served-in {a} stays ok p t = (p, (refl, reads-as a p t), t)
+  served-in {b = b} (goes-on c x) ok p t =
+      let y = served-in c (λ s m. ok s (Memᴰ·append-right (sets-call x) m)) p t in
+      let r = call-bound z F first x (λ s m. ok s (Memᴰ·append-left (sets c) m)) (y .0) (y .2) in
+      (r .0, (y .0, y .1, r .1, reads-as b (r .0) (r .2)), r .2)
+
+-- ---- FROM ZEROS ON
+
+module _ (z : Shelf) (img : List ℕ) (disks : Disks z img) (blank : allZero img ≡ true) where
+  -- for every shelf
+  pub any-reads-right : {b : Time} (c : HostChain z (at (after (curOf z img)) img none) b) → AnyTwo (slots z) (sets c) → (p : View Sector) × Served c (sure blocks) p
+  any-reads-right c two =
+      let F = parts-few z (sets c) two in
+      let y = served-in z F (fresh z img disks blank) c (in-parts z (sets c) two) (sure blocks) (fresh-tie z img disks blank F) in
+      (y .0, y .1)
+
+  -- for k > m
+  pub reads-right : z .m < z .k → {b : Time} (c : HostChain z (at (after (curOf z img)) img none) b) → (p : View Sector) × Served c (sure blocks) p
+  reads-right more c =
+      let F = every-few z more in
+      let y = served-in z F (fresh z img disks blank) c (λ s m e. e) (sure blocks) (fresh-tie z img disks blank F) in
+      (y .0, y .1)
+
+-- ---- THE ENTRIES
+
+module _ (z : Shelf) (v : Host Sector) (b : ℕ) (given : List ℕ) where
+  -- the list with block b replaced by the bytes given
+  abbrev pub with-block : Host Sector
+  with-block = replace v (b / z .k) (one-block (b % z .k) (sectorsOf (z .c) given))
+
+  -- its entry are these bytes
+  pub entry-written : length given ≡ z .c * sectorBytes → Bytes given → stripBytes (with-block (b / z .k) (b % z .k)) (z .c) ≡ given
+  unfolding replace set-block
+  entry-written e small =
+      ap (λ (x : Bool). stripBytes (cond x (λ i. cond (eqb i (b % z .k)) (sectorsOf (z .c) given) (v (b / z .k) i)) (v (b / z .k)) (b % z .k)) (z .c)) (eq-eqb (b / z .k) (b / z .k) refl)
+      ∙ ap (λ (x : Bool). stripBytes (cond x (sectorsOf (z .c) given) (v (b / z .k) (b % z .k))) (z .c)) (eq-eqb (b % z .k) (b % z .k) refl) ∙ sym (sectors-strip (z .c) given e small)
+
+  -- every other block's entry is as it was
+  pub entry-other : (o : ℕ) → (o ≡ b → ⊥) → with-block (o / z .k) (o % z .k) ≡ v (o / z .k) (o % z .k)
+  unfolding replace set-block
+  entry-other o n = by (eqb (o / z .k) (b / z .k)) refl (eqb (o % z .k) (b % z .k)) refl
+    where
+      by : (x : Bool) → eqb (o / z .k) (b / z .k) ≡ x → (y : Bool) → eqb (o % z .k) (b % z .k) ≡ y
+          → cond x (λ i. cond (eqb i (b % z .k)) (sectorsOf (z .c) given) (v (b / z .k) i)) (v (o / z .k)) (o % z .k) ≡ v (o / z .k) (o % z .k)
+      by true e true q =
+          absurd (n (sym (div-add-mod' o (z .k)) ∙ ap (λ (x : ℕ). x * z .k + o % z .k) (eqb-true (o / z .k) (b / z .k) e) ∙ ap (λ (x : ℕ). b / z .k * z .k + x) (eqb-true (o % z .k) (b % z .k) q) ∙ div-add-mod' b (z .k)))
+      by true e false q = ap (λ (x : Bool). cond x (sectorsOf (z .c) given) (v (b / z .k) (o % z .k))) q ∙ ap (λ (t : ℕ). v t (o % z .k)) (sym (eqb-true (o / z .k) (b / z .k) e))
+      by false e y q = refl
