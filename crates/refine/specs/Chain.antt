@@ -439,18 +439,18 @@ module _ (z : Shelf) (F : Family z) (first : Machine Sector) (view : View Sector
         y .0,
         y .1,
         subst (λ (x : World Sector). Tie z F first (y .0) x (m .image) (has (m .stepped .state))) (heard-is w w' (m .image) r (m .stepped .answer) (tied .answers) (tied .acts w (t .reads)) h)
-        (record {
-          disks = ⊎-elim (λ (f : Fair z (m .stepped .state) [] (m .image)). f .disks) (λ (q : m ≡ finished s img). subst (λ (x : Move). Disks z (x .image)) (sym q) (t .disks)) (tied .goes-on);
-          reads = tied .acts w (t .reads);
-          reached = y .2;
-          named = n .0;
-          names = n .1;
-          order = (
-            next-ours,
-            ⊎-elim (λ (f : Fair z (m .stepped .state) [] (m .image)). inl (f, tied .keeps-plain))
-                (λ (q : m ≡ finished s img). inr (ap (λ (x : Move). x .stepped .state .kind) q, ap (λ (x : Move). ours z (x .stepped .state .now)) q ∙ t .order .0)) (tied .goes-on),
-          );
-        }),
+            (record {
+              disks = ⊎-elim (λ (f : Fair z (m .stepped .state) [] (m .image)). f .disks) (λ (q : m ≡ finished s img). subst (λ (x : Move). Disks z (x .image)) (sym q) (t .disks)) (tied .goes-on);
+              reads = tied .acts w (t .reads);
+              reached = y .2;
+              named = n .0;
+              names = n .1;
+              order = (
+                next-ours,
+                ⊎-elim (λ (f : Fair z (m .stepped .state) [] (m .image)). inl (f, tied .keeps-plain))
+                    (λ (q : m ≡ finished s img). inr (ap (λ (x : Move). x .stepped .state .kind) q, ap (λ (x : Move). ours z (x .stepped .state .now)) q ∙ t .order .0)) (tied .goes-on),
+              );
+            }),
       )
 
   -- a step that is refused

@@ -381,36 +381,38 @@ module _ (z : Shelf) (F : Family z) (first : Machine Sector) where
       → (q : View Sector) × SawWrite (m .stepped .answer) p q × Bound q w' (m .image) (has (m .stepped .state) work)
   step-write p w img s work m w' t d h =
       let y = asks-to z F first img (t .reads) (begins .2) (memoryWith z u (m .stepped .state) work (m .image)) step (d .reply) (d .steps) (step-some z F first p (d .reply) (m .stepped .answer) (d .answers)) (λ e x n. step-leaves z F first p (d .reply) (m .stepped .answer) (d .answers) e x _ n) in
-      let n = subst (λ (y : Memory Sector × Reply Sector). Always (effect w (y .1)) (Named z) × Names z (leftIn z (y .0))) (d .steps) (step-names z (d .before) (curOf z img) w (off z F first p (t .reached) .keeps .sane) (t .named) (begins .3)) in
-      (y .0, saw-write (d .reply) (d .of-write) (m .stepped .answer) (d .answers) p (begins .0) (y .0) (begins .1) (y .1),
-      subst (λ (x : World Sector). Bound (y .0) x (m .image) (has (m .stepped .state) work)) (heard-is z F first p w w' (m .image) (d .reply) (m .stepped .answer) (d .answers) (d .acts w (t .reads)) h)
-      (⊎-elim
-      (λ (g : Fair z (m .stepped .state) work (m .image) × Writes z (m .stepped .state) work u).
-      inr
-      (record {
-        written = u;
-        disks = g .0 .disks;
-        reads = d .acts w (t .reads);
-        reached = y .2;
-        named = n .0;
-        names = n .1;
-        next-ours = ap (ours z) (d .settles) ∙ t .next-ours;
-        fair = g .0;
-        writes = g .1;
-        sized = t .sized;
-      }))
-      (λ (g : m ≡ finished s img).
-      let k : m .stepped .state .kind ≡ Idle = ap (λ (x : Move). x .stepped .state .kind) g in
-      let e : memoryWith z u (m .stepped .state) work (m .image) ≡ memoryOf z (m .stepped .state) [] (m .image) = with-rests u (m .stepped .state) work (m .image) k ∙ sym (rests z (m .stepped .state) (m .image) k) in
-      inl
-      (record {
-        disks = subst (λ (x : Move). Disks z (x .image)) (sym g) (t .disks);
-        reads = d .acts w (t .reads);
-        reached = subst (Reached z F first (y .0) (effect w (d .reply))) e (y .2);
-        named = n .0;
-        names = subst (λ (x : Memory Sector). Names z (leftIn z x)) e (n .1);
-        order = (ap (ours z) (d .settles) ∙ t .next-ours, inr (k, ap (λ (x : Move). ours z (x .stepped .state .now)) g ∙ t .next-ours));
-      })) (d .goes-on)))
+      let n = subst (λ (y : Memory Sector × Reply Sector). Always (effect w (y .1)) (Named z) × Names z (leftIn z (y .0))) (d .steps) (step-names z (d .before) (curOf z img) w (off z F first p (t .reached) .keeps .sane) (t .named) (begins .3)) in (
+        y .0,
+        saw-write (d .reply) (d .of-write) (m .stepped .answer) (d .answers) p (begins .0) (y .0) (begins .1) (y .1),
+        subst (λ (x : World Sector). Bound (y .0) x (m .image) (has (m .stepped .state) work)) (heard-is z F first p w w' (m .image) (d .reply) (m .stepped .answer) (d .answers) (d .acts w (t .reads)) h)
+            (⊎-elim
+            (λ (g : Fair z (m .stepped .state) work (m .image) × Writes z (m .stepped .state) work u).
+            inr
+            (record {
+              written = u;
+              disks = g .0 .disks;
+              reads = d .acts w (t .reads);
+              reached = y .2;
+              named = n .0;
+              names = n .1;
+              next-ours = ap (ours z) (d .settles) ∙ t .next-ours;
+              fair = g .0;
+              writes = g .1;
+              sized = t .sized;
+            }))
+            (λ (g : m ≡ finished s img).
+            let k : m .stepped .state .kind ≡ Idle = ap (λ (x : Move). x .stepped .state .kind) g in
+            let e : memoryWith z u (m .stepped .state) work (m .image) ≡ memoryOf z (m .stepped .state) [] (m .image) = with-rests u (m .stepped .state) work (m .image) k ∙ sym (rests z (m .stepped .state) (m .image) k) in
+            inl
+            (record {
+              disks = subst (λ (x : Move). Disks z (x .image)) (sym g) (t .disks);
+              reads = d .acts w (t .reads);
+              reached = subst (Reached z F first (y .0) (effect w (d .reply))) e (y .2);
+              named = n .0;
+              names = subst (λ (x : Memory Sector). Names z (leftIn z x)) e (n .1);
+              order = (ap (ours z) (d .settles) ∙ t .next-ours, inr (k, ap (λ (x : Move). ours z (x .stepped .state .now)) g ∙ t .next-ours));
+            })) (d .goes-on)),
+      )
     where
       u : Write Sector
       u = t .written

@@ -4,8 +4,7 @@
 -- the list's entries are: those of a write that is acknowledged are the bytes given, all others stay. Assumes nothing.
 use mathlib.Core.Path.{_≡_, refl, sym, ap, subst, _∙_}
 use mathlib.Core.Bool.{Bool, true, false, cond}
-use mathlib.Core.List.{List}
-use mathlib.Core.List.{Memᴰ·append-left, Memᴰ·append-right}
+use mathlib.Core.List.{List, Memᴰ·append-left, Memᴰ·append-right}
 use Prim.Native.Nat.{ℕ, _+_, _*_, _<_, _/_, _%_}
 use native.Mathlib.Omega.{arith}
 use native.Mathlib.Nat.{div-add-mod'}
@@ -56,19 +55,17 @@ module _ (z : Shelf) (F : Family z) (first : Machine Sector) where
 -- ---- FROM ZEROS ON
 
 module _ (z : Shelf) (img : List ℕ) (disks : Disks z img) (blank : allZero img ≡ true) where
-  -- for every shelf
-  pub any-reads-right : {b : Time} (c : HostChain z (at (after (curOf z img)) img none) b) → AnyTwo (slots z) (sets c) → (p : View Sector) × Served c (sure blocks) p
-  any-reads-right c two =
-      let F = parts-few z (sets c) two in
-      let y = served-in z F (fresh z img disks blank) c (in-parts z (sets c) two) (sure blocks) (fresh-tie z img disks blank F) in
-      (y .0, y .1)
+  -- the view, and the tie with the protocol's machine (HostHolds says what else follows from it)
+  pub served-bound : (F : Family z) {b : Time} (c : HostChain z (at (after (curOf z img)) img none) b) → Allowed z F (sets c) → (p : View Sector) × Served c (sure blocks) p × BoundAt z F (fresh z img disks blank) p b
+  served-bound F c ok = served-in z F (fresh z img disks blank) c ok (sure blocks) (fresh-tie z img disks blank F)
 
-  -- for k > m
+  -- FOR EVERY SHELF
+  pub any-reads-right : {b : Time} (c : HostChain z (at (after (curOf z img)) img none) b) → AnyTwo (slots z) (sets c) → (p : View Sector) × Served c (sure blocks) p
+  any-reads-right c two = let y = served-bound (parts-few z (sets c) two) c (in-parts z (sets c) two) in (y .0, y .1)
+
+  -- FOR k > m
   pub reads-right : z .m < z .k → {b : Time} (c : HostChain z (at (after (curOf z img)) img none) b) → (p : View Sector) × Served c (sure blocks) p
-  reads-right more c =
-      let F = every-few z more in
-      let y = served-in z F (fresh z img disks blank) c (λ s m e. e) (sure blocks) (fresh-tie z img disks blank F) in
-      (y .0, y .1)
+  reads-right more c = let y = served-bound (every-few z more) c (λ s m e. e) in (y .0, y .1)
 
 -- ---- THE ENTRIES
 
