@@ -70,17 +70,17 @@ uint32_t pl_label_encode(uint8_t k, uint8_t m, uint8_t slot, uint8_t c, uint32_t
  * label there. Where it isn't 0 nothing changes. */
 uint32_t pl_label_decode(uint8_t slot, uint8_t place, const uint8_t *sector, size_t sector_len, uint64_t *fields, size_t count);
 
-/* ---- the shelf: create, start up, take a slot out
+/* ---- the shelf: create, start up, take a slot out, rebuild a slot
  *
  * The image is n * S * 512 bytes: sector s of slot d at (d * S + s) * 512. The state is pl_state_bytes() bytes and the work area
  * pl_work_bytes(n, c), both the caller's; any content of them is taken. A request that answers 0 is under way; pl_step then does
  * its actions one by one, until it says that the request is done. A refusal changes nothing: image, state, work area. */
 
 #define PL_TOO_FEW 12u    /* more than m slots absent, out or stale */
-#define PL_BAD_BLOCK 13u  /* no such slot */
+#define PL_BAD_BLOCK 13u  /* no such slot, block or stripe */
 #define PL_BUSY 14u       /* another request is under way */
 #define PL_NOT_NOW 15u    /* makes no sense in this state */
-#define PL_BAD_BUFFER 16u /* a state or a work area of another size */
+#define PL_BAD_BUFFER 16u /* a state, a work area or a block of another size */
 
 /* The bytes of a state. */
 size_t pl_state_bytes(void);
@@ -104,9 +104,50 @@ uint32_t pl_start(uint8_t n, uint8_t c, uint32_t sectors, uint64_t absent, uint8
  * generation is left; PL_BAD_BUFFER. */
 uint32_t pl_take_out(uint32_t slot, uint8_t *image, size_t image_len, uint8_t *state, size_t state_len, uint8_t *work, size_t work_len);
 
-/* Does the next action of the request under way and answers kind + 256 * slot + 65536 * sector. Kind 1: that sector was put, write it
- * to its disk; 2: flush that slot's disk now, before the next step; 3: the request is done; 0: refused, with the code in slot's
- * place (PL_NOT_NOW with nothing under way, PL_BAD_IMAGE, PL_BAD_BUFFER). At most one sector changes, of a slot that isn't absent. */
+/* The blocks: a block is c * 512 bytes. For these four a state of another size is PL_BAD_BUFFER at once, before all that follows. */
+
+/* Begins to write a block; data is not needed after the call. 0; PL_NOT_NOW where no shelf is started; PL_BAD_IMAGE; PL_NO_LABEL where a
+ * present disk's label isn't the state's; PL_TOO_FEW where more than m slots are missing; PL_BAD_BLOCK where there is no such block;
+ * PL_BUSY; PL_NOT_NOW where no stamp is left; PL_BAD_BUFFER where data is no block, or for the work area. The work area holds the
+ * stripe until the write is done: it is the caller's to keep. */
+uint32_t pl_write(uint64_t block, const uint8_t *data, size_t data_len, uint8_t *image, size_t image_len, uint8_t *state, size_t state_len,
+                  uint8_t *work, size_t work_len);
+
+/* Reads a block to data, at once, whatever is missing. 0; PL_NOT_NOW where no shelf is started; PL_BAD_IMAGE; PL_TOO_FEW where more than m
+ * slots are missing; PL_BAD_BLOCK; PL_NOT_NOW where create or start-up has not answered; PL_BAD_BUFFER where data is no block, or for the
+ * work area. While a write is under way the block is as it was before it until its log is flushed, and as it will be from then on.
+ * Nothing but data is written. */
+uint32_t pl_read(uint64_t block, uint8_t *data, size_t data_len, const uint8_t *image, size_t image_len, const uint8_t *state,
+                 size_t state_len, uint8_t *work, size_t work_len);
+
+/* Scrubs a stripe, at once: PL_SOUND, PL_ACCUSED + r (shard r of the stripe, the parity shards from k on), PL_UNSOUND; PL_NOT_NOW where no
+ * shelf is started; PL_BAD_IMAGE; PL_TOO_FEW; PL_BAD_BLOCK where there is no such stripe; PL_NOT_NOW where create or start-up has not
+ * answered, or a slot is out or absent; PL_BAD_BUFFER. A write under way counts as for pl_read. Writes nothing. */
+uint32_t pl_scrub_stripe(uint64_t stripe, uint8_t *image, size_t image_len, uint8_t *state, size_t state_len, uint8_t *work, size_t work_len);
+
+/* Begins to write the shard that a scrub of the stripe accuses, mended. 0; PL_NOT_NOW where no shelf is started; PL_BAD_IMAGE; PL_NO_LABEL
+ * where a present disk's label isn't the state's; PL_TOO_FEW; PL_BAD_BLOCK where there is no such stripe; PL_BUSY; PL_NOT_NOW where a slot
+ * is out or absent, no stamp is left, or no shard is accused; PL_BAD_BUFFER. */
+uint32_t pl_repair_stripe(uint64_t stripe, uint8_t *image, size_t image_len, uint8_t *state, size_t state_len, uint8_t *work,
+                          size_t work_len);
+
+/* Begins the rebuild of a slot that is out or absent, or begins it again: its disk, which is present from now on, is readied and
+ * called out, whatever it holds; its strips follow by pl_rebuild_on. 0; PL_NOT_NOW where no shelf is started; PL_BAD_IMAGE;
+ * PL_NO_LABEL where a present disk's label isn't the state's; PL_TOO_FEW where more than m are out or absent; PL_BAD_BLOCK; PL_BUSY;
+ * PL_NOT_NOW where the slot is neither out nor absent, or another is being rebuilt, or no generation is left; PL_BAD_BUFFER. */
+uint32_t pl_begin(uint32_t slot, uint8_t *image, size_t image_len, uint8_t *state, size_t state_len, uint8_t *work, size_t work_len);
+
+/* Begins to rebuild the next strips of the slot being rebuilt, from the other strips of their stripes: batch of them, where that many
+ * are left (0 means 1). The last strip heals the slot. 0; PL_NOT_NOW where no shelf is started; PL_BAD_IMAGE; PL_NO_LABEL; PL_TOO_FEW;
+ * PL_BUSY; PL_NOT_NOW where no slot is being rebuilt, or it is absent, or no generation is left; PL_BAD_BUFFER. */
+uint32_t pl_rebuild_on(uint32_t batch, uint8_t *image, size_t image_len, uint8_t *state, size_t state_len, uint8_t *work, size_t work_len);
+
+/* Does the next action of the request under way and answers kind + 256 * slot + 65536 * sector. Kind 0: refused, with the code in
+ * slot's place (PL_NOT_NOW with nothing under way, PL_BAD_IMAGE, PL_BAD_BUFFER); 1: that sector was put, write it to its disk;
+ * 2: flush that slot's disk now, before the next step; 3: the request is done; 4: it is done, and the slot that was rebuilt is healthy.
+ * After pl_rebuild_on, 3 and 4 have 1 in slot's place where the survivors of a stripe contradicted each other, else 0, and in
+ * sector's place the mark that is reached: so many strips of the slot, from the first, are rebuilt.
+ * After every other request 3 has 0 in both places. At most one sector changes, of a slot that isn't absent. */
 uint64_t pl_step(uint8_t *image, size_t image_len, uint8_t *state, size_t state_len, uint8_t *work, size_t work_len);
 
 /* 0, with ready (1 when create or start-up has answered, else 0), k, m, c, S, shelf, generation, out, absent, slot being rebuilt or

@@ -2,11 +2,11 @@
 -- protocol writes n where no slot is being rebuilt, the table 255; a sector that tells of another shelf is no label.
 -- Assumes nothing.
 use mathlib.Core.Path.{_≡_, refl, sym, ap, _∙_, subst, fun-ext}
-use mathlib.Core.Logic.{⊎-elim}
+use mathlib.Core.Logic.{_⊎_, ⊎-elim, _≢_}
 use mathlib.Core.List.{List, [], _∷_}
 use mathlib.Core.Bool.{Bool, true, false, cond, not, _&&_}
 use Prim.Native.Nat.{ℕ, suc, _+_, _≤_, _<_, _%_, _^_}
-use native.Mathlib.Nat.{eq-or-lt-of-le}
+use native.Mathlib.Nat.{eq-or-lt-of-le, eq-zero-or-pos}
 use native.Mathlib.Omega.{arith}
 use lib.Dec.{eqb, ltb, leb}
 use borrow.Author.Tests.{eqb-true, eqb-false, eq-eqb, ne-eqb, leb-true, le-leb, ltb-true, lt-ltb}
@@ -20,7 +20,7 @@ use Rattle.disk.specs.Geometry.{inRangeWith, stripesOf}
 use Rattle.disk.specs.declared.geometry.Geometry.{Geometry}
 use Rattle.label.specs.Fields.{noSlot, mostGeneration, geometryOf, rebuildFits, fitsOf}
 use Rattle.label.specs.Bytes.{table, labelBytes, sealed, written}
-use Rattle.label.specs.Valid.{decodeOf}
+use Rattle.label.specs.Valid.{labelAt, decodeOf}
 use Rattle.label.specs.Newest.{sameShelf}
 use Rattle.label.specs.declared.fields.Label as bytes
 use Rattle.label.specs.declared.codec.Decoded.{Decoded}
@@ -30,6 +30,7 @@ use Rattle.label.proofs.Fits.{Fits, fits-says}
 use Rattle.label.proofs.Laws.{decode-encode, zeros-nothing, Meant, decode-says}
 use Rattle.protocol.specs.Label.{Label, LabelCodec}
 use Rattle.protocol.specs.Program.{Proper}
+use Rattle.protocol.specs.Strangers.{Strangers}
 use Rattle.codecs.specs.Sector.{Sector, Bytes, zeros, bytes-none, bytes-append, bytes-number}
 use Rattle.codecs.specs.Shelf.{Shelf, slots, geometry, size, few-data, few-parity, few-slots}
 
@@ -97,6 +98,21 @@ meant z (Valid a) = cond (ours z a) (labelOf z a) (noLabel z)
 unfoldable pub decodeLabel : Shelf → ℕ → Bool → Sector → Label
 decodeLabel z d b x = meant z (decodeOf (x .bytes) d (sectorOf b))
 
+-- ---- labels of another shelf or slot
+
+-- this shelf's, and this slot's
+abbrev pub own : Shelf → ℕ → bytes.Label → Bool
+own z d a = ours z a && eqb (a .slot) d
+
+-- the generation of a label that is not
+abbrev pub strangeIn : Shelf → ℕ → Decoded → ℕ
+strangeIn z d Nothing = 0
+strangeIn z d (Valid a) = cond (own z d a) 0 (a .generation)
+
+-- valid with the slot number that it carries itself, in the sector that its generation calls for
+unfoldable pub strangeLabel : Shelf → ℕ → Bool → Sector → ℕ
+strangeLabel z d b x = strangeIn z d (decodeOf (x .bytes) (labelAt (x .bytes) .slot) (sectorOf b))
+
 -- ---- what a label has to be for its bytes to tell it: proper, and of a generation from 1 to 2^63 - 1
 pub record Fitting (z : Shelf) (l : Label) : Type 0 where
   pub sound : Proper (size z) l
@@ -129,9 +145,10 @@ module _ (z : Shelf) where
     pub fields : bytes.Label
     pub same : ours z fields ≡ true
     pub means : Meant (x .bytes) d (sectorOf b) fields
+    pub read : decodeOf (x .bytes) d (sectorOf b) ≡ Valid fields
     pub is : decodeLabel z d b x ≡ labelOf z fields
 
-  told : (d : ℕ) (b : Bool) (x : Sector) → 0 < decodeLabel z d b x .generation → Told d b x
+  pub told : (d : ℕ) (b : Bool) (x : Sector) → 0 < decodeLabel z d b x .generation → Told d b x
   unfolding decodeLabel
   told d b x = by (decodeOf (x .bytes) d (sectorOf b)) refl
     where
@@ -145,6 +162,7 @@ module _ (z : Shelf) where
                 fields = a;
                 same = q;
                 means = decode-says (x .bytes) d (sectorOf b) a e;
+                read = e;
                 is = ap (meant z) e ∙ ap (λ (s : Bool). cond s (labelOf z a) (noLabel z)) q;
               }
           go false q p = absurd (omega arith)
@@ -303,6 +321,38 @@ module _ (z : Shelf) where
       ∙ ap (λ (b : Bool). cond b (labelOf z a) (noLabel z)) (own-shelf d l)
       ∙ label-back d l f
 
+  -- ---- strange labels
+
+  -- a sector with a label of some shelf, read with the slot number that it carries
+  self-read : (d : ℕ) (b : Bool) (x : Sector) (a : bytes.Label) → decodeOf (x .bytes) d (sectorOf b) ≡ Valid a → decodeOf (x .bytes) (labelAt (x .bytes) .slot) (sectorOf b) ≡ Valid a
+  self-read d b x a e =
+      let m = decode-says (x .bytes) d (sectorOf b) a e in
+      let q : labelAt (x .bytes) .slot ≡ d = ap (λ (l : bytes.Label). l .slot) (sym (m .is)) ∙ m .own in
+      ap (λ (y : ℕ). decodeOf (x .bytes) y (sectorOf b)) q ∙ e
+
+  pub strange-none : (d : ℕ) (b : Bool) (x : Sector) → 0 < strangeLabel z d b x → decodeLabel z d b x .generation ≡ 0
+  unfolding strangeLabel
+  strange-none d b x h = ⊎-elim (λ q. q) (λ p. absurd (omega (arith, h, none p))) (eq-zero-or-pos (decodeLabel z d b x .generation))
+    where
+      none : 0 < decodeLabel z d b x .generation → strangeIn z d (decodeOf (x .bytes) (labelAt (x .bytes) .slot) (sectorOf b)) ≡ 0
+      none p =
+          let t = told d b x p in
+          let a = t .fields in
+          let q : labelAt (x .bytes) .slot ≡ d = ap (λ (l : bytes.Label). l .slot) (sym (t .means .is)) ∙ t .means .own in
+          let e : own z d a ≡ true = both (ours z a) (eqb (a .slot) d) (t .same) (eq-eqb (a .slot) d (t .means .own)) in
+          ap (strangeIn z d) (self-read d b x a (t .read)) ∙ ap (λ (y : Bool). cond y 0 (a .generation)) e
+
+  pub strange-zeros : (d : ℕ) (b : Bool) → strangeLabel z d b zeros ≡ 0
+  unfolding strangeLabel
+  strange-zeros d b = ap (strangeIn z d) (zeros-nothing (labelAt (zeros .bytes) .slot) (sectorOf b))
+
+  pub strange-encode : (d : ℕ) (l : Label) → d < slots z → Fitting z l → strangeLabel z d (sideOf (l .generation)) (encodeLabel z d l) ≡ 0
+  strange-encode d l i f =
+      let b = sideOf (l .generation) in
+      let x = encodeLabel z d l in
+      let g : decodeLabel z d b x .generation ≡ l .generation = ap (λ (y : Label). y .generation) (encode-back d l i f) in
+      ⊎-elim (λ q. q) (λ p. absurd (omega (arith, g, f .from-one, strange-none d b x p))) (eq-zero-or-pos (strangeLabel z d b x))
+
 -- the codec of this shelf's labels
 abbrev pub labels : (z : Shelf) → LabelCodec Sector (slots z)
 labels z =
@@ -317,4 +367,41 @@ labels z =
       decode-zeros = decode-zeros z;
       side-next = side-next;
       decode-side = decode-side z;
+      strange = strangeLabel z;
+      strange-none = strange-none z;
+      strange-zeros = strange-zeros z;
+      strange-encode = strange-encode z;
     }
+
+number-same : (y : Shelf) (a : bytes.Label) → ours y a ≡ true → y .number ≡ a .shelf
+unfolding sameShelf
+number-same y a e =
+    let e1 = and-right (eqb (y .k) (a .k)) _ e in
+    let e2 = and-right (eqb (y .m) (a .m)) _ e1 in
+    let e3 = and-right (eqb (y .c) (a .c)) _ e2 in
+    eqb-true (y .number) (a .shelf) (and-right (eqb (y .sectors) (a .sectors)) (eqb (y .number) (a .shelf)) e3)
+
+known-is : (z z' : Shelf) (d d' : ℕ) (b : Bool) (x : Sector) (t : Told z' d' b x) → own z d (t .fields) ≡ false → strangeLabel z d b x ≡ decodeLabel z' d' b x .generation
+unfolding strangeLabel
+known-is z z' d d' b x t e =
+    ap (strangeIn z d) (self-read z' d' b x (t .fields) (t .read))
+    ∙ (ap (λ (y : Bool). cond y 0 (t .fields .generation)) e ∙ ap (λ (l : Label). l .generation) (sym (t .is)))
+
+-- A DISK THAT WAS SLOT d' OF ANOTHER SHELF, or another slot of this one, as the protocol asks: what is valid there is strange here
+pub strangers : (z z' : Shelf) (d d' : ℕ) → (z .number ≢ z' .number) ⊎ (d ≢ d') → Strangers (labels z) (labels z') d d'
+strangers z z' d d' apart = record { known = λ b x p. known b x (told z' d' b x p) }
+  where
+    same-number : (y : Shelf) (a : bytes.Label) → ours y a ≡ true → y .number ≡ a .shelf
+    same-number y a e = number-same y a e
+
+    strange : (a : bytes.Label) → ours z' a ≡ true → a .slot ≡ d' → own z d a ≡ false
+    strange a o e = by (ours z a) refl (eqb (a .slot) d) refl
+      where
+        by : (u : Bool) → ours z a ≡ u → (v : Bool) → eqb (a .slot) d ≡ v → (u && v) ≡ false
+        by true p true q =
+            ⊎-elim (λ n. absurd (n (same-number z a p ∙ sym (same-number z' a o)))) (λ n. absurd (n (sym (eqb-true (a .slot) d q) ∙ e))) apart
+        by true p false q = refl
+        by false p v q = refl
+
+    known : (b : Bool) (x : Sector) → Told z' d' b x → strangeLabel z d b x ≡ decodeLabel z' d' b x .generation
+    known b x t = known-is z z' d d' b x t (strange (t .fields) (t .same) (t .means .own))

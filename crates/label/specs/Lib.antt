@@ -2,3 +2,4 @@ pub mod Fields
 pub mod Bytes
 pub mod Valid
 pub mod Newest
+pub mod Strange

@@ -3,3 +3,4 @@
 pub mod codec;
 pub mod fields;
 pub mod newest;
+pub mod strange;

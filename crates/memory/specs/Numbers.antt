@@ -9,7 +9,7 @@ use Rattle.label.specs.declared.fields.Label.{Label}
 use Rattle.shelf.specs.declared.state.State.{State}
 use Rattle.shelf.specs.declared.state.Marks.{Marks}
 use Rattle.shelf.specs.declared.state.Kind.{Kind}
-use Rattle.shelf.specs.declared.state.Kind.the-variants.{Nothing, Idle, Creating, Starting, Labelling}
+use Rattle.shelf.specs.declared.state.Kind.the-variants.{Nothing, Idle, Creating, Starting, Labelling, Writing, Beginning, Filling}
 use Rattle.memory.specs.Words.{Fit, fit-append}
 
 -- how many numbers a state has
@@ -22,10 +22,14 @@ kindNumber Idle = 1
 kindNumber Creating = 2
 kindNumber Starting = 3
 kindNumber Labelling = 4
+kindNumber Writing = 5
+kindNumber Beginning = 6
+kindNumber Filling = 7
 
 -- a number that is no kind's is Nothing's
 unfoldable pub kindOf : ℕ → Kind
-kindOf x = cond (eqb x 1) Idle (cond (eqb x 2) Creating (cond (eqb x 3) Starting (cond (eqb x 4) Labelling Nothing)))
+kindOf x =
+    cond (eqb x 1) Idle (cond (eqb x 2) Creating (cond (eqb x 3) Starting (cond (eqb x 4) Labelling (cond (eqb x 5) Writing (cond (eqb x 6) Beginning (cond (eqb x 7) Filling Nothing))))))
 
 abbrev pub boolNumber : Bool → ℕ
 boolNumber true = 1
@@ -109,6 +113,9 @@ kind-back Idle = refl
 kind-back Creating = refl
 kind-back Starting = refl
 kind-back Labelling = refl
+kind-back Writing = refl
+kind-back Beginning = refl
+kind-back Filling = refl
 
 pub bool-back : (b : Bool) → not (eqb (boolNumber b) 0) ≡ b
 bool-back true = refl

@@ -19,6 +19,9 @@ fn kind_number(kind: Kind) -> u64
         Kind::Creating => 2,
         Kind::Starting => 3,
         Kind::Labelling => 4,
+        Kind::Writing => 5,
+        Kind::Beginning => 6,
+        Kind::Filling => 7,
     }
 }
 
@@ -31,6 +34,9 @@ fn kind_of(x: u64) -> Kind
         2 => Kind::Creating,
         3 => Kind::Starting,
         4 => Kind::Labelling,
+        5 => Kind::Writing,
+        6 => Kind::Beginning,
+        7 => Kind::Filling,
         _ => Kind::Nothing,
     }
 }

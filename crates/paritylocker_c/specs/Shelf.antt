@@ -1,7 +1,7 @@
 -- What the C functions of the shelf answer, and what they leave in the lent state. Assumes nothing.
 use mathlib.Core.Path.{_≡_, sym, ap, ap₂, _∙_}
 use mathlib.Core.Bool.{Bool, true, false, cond}
-use mathlib.Core.List.{List}
+use mathlib.Core.List.{List, []}
 use Prim.Native.Nat.{ℕ, _+_, _*_, _%_}
 use lib.Dec.{eqb}
 use lib.ListN.{length}
@@ -18,8 +18,8 @@ use Rattle.shelf.specs.declared.state.Answer.the-variants.{Put, Flush, Done, Re
 use Rattle.paritylocker_c.specs.Labels.{numberOfOutcome}
 
 -- the work area counts for nothing where the state can't be kept: a step is then BAD_BUFFER, or refused for another reason
-unfoldable pub roomOf : ℕ → ℕ → ℕ
-roomOf work state = cond (eqb state stateLength) work 0
+unfoldable pub areaOf : List ℕ → ℕ → List ℕ
+areaOf work state = cond (eqb state stateLength) work []
 
 -- a request: 0 where it is under way; its refusal; BAD_BUFFER where the state can't be kept
 abbrev pub numberBegun : Outcome → ℕ → ℕ
@@ -37,12 +37,12 @@ bytesBegun (outcome.Refused why) s bytes = bytes
 abbrev pub afterBegun : Begun → List ℕ → List ℕ
 afterBegun b bytes = bytesBegun (b .outcome) (b .state) bytes
 
--- a step: kind + 256 * slot + 65536 * sector
-abbrev pub answerNumber : Answer → ℕ
-answerNumber (Put d s) = 1 + 256 * (d % 256) + 65536 * (s % 4294967296)
-answerNumber (Flush d) = 2 + 256 * (d % 256)
-answerNumber Done = 3
-answerNumber (Refused why) = 256 * numberOf why
+-- a step: kind + 256 * slot + 65536 * sector, or the number of the request that is done
+abbrev pub answerNumber : ℕ → Answer → ℕ
+answerNumber done (Put d s) = 1 + 256 * (d % 256) + 65536 * (s % 4294967296)
+answerNumber done (Flush d) = 2 + 256 * (d % 256)
+answerNumber done Done = done
+answerNumber done (Refused why) = 256 * numberOf why
 
 abbrev pub isRefused : Answer → Bool
 isRefused (Put d s) = false
@@ -74,13 +74,13 @@ pub kept-is : (refused : Bool) (s : State) (bytes : List ℕ) → refused ≡ fa
 unfolding keptAfter
 kept-is refused s bytes e = sym (ap (λ (b : Bool). cond b bytes (afterWrite (writeAnswer (length bytes)) s bytes)) e)
 
-pub room-right : (work state : ℕ) → state ≡ stateLength → work ≡ roomOf work state
-unfolding roomOf
-room-right work state e = sym (ap (λ (b : Bool). cond b work 0) (eq-eqb state stateLength e))
+pub area-right : (work : List ℕ) (state : ℕ) → state ≡ stateLength → work ≡ areaOf work state
+unfolding areaOf
+area-right work state e = sym (ap (λ (b : Bool). cond b work []) (eq-eqb state stateLength e))
 
-pub room-wrong : (work state : ℕ) → (state ≡ stateLength → ⊥) → 0 ≡ roomOf work state
-unfolding roomOf
-room-wrong work state h = sym (ap (λ (b : Bool). cond b work 0) (ne-eqb state stateLength h))
+pub area-wrong : (work : List ℕ) (state : ℕ) → (state ≡ stateLength → ⊥) → [] ≡ areaOf work state
+unfolding areaOf
+area-wrong work state h = sym (ap (λ (b : Bool). cond b work []) (ne-eqb state stateLength h))
 
 module _ (bytes fields : List ℕ) where
   pub status-short : (length bytes ≡ stateLength → ⊥) → (16 ≡ statusNumber bytes (length fields)) × (fields ≡ statusLeaves bytes fields)

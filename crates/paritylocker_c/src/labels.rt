@@ -45,7 +45,7 @@ fn label_of(
     }
 }
 
-fn outcome(o: Outcome) -> u32
+pub(crate) fn outcome(o: Outcome) -> u32
     ensures { λ r. ⌜ r ≡ numberOfOutcome o ⌝ }
 {
     match o {

@@ -1,5 +1,8 @@
 // The C interface: numbers and byte slices. Each function takes any argument; include/paritylocker.h says what each answers.
+mod ended;
+mod host;
 mod labels;
+mod rebuilding;
 mod shelves;
 
 use code::Verdict;
@@ -40,7 +43,7 @@ fn number(answer: Answer) -> u32
 }
 
 // A verdict's number.
-fn verdict(v: Verdict) -> u32
+pub(crate) fn verdict(v: Verdict) -> u32
     requires { ⌜ Small v ⌝ }
     ensures { λ r. ⌜ r ≡ numberOfVerdict v ⌝ }
 {

@@ -1,4 +1,5 @@
 // The shelf: its requests and steps. State and work area are lent bytes of which any content is taken.
+use crate::ended::done_number;
 use disk::geometry::Geometry;
 use disk::refusal::Outcome;
 use disk::refusal::number;
@@ -23,7 +24,8 @@ ghost use Rattle.requests.specs.Start.{startOf};
 ghost use Rattle.requests.specs.TakeOut.{takeOutOf};
 ghost use Rattle.requests.specs.Step.{stepWith};
 ghost use Rattle.paritylocker_c.specs.Labels.{numberOfOutcome};
-ghost use Rattle.paritylocker_c.specs.Shelf.{roomOf, begunNumber, afterBegun, answerNumber, isRefused, keptAfter, afterAnswer, statusNumber, statusLeaves};
+ghost use Rattle.paritylocker_c.specs.Ended.{doneNumber};
+ghost use Rattle.paritylocker_c.specs.Shelf.{areaOf, begunNumber, afterBegun, answerNumber, isRefused, keptAfter, afterAnswer, statusNumber, statusLeaves};
 
 // The bytes of a state.
 #[no_mangle]
@@ -42,7 +44,7 @@ pub extern "C" fn pl_work_bytes(n: u8, c: u8) -> usize
 }
 
 // Keeps the state of a request that is accepted. 0, or the refusal's code.
-fn keep(begun: Begun, state: &mut [u8]) -> u32
+pub(crate) fn keep(begun: Begun, state: &mut [u8]) -> u32
     ensures { λ r. ⌜ (r ≡ begunNumber begun (length (now (state .entry)))) × (now (state .exit) ≡ afterBegun begun (now (state .entry))) ⌝ }
 {
     let outcome = begun.outcome;
@@ -126,28 +128,28 @@ pub extern "C" fn pl_take_out(slot: u32, image: &mut [u8], state: &mut [u8], wor
     keep(begun, state)
 }
 
-// The number of an answer: kind + 256 * slot + 65536 * sector.
-fn answer_number(answer: Answer) -> u64
-    ensures { λ r. ⌜ r ≡ answerNumber answer ⌝ }
+// The number of an answer: kind + 256 * slot + 65536 * sector. done: the number of a request that is done.
+fn answer_number(answer: Answer, done: u64) -> u64
+    ensures { λ r. ⌜ r ≡ answerNumber done answer ⌝ }
 {
     match answer {
         Answer::Put { slot, sector } => 1
             + 256 * ((slot % 256) as u64)
             + 65536 * ((sector % 4294967296) as u64),
         Answer::Flush { slot } => 2 + 256 * ((slot % 256) as u64),
-        Answer::Done => 3,
+        Answer::Done => done,
         Answer::Refused(why) => 256 * (number(why) as u64),
     }
 }
 
 // The work area counts for nothing where the state can't be kept.
-fn room(work: usize, state: usize) -> usize
-    ensures { λ r. ⌜ r ≡ roomOf work state ⌝ }
+fn area(work: &[u8], state: usize) -> &[u8]
+    ensures { λ r. ⌜ now r ≡ areaOf (now (work .entry)) state ⌝ }
 {
     if state == state_bytes() {
         return work;
     }
-    0
+    &work[..0]
 }
 
 fn is_refused(answer: Answer) -> bool
@@ -174,18 +176,23 @@ fn keep_after(s: State, refused: bool, state: &mut [u8])
 // Does the next action of the request under way.
 #[no_mangle]
 pub extern "C" fn pl_step(image: &mut [u8], state: &mut [u8], work: &mut [u8]) -> u64
-    ensures { λ r. ⌜ (r ≡ answerNumber (stepWith (stateAt (now (state .entry))) (now (image .entry)) (roomOf (length (now (work .entry))) (length (now (state .entry)))) .stepped .answer))
-        × (now (image .exit) ≡ stepWith (stateAt (now (state .entry))) (now (image .entry)) (roomOf (length (now (work .entry))) (length (now (state .entry)))) .image)
-        × (now (state .exit) ≡ afterAnswer (stepWith (stateAt (now (state .entry))) (now (image .entry)) (roomOf (length (now (work .entry))) (length (now (state .entry)))) .stepped .answer)
-        (stepWith (stateAt (now (state .entry))) (now (image .entry)) (roomOf (length (now (work .entry))) (length (now (state .entry)))) .stepped .state) (now (state .entry)))
+    ensures { λ r. ⌜ (r ≡ answerNumber (doneNumber (stateAt (now (state .entry)))) (stepWith (stateAt (now (state .entry))) (now (image .entry)) (areaOf (now (work .entry)) (length (now (state .entry)))) .stepped .answer))
+        × (now (image .exit) ≡ stepWith (stateAt (now (state .entry))) (now (image .entry)) (areaOf (now (work .entry)) (length (now (state .entry)))) .image)
+        × (now (state .exit) ≡ afterAnswer (stepWith (stateAt (now (state .entry))) (now (image .entry)) (areaOf (now (work .entry)) (length (now (state .entry)))) .stepped .answer)
+        (stepWith (stateAt (now (state .entry))) (now (image .entry)) (areaOf (now (work .entry)) (length (now (state .entry)))) .stepped .state) (now (state .entry)))
         × (now (work .exit) ≡ now (work .entry)) ⌝ }
 {
     let s = read(state);
-    let done = step(s, image, room(work.len(), state.len()));
+    let now = s.now;
+    let next = s.next;
+    let marks = s.marks;
+    let kind = s.kind;
+    let end = done_number(kind, now, next, marks);
+    let done = step(s, image, area(work, state.len()));
     let after = done.state;
     let answer = done.answer;
     keep_after(after, is_refused(answer), state);
-    answer_number(answer)
+    answer_number(answer, end)
 }
 
 // Tells of the shelf that is started.

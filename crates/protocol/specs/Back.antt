@@ -10,15 +10,15 @@ use lib.Dec.{eqb}
 use borrow.Author.Tests.{eq-eqb, ne-eqb}
 use Rattle.protocol.specs.World.{slot, update, World, after, Possible, Sane, sane-after, sane-act, always-after}
 use Rattle.protocol.specs.Slots.{slots}
-use Rattle.protocol.specs.Label.{belief, copy, plainly-out, round-batch, prep-places, prep-batch}
+use Rattle.protocol.specs.Label.{belief, copy, plainly-out, round-batch, prep-places, prep-batch, last-side, expel-batch}
 use Rattle.protocol.specs.Write.{logged-sectors, stored-sectors, involved, log-batch, store-batch}
 use Rattle.protocol.specs.Redo.{compared-sectors, completeB, whole, forward, marked, kill-batch, redo}
 use Rattle.protocol.specs.Startup.{behind, disowned, gone, level-to, again-to, last-to, rounds}
 use Rattle.protocol.specs.Decide.{in-turn, startup}
-use Rattle.protocol.specs.Rebuild.{wiped-sectors, filled-sectors, wipe-batch, fill-batch, flushed-at-begin}
+use Rattle.protocol.specs.Rebuild.{wiped-sectors, filled-sectors, wipe-batch, fill-batch, flushed-at-begin, expel-first}
 use Rattle.protocol.specs.Host.{Change, one-block, set-block, replace, table, read, read-through, writeOf, rebuilt}
 use Rattle.protocol.specs.Count.{at-most}
-use Rattle.protocol.specs.Program.{nothing, idle, doing, Input, create, start, write, take-out, begin, rebuild-on, step, Reply, accepted, refused, did, safe, done, block, found, mask, told-to, flushed-first, left-out, program}
+use Rattle.protocol.specs.Program.{nothing, idle, doing, Input, create, start, write, take-out, begin, rebuild-on, step, Reply, accepted, refused, did, safe, done, block, found, mask, change-made, told-to, flushed-first, left-out, program}
 use Rattle.protocol.specs.Machine.{at, effect, Event, cut, swap, ask, View, sure, Views}
 use Rattle.protocol.specs.Promise.{Zeros}
 use Rattle.protocol.specs.Exchange as Exchange
@@ -99,16 +99,16 @@ out-now (room w (idle o) x) = plainly-out (o .now) 0
 out-now (room w (doing k l o o') x) = false
 
 mended-seen : (seen filled 0 ≡ datum 7) × (seen filled 1 ≡ datum 8) × (seen mended 0 ≡ datum 9) × (seen mended 1 ≡ datum 8) × (out-now mended ≡ false)
-unfolding update after belief copy round-batch prep-batch slots logged-sectors stored-sectors compared-sectors involved log-batch store-batch completeB whole forward marked kill-batch redo gone level-to again-to last-to rounds in-turn behind disowned prep-places startup wiped-sectors filled-sectors wipe-batch fill-batch flushed-at-begin set-block replace table read read-through writeOf rebuilt at-most mask told-to flushed-first left-out program quorum code medium
+unfolding update after belief copy round-batch prep-batch slots logged-sectors stored-sectors compared-sectors involved log-batch store-batch completeB whole forward marked kill-batch redo gone level-to again-to last-to rounds in-turn behind disowned last-side expel-batch expel-first prep-places startup wiped-sectors filled-sectors wipe-batch fill-batch flushed-at-begin set-block replace table read read-through writeOf change-made rebuilt at-most mask told-to flushed-first left-out program quorum code medium
 mended-seen = (refl, refl, refl, refl, refl)
 
 -- THE OLD DISK, WITH THE OLD BLOCK, IS NOTICED
 pub returned-seen : (familiar returned ≡ true) × (out-now risen ≡ true) × (seen risen 0 ≡ datum 9) × (seen risen 1 ≡ datum 8)
-unfolding update after belief copy round-batch prep-batch slots logged-sectors stored-sectors compared-sectors involved log-batch store-batch completeB whole forward marked kill-batch redo gone level-to again-to last-to rounds in-turn behind disowned prep-places startup wiped-sectors filled-sectors wipe-batch fill-batch flushed-at-begin set-block replace table read read-through writeOf rebuilt at-most mask told-to flushed-first left-out program quorum code medium
+unfolding update after belief copy round-batch prep-batch slots logged-sectors stored-sectors compared-sectors involved log-batch store-batch completeB whole forward marked kill-batch redo gone level-to again-to last-to rounds in-turn behind disowned last-side expel-batch expel-first prep-places startup wiped-sectors filled-sectors wipe-batch fill-batch flushed-at-begin set-block replace table read read-through writeOf change-made rebuilt at-most mask told-to flushed-first left-out program quorum code medium
 returned-seen = (refl, refl, refl, refl)
 
 pub again-seen : (out-now again-risen ≡ true) × (seen again-risen 0 ≡ datum 9) × (seen again-risen 1 ≡ datum 8)
-unfolding update after belief copy round-batch prep-batch slots logged-sectors stored-sectors compared-sectors involved log-batch store-batch completeB whole forward marked kill-batch redo gone level-to again-to last-to rounds in-turn behind disowned prep-places startup wiped-sectors filled-sectors wipe-batch fill-batch flushed-at-begin set-block replace table read read-through writeOf rebuilt at-most mask told-to flushed-first left-out program quorum code medium
+unfolding update after belief copy round-batch prep-batch slots logged-sectors stored-sectors compared-sectors involved log-batch store-batch completeB whole forward marked kill-batch redo gone level-to again-to last-to rounds in-turn behind disowned last-side expel-batch expel-first prep-places startup wiped-sectors filled-sectors wipe-batch fill-batch flushed-at-begin set-block replace table read read-through writeOf change-made rebuilt at-most mask told-to flushed-first left-out program quorum code medium
 again-seen = (refl, refl, refl)
 
 -- A slot is taken out, another disk comes into it, and its rebuild begins: the label is one generation newer than that of the disk that was taken out. Power is off, and that disk is back. It is
@@ -120,7 +120,7 @@ abbrev disowning : Room Sector
 disowning = steps 30 (react (disk-in 0 (cut-now begun-again)) (start (λ d. false)))
 
 pub disowned-seen : (out-now begun-again ≡ false) × (out-now disowning ≡ true) × (seen disowning 0 ≡ datum 7) × (seen disowning 1 ≡ datum 8)
-unfolding update after belief copy round-batch prep-batch slots logged-sectors stored-sectors compared-sectors involved log-batch store-batch completeB whole forward marked kill-batch redo gone level-to again-to last-to rounds in-turn behind disowned prep-places startup wiped-sectors filled-sectors wipe-batch fill-batch flushed-at-begin set-block replace table read read-through writeOf rebuilt at-most mask told-to flushed-first left-out program quorum code medium
+unfolding update after belief copy round-batch prep-batch slots logged-sectors stored-sectors compared-sectors involved log-batch store-batch completeB whole forward marked kill-batch redo gone level-to again-to last-to rounds in-turn behind disowned last-side expel-batch expel-first prep-places startup wiped-sectors filled-sectors wipe-batch fill-batch flushed-at-begin set-block replace table read read-through writeOf change-made rebuilt at-most mask told-to flushed-first left-out program quorum code medium
 disowned-seen = (refl, refl, refl, refl)
 
 -- THIS HISTORY IS ONE OF THOSE THAT THE PROMISE IS ABOUT: the events that lead to a room from the empty one, each with what is asked of the world
@@ -200,14 +200,14 @@ came-disk i (room w m x) e n h = (
 )
 
 filled-came : Came filled
-unfolding update after belief copy round-batch prep-batch slots logged-sectors stored-sectors compared-sectors involved log-batch store-batch completeB whole forward marked kill-batch redo gone level-to again-to last-to rounds in-turn behind disowned prep-places startup wiped-sectors filled-sectors wipe-batch fill-batch flushed-at-begin set-block replace table read read-through writeOf rebuilt at-most mask told-to flushed-first left-out program quorum code medium
+unfolding update after belief copy round-batch prep-batch slots logged-sectors stored-sectors compared-sectors involved log-batch store-batch completeB whole forward marked kill-batch redo gone level-to again-to last-to rounds in-turn behind disowned last-side expel-batch expel-first prep-places startup wiped-sectors filled-sectors wipe-batch fill-batch flushed-at-begin set-block replace table read read-through writeOf change-made rebuilt at-most mask told-to flushed-first left-out program quorum code medium
 filled-came =
     let a = came-steps 10 (react empty create) (came-ask empty create (λ p. inl (λ q. refl {a = true})) ([], Exchange.stays, sane-after (λ k. blank))) in
     let b = came-steps 12 (react made (write 0 (one-block 0 (λ j. datum 7)))) (came-ask made (write 0 (one-block 0 (λ j. datum 7))) (fair-write made 0 (one-block 0 (λ j. datum 7))) a) in
     came-steps 12 (react first (write 0 (one-block 1 (λ j. datum 8)))) (came-ask first (write 0 (one-block 1 (λ j. datum 8))) (fair-write first 0 (one-block 1 (λ j. datum 8))) b)
 
 mended-came : Came mended
-unfolding update after belief copy round-batch prep-batch slots logged-sectors stored-sectors compared-sectors involved log-batch store-batch completeB whole forward marked kill-batch redo gone level-to again-to last-to rounds in-turn behind disowned prep-places startup wiped-sectors filled-sectors wipe-batch fill-batch flushed-at-begin set-block replace table read read-through writeOf rebuilt at-most mask told-to flushed-first left-out program quorum code medium
+unfolding update after belief copy round-batch prep-batch slots logged-sectors stored-sectors compared-sectors involved log-batch store-batch completeB whole forward marked kill-batch redo gone level-to again-to last-to rounds in-turn behind disowned last-side expel-batch expel-first prep-places startup wiped-sectors filled-sectors wipe-batch fill-batch flushed-at-begin set-block replace table read read-through writeOf change-made rebuilt at-most mask told-to flushed-first left-out program quorum code medium
 mended-came =
     let a = came-disk 1 filled (refl {a = true}) (λ q. omega (arith, q)) filled-came in
     let b = came-steps 30 (react strange (start (λ d. eqb d 0))) (came-ask strange (start (λ d. eqb d 0)) (λ p. inl (λ q. refl {a = true})) a) in
@@ -216,7 +216,7 @@ mended-came =
     came-steps 12 (react whole-again (write 0 (one-block 0 (λ j. datum 9)))) (came-ask whole-again (write 0 (one-block 0 (λ j. datum 9))) (fair-write whole-again 0 (one-block 0 (λ j. datum 9))) d)
 
 pub again-came : Came again-risen
-unfolding update after belief copy round-batch prep-batch slots logged-sectors stored-sectors compared-sectors involved log-batch store-batch completeB whole forward marked kill-batch redo gone level-to again-to last-to rounds in-turn behind disowned prep-places startup wiped-sectors filled-sectors wipe-batch fill-batch flushed-at-begin set-block replace table read read-through writeOf rebuilt at-most mask told-to flushed-first left-out program quorum code medium
+unfolding update after belief copy round-batch prep-batch slots logged-sectors stored-sectors compared-sectors involved log-batch store-batch completeB whole forward marked kill-batch redo gone level-to again-to last-to rounds in-turn behind disowned last-side expel-batch expel-first prep-places startup wiped-sectors filled-sectors wipe-batch fill-batch flushed-at-begin set-block replace table read read-through writeOf change-made rebuilt at-most mask told-to flushed-first left-out program quorum code medium
 again-came =
     let a = came-disk 0 mended (refl {a = true}) (λ q. omega (arith, q)) mended-came in
     let b = came-steps 30 (react returned (start (λ d. false))) (came-ask returned (start (λ d. false)) (λ p. inl (λ q. refl {a = true})) a) in

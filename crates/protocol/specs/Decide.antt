@@ -171,7 +171,7 @@ module _ {X : Type 0} (z : Size) (W : Quorum (z .n)) (C : LabelCodec X (z .n)) (
         rounds-safe z W C absent f0 (h .odd) (h .last) (h .Q) (h .N) (h .top) (h .far) (h .bays) (h .low) (yes-go .labels-there) (yes-go .enough) (yes-go .fits1) (yes-go .fits1') (yes-go .fits2) P (h .before) (λ f l s. settled-kept f l (settled-data f s)) (after f0) (sane-after f0)
         (always-after (λ f. Bays z W C (h .Q) (h .N) (h .top) (h .far) (h .odd) (h .last) f × Same f0 f) f0 (h .bays, same-self f0))
 
-    done-D : D B1 f0
+    pub done-D : D B1 f0
     done-D = settled-data f0 (same-self f0)
 
     w1-sane : Sane w1

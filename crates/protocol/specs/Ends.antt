@@ -16,10 +16,10 @@ use Rattle.protocol.specs.Slots.{from, keep, slots, row, rows}
 use Rattle.protocol.specs.Log.{Write, RecordCodec, Belief}
 use Rattle.protocol.specs.Write.{involved, log-batch, log-write, store-batch, store, logged-sectors, stored-sectors}
 use Rattle.protocol.specs.Redo.{key, lead, tail, whole, redone, forward, marked, kill-batch, kill, redo}
-use Rattle.protocol.specs.Label.{Label, again, Size, belief, Quorum, LabelCodec, there, round, round-batch, prep, prepared, prep-places, prep-batch}
+use Rattle.protocol.specs.Label.{Label, again, alien, last-side, expel, expel-batch, Size, belief, Quorum, LabelCodec, there, round, round-batch, prep, prepared, prep-places, prep-batch}
 use Rattle.protocol.specs.Startup.{L, M, gone, stale, parts, late, level-to, again-to, last-to, rounds}
 use Rattle.protocol.specs.Decide.{in-turn, settled, startup}
-use Rattle.protocol.specs.Rebuild.{raised, healed}
+use Rattle.protocol.specs.Rebuild.{begun, raised, healed, wipe, wipe-batch, wiped-sectors, flushed-at-begin, expel-first, beginning}
 use Rattle.protocol.specs.Host.{Code}
 use Rattle.protocol.specs.Program as Program
 use Rattle.protocol.specs.Program.{Stamps, Medium, Own, Kind, creating, starting, logging, storing, labelling, idle, doing, step, did, safe, done, present, flushed-first, at-least-one, last-batch, asked-on, program}
@@ -144,6 +144,33 @@ module _ {X : Type 0} {n : ℕ} (C : LabelCodec X n) where
   prep-actions f g l ds =
       let es = keep (λ d. not (prepared C f g d)) ds in
       omega (arith, actions-length (prep-batch C f g l ds), prep-length g es, keep-length (λ d. not (prepared C f g d)) ds)
+
+  expel-actions : (f : Image X) (b : Bool) (d : ℕ) → length (expel C f b (d ∷ [])) ≤ 2
+  unfolding expel-batch
+  expel-actions f b d =
+      let es = keep (alien C f b) (d ∷ []) in
+      omega (arith, actions-length (expel-batch C f b (d ∷ [])), one-each (λ e j. label e b) es, keep-length (alien C f b) (d ∷ []))
+
+  -- BEGIN over g slots: at most 2 g + c + 9 actions
+  pub begin-actions : (K : RecordCodec X) (f : Image X) (Q : Label) (d : ℕ) (ds : List ℕ) → length (beginning K C f Q d ds) ≤ 2 * length ds + K .c + 9
+  unfolding expel-first flushed-at-begin wipe-batch wiped-sectors
+  begin-actions K f Q d ds =
+      let A0 : List (Action X) = flushes (flushed-at-begin K d) in
+      let X1 = expel C f (not (last-side C f d)) (d ∷ []) in
+      let X2 = expel C f (last-side C f d) (d ∷ []) in
+      let A1 = wipe K d in
+      let A2 = prep C f (Q .generation) Q (d ∷ []) in
+      let A3 = round C (begun Q d) ds in
+      let e0 = length-append A0 ((X1 ++ X2) ++ (A1 ++ (A2 ++ A3))) in
+      let e1 = length-append (X1 ++ X2) (A1 ++ (A2 ++ A3)) in
+      let e2 = length-append X1 X2 in
+      let e3 = length-append A1 (A2 ++ A3) in
+      let e4 = length-append A2 A3 in
+      let f0 = flushes-length X (flushed-at-begin K d) in
+      let f1 = actions-length (wipe-batch K d) in
+      let f2 = rows-length log (from 0 (suc (K .c))) (d ∷ []) in
+      let f3 = from-length (suc (K .c)) 0 in
+      omega (arith, e0, e1, e2, e3, e4, f0, f1, f2, f3, expel-actions f (not (last-side C f d)) d, expel-actions f (last-side C f d) d, prep-actions f (Q .generation) Q (d ∷ []), round-actions (begun Q d) ds)
 
 module _ {X : Type 0} (K : RecordCodec X) (B : Belief) where
   forwards : (f : Image X) → length (forward K B f) ≤ B .n * K .c + 2 * B .n

@@ -13,7 +13,7 @@ use Rattle.protocol.specs.Label.{plainly-out, Size, Quorum, LabelCodec}
 use Rattle.protocol.specs.Startup.{labelled, M}
 use Rattle.protocol.specs.Request.{outed}
 use Rattle.protocol.specs.Host.{Code}
-use Rattle.protocol.specs.Program.{Stamps, Medium, Refusal, NO_LABEL, TOO_FEW, BAD_BLOCK, BUSY, NOT_NOW, Verdict, clear, because, first, Own, Memory, nothing, idle, doing, Input, create, start, read-block, write, take-out, begin, rebuild-on, scrub-stripe, step, Reply, accepted, refused, did, safe, done, block, found, beyond, mask, left-out, may-start, may, generations-left, answer, asked-start, asked-out, from-nothing, from-idle, from-doing, unseen, program}
+use Rattle.protocol.specs.Program.{Stamps, Medium, Refusal, NO_LABEL, TOO_FEW, BAD_BLOCK, BUSY, NOT_NOW, Verdict, clear, because, first, Own, Memory, nothing, idle, doing, Input, create, start, read-block, write, take-out, begin, rebuild-on, scrub-stripe, repair, step, Reply, accepted, refused, did, safe, done, block, found, beyond, mask, left-out, may-start, may, generations-left, answer, asked-start, asked-out, from-nothing, from-idle, from-doing, unseen, program}
 use Rattle.protocol.specs.Machine as Machine
 use Rattle.protocol.specs.Machine.{Machine, at, effect, Event, ask, Outside, Runs, View, sure, Views, next}
 use Rattle.protocol.specs.Invariant.{Invariant}
@@ -79,6 +79,7 @@ module _ {X : Type 0} (z : Size) (W : Quorum (z .n)) (C : LabelCodec X (z .n)) (
   from-nothing-by f (begin d) = from-nothing z W C K E S R f (begin d)
   from-nothing-by f (rebuild-on b) = from-nothing z W C K E S R f (rebuild-on b)
   from-nothing-by f (scrub-stripe t) = from-nothing z W C K E S R f (scrub-stripe t)
+  from-nothing-by f (repair t) = from-nothing z W C K E S R f (repair t)
   from-nothing-by f step = from-nothing z W C K E S R f step
 
   abbrev pub from-idle-by : Own → Image X → Input X → Memory X × Reply X
@@ -90,6 +91,7 @@ module _ {X : Type 0} (z : Size) (W : Quorum (z .n)) (C : LabelCodec X (z .n)) (
   from-idle-by o f (begin d) = from-idle z W C K E S R o f (begin d)
   from-idle-by o f (rebuild-on b) = from-idle z W C K E S R o f (rebuild-on b)
   from-idle-by o f (scrub-stripe t) = from-idle z W C K E S R o f (scrub-stripe t)
+  from-idle-by o f (repair t) = from-idle z W C K E S R o f (repair t)
   from-idle-by o f step = from-idle z W C K E S R o f step
 
   abbrev pub choose-by : Memory X → Image X → Input X → Memory X × Reply X
@@ -103,6 +105,7 @@ module _ {X : Type 0} (z : Size) (W : Quorum (z .n)) (C : LabelCodec X (z .n)) (
   choose-by (doing k l o o') f (begin d) = from-doing z W C K E S R k l o o' f (begin d)
   choose-by (doing k l o o') f (rebuild-on b) = from-doing z W C K E S R k l o o' f (rebuild-on b)
   choose-by (doing k l o o') f (scrub-stripe t) = from-doing z W C K E S R k l o o' f (scrub-stripe t)
+  choose-by (doing k l o o') f (repair t) = from-doing z W C K E S R k l o o' f (repair t)
   choose-by (doing k l o o') f step = from-doing z W C K E S R k l o o' f step
 
   unfoldable pub program-by : Memory X → Image X → Input X → Memory X × Reply X
@@ -118,6 +121,7 @@ module _ {X : Type 0} (z : Size) (W : Quorum (z .n)) (C : LabelCodec X (z .n)) (
   leaves-nothing f (begin d) = []
   leaves-nothing f (rebuild-on b) = []
   leaves-nothing f (scrub-stripe t) = []
+  leaves-nothing f (repair t) = []
   leaves-nothing f step = []
 
   abbrev pub leaves-idle : Own → Input X → List (ℕ → Bool)
@@ -129,6 +133,7 @@ module _ {X : Type 0} (z : Size) (W : Quorum (z .n)) (C : LabelCodec X (z .n)) (
   leaves-idle o (begin d) = []
   leaves-idle o (rebuild-on b) = []
   leaves-idle o (scrub-stripe t) = []
+  leaves-idle o (repair t) = []
   leaves-idle o step = []
 
   abbrev pub leaves : Memory X → Image X → Input X → List (ℕ → Bool)
@@ -207,6 +212,7 @@ module _ {X : Type 0} (z : Size) (W : Quorum (z .n)) (C : LabelCodec X (z .n)) (
   passed nothing f (begin d) e s m = absurd (List·Memᴰ·not-nil m)
   passed nothing f (rebuild-on b) e s m = absurd (List·Memᴰ·not-nil m)
   passed nothing f (scrub-stripe t) e s m = absurd (List·Memᴰ·not-nil m)
+  passed nothing f (repair t) e s m = absurd (List·Memᴰ·not-nil m)
   passed nothing f step e s m = absurd (List·Memᴰ·not-nil m)
   passed (idle o) f create e s m = absurd (List·Memᴰ·not-nil m)
   passed (idle o) f (start A) e s m = absurd (List·Memᴰ·not-nil m)
@@ -216,6 +222,7 @@ module _ {X : Type 0} (z : Size) (W : Quorum (z .n)) (C : LabelCodec X (z .n)) (
   passed (idle o) f (begin d) e s m = absurd (List·Memᴰ·not-nil m)
   passed (idle o) f (rebuild-on b) e s m = absurd (List·Memᴰ·not-nil m)
   passed (idle o) f (scrub-stripe t) e s m = absurd (List·Memᴰ·not-nil m)
+  passed (idle o) f (repair t) e s m = absurd (List·Memᴰ·not-nil m)
   passed (idle o) f step e s m = absurd (List·Memᴰ·not-nil m)
   passed (doing k l o o') f i e s m = absurd (List·Memᴰ·not-nil m)
 
@@ -232,6 +239,7 @@ module _ {X : Type 0} (z : Size) (W : Quorum (z .n)) (C : LabelCodec X (z .n)) (
   by-step nothing f (begin d) h = inl refl
   by-step nothing f (rebuild-on b) h = inl refl
   by-step nothing f (scrub-stripe t) h = inl refl
+  by-step nothing f (repair t) h = inl refl
   by-step nothing f step h = inl refl
   by-step (idle o) f create h = inl refl
   by-step (idle o) f (start A) h = inl refl
@@ -243,6 +251,7 @@ module _ {X : Type 0} (z : Size) (W : Quorum (z .n)) (C : LabelCodec X (z .n)) (
   by-step (idle o) f (begin d) h = inl refl
   by-step (idle o) f (rebuild-on b) h = inl refl
   by-step (idle o) f (scrub-stripe t) h = inl refl
+  by-step (idle o) f (repair t) h = inl refl
   by-step (idle o) f step h = inl refl
   by-step (doing k l o o') f create h = inl refl
   by-step (doing k l o o') f (start A) h = inl refl
@@ -254,6 +263,7 @@ module _ {X : Type 0} (z : Size) (W : Quorum (z .n)) (C : LabelCodec X (z .n)) (
   by-step (doing k l o o') f (begin d) h = inl refl
   by-step (doing k l o o') f (rebuild-on b) h = inl refl
   by-step (doing k l o o') f (scrub-stripe t) h = inl refl
+  by-step (doing k l o o') f (repair t) h = inl refl
   by-step (doing k l o o') f step h = inl refl
 
   -- ---- THE MACHINE WITH THAT PROGRAM: nothing is asked of the world yet but what is asked of it for k > m
@@ -346,6 +356,7 @@ module _ {X : Type 0} (z : Size) (W : Quorum (z .n)) (C : LabelCodec X (z .n)) (
   same-program nothing f (begin d) = refl
   same-program nothing f (rebuild-on b) = refl
   same-program nothing f (scrub-stripe t) = refl
+  same-program nothing f (repair t) = refl
   same-program nothing f step = refl
   same-program (idle o) f create = refl
   same-program (idle o) f (start A) = refl
@@ -355,6 +366,7 @@ module _ {X : Type 0} (z : Size) (W : Quorum (z .n)) (C : LabelCodec X (z .n)) (
   same-program (idle o) f (begin d) = refl
   same-program (idle o) f (rebuild-on b) = refl
   same-program (idle o) f (scrub-stripe t) = refl
+  same-program (idle o) f (repair t) = refl
   same-program (idle o) f step = refl
   same-program (doing k l o o') f create = refl
   same-program (doing k l o o') f (start A) = refl
@@ -364,4 +376,5 @@ module _ {X : Type 0} (z : Size) (W : Quorum (z .n)) (C : LabelCodec X (z .n)) (
   same-program (doing k l o o') f (begin d) = refl
   same-program (doing k l o o') f (rebuild-on b) = refl
   same-program (doing k l o o') f (scrub-stripe t) = refl
+  same-program (doing k l o o') f (repair t) = refl
   same-program (doing k l o o') f step = refl

@@ -16,9 +16,9 @@ use Rattle.protocol.specs.Startup.{M, Framed}
 use Rattle.protocol.specs.Blind.{M-same}
 use Rattle.protocol.specs.Decide.{Accepted, Rest, few-absent, some-seen, quiet-framed}
 use Rattle.protocol.specs.Spare.{Spares}
-use Rattle.protocol.specs.Host.{Host, Code, proper, table}
+use Rattle.protocol.specs.Host.{Host, blames, Code, proper, table}
 use Rattle.protocol.specs.Request.{outed}
-use Rattle.protocol.specs.Program.{Stamps, Medium, BAD_BLOCK, BUSY, TOO_FEW, Verdict, clear, because, Own, Kind, creating, starting, logging, storing, labelling, Memory, nothing, idle, doing, Input, create, start, read-block, write, take-out, begin, rebuild-on, scrub-stripe, step, Reply, accepted, beyond, mask, may, may-start, may-create, asked-start, asked-create, asked-write, asked-out, asked-begin, asked-on, asked-heal, asked-raise, at-least-one, last-batch, answer, from-idle, from-doing, one-step, meanwhile, scrubbed, program}
+use Rattle.protocol.specs.Program.{Stamps, Medium, BAD_BLOCK, BUSY, TOO_FEW, Verdict, clear, because, Own, Kind, creating, starting, logging, storing, labelling, Memory, nothing, idle, doing, Input, create, start, read-block, write, take-out, begin, rebuild-on, scrub-stripe, repair, step, Reply, accepted, beyond, mask, finding, also, may, may-repair, may-start, may-create, asked-start, asked-create, asked-write, asked-repair, asked-out, asked-begin, asked-on, asked-heal, asked-raise, at-least-one, last-batch, answer, from-idle, from-doing, one-step, meanwhile, scrubbed, program}
 use Rattle.protocol.specs.Machine.{at, effect, Event, swap, ask, power-cut, program-dies, from-outside, from-host, View, sure, open-write, kept-write, Goes, Views, same, next}
 use Rattle.protocol.specs.Invariant.{Ghost, Left, Pends, Ready, Ends, Busy, Invariant}
 use Rattle.protocol.specs.Promise.{ready-early, beyond-in, beyond-none, mask-present, accept-f, same-label, spared, start-safe, create-tests, Zeros, zeros-off, zeros-same, copy-zeros, simulate}
@@ -301,6 +301,7 @@ module _ {X : Type 0} (z : Size) (W : Quorum (z .n)) (C : LabelCodec X (z .n)) (
       go : (y : Bool) → KinOf x (cond y (asked-heal z W C K E S R o f) (asked-raise z W C K E S R o f (at-least-one z W C K E S R b)))
       go true = kin-next x o _ refl h
       go false = kin-next x o _ refl h
+  kin-idle x o f (repair t) h = kin-answer x (idle o) (asked-repair z W C K E S R o f t) (may-repair z W C K E S R false o f t) accepted h (record { at-home = h .at-home; born = h .born; rises = omega arith; lying = h .lying; lying' = h .lying })
   kin-idle x o f (scrub-stripe t) h = kin-answer x (idle o) (idle o) (may z W C K E S R false o (scrub-stripe t)) _ h h
   kin-idle x o f step h = kin-answer x (idle o) (idle o) (may z W C K E S R false o step) accepted h h
 
@@ -322,6 +323,7 @@ module _ {X : Type 0} (z : Size) (W : Quorum (z .n)) (C : LabelCodec X (z .n)) (
   kin-doing x k l o o' f (take-out d) h = kin-answer x (doing k l o o') (doing k l o o') (may z W C K E S R true o (take-out d)) accepted h h
   kin-doing x k l o o' f (begin d) h = kin-answer x (doing k l o o') (doing k l o o') (may z W C K E S R true o (begin d)) accepted h h
   kin-doing x k l o o' f (rebuild-on b) h = kin-answer x (doing k l o o') (doing k l o o') (may z W C K E S R true o (rebuild-on b)) accepted h h
+  kin-doing x k l o o' f (repair t) h = kin-answer x (doing k l o o') (doing k l o o') (may-repair z W C K E S R true o f t) accepted h h
   kin-doing x k l o o' f (scrub-stripe t) h = h
   kin-doing x k l o o' f step h = kin-step x k l o o' h
 
@@ -456,6 +458,7 @@ module _ {X : Type 0} (z : Size) (W : Quorum (z .n)) (C : LabelCodec X (z .n)) (
     host-nothing (begin d) a = (p, refl, as-made w nothing x p made h)
     host-nothing (rebuild-on b) a = (p, refl, as-made w nothing x p made h)
     host-nothing (scrub-stripe t) a = (p, refl, as-made w nothing x p made h)
+    host-nothing (repair t) a = (p, refl, as-made w nothing x p made h)
     host-nothing step a = (p, refl, as-made w nothing x p made h)
 
   -- a start-up under way
@@ -517,6 +520,11 @@ module _ {X : Type 0} (z : Size) (W : Quorum (z .n)) (C : LabelCodec X (z .n)) (
           go true = (p, refl, rising-same)
           go false = (p, refl, rising-same)
       rising-host f (rebuild-on b) = (p, refl, rising-same)
+      rising-host f (repair t) = go (not (ltb t (z .T)))
+        where
+          go : (b : Bool) → Replies w me x (repair t) (answer z W C K E S R me (also z W C K E S R (cond b (because BAD_BLOCK) (because BUSY)) (not (blames (finding z W C K E S R f t)))) me accepted) p
+          go true = (p, refl, rising-same)
+          go false = (p, refl, rising-same)
       rising-host f (scrub-stripe t) = go (may z W C K E S R true o (scrub-stripe t))
         where
           go : (v : Verdict) → Replies w me x (scrub-stripe t) (me, scrubbed z W C K E S R starting o f t v) p

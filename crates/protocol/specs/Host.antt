@@ -2,7 +2,7 @@
 use Prim.Native.Nat.{ℕ, _<_}
 use mathlib.Core.Path.{_≡_, refl, sym, ap, _∙_}
 use mathlib.Core.Bool.{Bool, true, false, cond, not, _&&_, true≢false}
-use mathlib.Core.Logic.{inl, _≢_}
+use mathlib.Core.Logic.{_⊎_, inl, _≢_}
 use native.Mathlib.Decide.{ℕ-discrete}
 use lib.Dec.{eqb, ltb}
 use borrow.Author.Tests.{eq-eqb, ne-eqb, eqb-true, eqb-false, not-true, ltb-true, lt-ltb}
@@ -43,8 +43,22 @@ pub data Finding : Type 0 where
   accused : ℕ → Finding
   several : Finding
 
+-- somebody is accused; the equations do not hold
+abbrev pub blames : Finding → Bool
+blames all-sound = false
+blames (accused r) = true
+blames several = false
+
+abbrev pub unsound : Finding → Bool
+unsound all-sound = false
+unsound (accused r) = true
+unsound several = true
+
 -- k blocks give n strips; few strips may be missing and the blocks come back; a block reaches the strips `touched`, and no others, and never few slots alone
 -- (shard t b d: the strip of slot d in stripe t for the blocks b. blocks t bad g: the blocks from the strips g of the slots that are not bad.)
+-- A scrub accuses a shard: lies t r is the slot where shard r of stripe t lies; block i is shard i, and reads as that strip while its slot is not bad. mended t g d: the
+-- strip of slot d, from the other strips. Where all strips but that of d are those of some blocks, nobody else is accused, and mended is the strip of these blocks.
+-- sharp: the code can tell whom to blame (m >= 2). Then the stripe is sound and the strip of d is right too, or somebody is accused.
 pub record Code (X : Type 0) (n c : ℕ) (W : Quorum n) : Type 0 where
   pub k : ℕ
   pub shard : ℕ → Blocks X → ℕ → ℕ → X
@@ -57,6 +71,13 @@ pub record Code (X : Type 0) (n c : ℕ) (W : Quorum n) : Type 0 where
   pub scrub : ℕ → (ℕ → ℕ → X) → Finding
   pub scrub-sound : (t : ℕ) (b : Blocks X) (g : ℕ → ℕ → X) → ((d j : ℕ) → d < n → j < c → g d j ≡ shard t b d j) → scrub t g ≡ all-sound
   pub broad : (t i : ℕ) → i < k → (a : ℕ → Bool) → W .few a ≡ true → (d : ℕ) × (d < n) × (a d ≡ false) × (touched t i d ≡ true)
+  pub lies : ℕ → ℕ → ℕ
+  pub mended : ℕ → (ℕ → ℕ → X) → ℕ → ℕ → X
+  pub at-home : (t : ℕ) (bad : ℕ → Bool) (g : ℕ → ℕ → X) (i j : ℕ) → i < k → bad (lies t i) ≡ false → blocks t bad g i j ≡ g (lies t i) j
+  pub mends : (t d : ℕ) (b : Blocks X) (g : ℕ → ℕ → X) → d < n → ((e j : ℕ) → e < n → e ≢ d → j < c → g e j ≡ shard t b e j) → (j : ℕ) → j < c → mended t g d j ≡ shard t b d j
+  pub accuses-it : (t d r : ℕ) (b : Blocks X) (g : ℕ → ℕ → X) → d < n → ((e j : ℕ) → e < n → e ≢ d → j < c → g e j ≡ shard t b e j) → scrub t g ≡ accused r → lies t r ≡ d
+  pub sharp : Bool
+  pub tells : sharp ≡ true → (t d : ℕ) (b : Blocks X) (g : ℕ → ℕ → X) → d < n → ((e j : ℕ) → e < n → e ≢ d → j < c → g e j ≡ shard t b e j) → ((j : ℕ) → j < c → g d j ≡ shard t b d j) ⊎ ((r : ℕ) × (scrub t g ≡ accused r))
 
 module _ {X : Type 0} (z : Size) (W : Quorum (z .n)) (K : RecordCodec X) (E : Code X (z .n) (K .c) W) where
   -- the strips that a list asks for
@@ -82,6 +103,30 @@ module _ {X : Type 0} (z : Size) (W : Quorum (z .n)) (K : RecordCodec X) (E : Co
 
   unfoldable pub writeOf : Label → Image X → ℕ → Change X → Write X
   writeOf Q f t ch = record { stripe = t; changes = reached t ch; new = E .shard t (changed ch (read Q f t)) }
+
+  -- the strips of stripe t as they are read
+  abbrev pub strips-of : Image X → ℕ → ℕ → ℕ → X
+  strips-of f t d j = f (strip d t j)
+
+  -- REPAIR of the strip of slot d: a write that changes this one
+  unfoldable pub repairOf : Image X → ℕ → ℕ → Write X
+  repairOf f t d = record { stripe = t; changes = λ e. eqb e d; new = E .mended t (strips-of f t) }
+
+  -- the slot of the accused shard
+  abbrev pub accused-slot : ℕ → Finding → ℕ
+  accused-slot t all-sound = 0
+  accused-slot t (accused r) = E .lies t r
+  accused-slot t several = 0
+
+  -- the strips with the accused one mended
+  abbrev pub mend : ℕ → Finding → (ℕ → ℕ → X) → ℕ → ℕ → X
+  mend t all-sound g d = g d
+  mend t (accused r) g d = cond (eqb d (E .lies t r)) (E .mended t g d) (g d)
+  mend t several g d = g d
+
+  -- WHAT IS WRITTEN INTO A STRIPE whose shards are all believed and contradict each other (rot): all its blocks, with the accused shard mended first
+  unfoldable pub whole-change : Label → Image X → ℕ → Change X → Change X
+  whole-change Q f t ch = all-blocks (changed ch (E .blocks t (missing Q t) (mend t (E .scrub t (strips-of f t)) (strips-of f t))))
 
   unfoldable pub rebuilt : Label → Image X → ℕ → ℕ → ℕ → X
   rebuilt Q f d t j = E .shard t (read Q f t) d j
@@ -131,10 +176,14 @@ module _ {X : Type 0} (z : Size) (W : Quorum (z .n)) (K : RecordCodec X) (E : Co
       go d l s g true p false r = q .strips d t l s g (λ e. true≢false (sym (e .1) ∙ r))
       go d l s g false p y r = q .strips d t l s g (λ e. eqb-false t (history u .stripe) p (e .0))
 
-  -- SCRUB, with nothing out: every strip is the list's, so nothing is to blame
-  pub scrub-old : (history : ℕ → Write X) (u σ : ℕ) (Q : Label) (v : Host X) (f : Image X) → ((d : ℕ) → d < z .n → Q .out d ≡ false) → Old K (belief z Q) history u σ (table v) f → (t : ℕ) → t < z .T → E .scrub t (λ d j. f (strip d t j)) ≡ all-sound
+  -- SCRUB of a stripe that is believed throughout: every strip is the list's, so nothing is to blame
+  pub scrub-believed : (history : ℕ → Write X) (u σ : ℕ) (Q : Label) (v : Host X) (f : Image X) (t : ℕ) → ((d : ℕ) → d < z .n → believed z Q d t ≡ true) → Old K (belief z Q) history u σ (table v) f → E .scrub t (λ d j. f (strip d t j)) ≡ all-sound
   unfolding table belief
-  scrub-old history u σ Q v f none q t i = E .scrub-sound t (v t) (λ d j. f (strip d t j)) (λ d j n c. q .strips d t j (believe-is z Q d t n i (inl (none d n))) c)
+  scrub-believed history u σ Q v f t all q = E .scrub-sound t (v t) (λ d j. f (strip d t j)) (λ d j n c. q .strips d t j (all d n) c)
+
+  -- so with nothing out
+  pub scrub-old : (history : ℕ → Write X) (u σ : ℕ) (Q : Label) (v : Host X) (f : Image X) → ((d : ℕ) → d < z .n → Q .out d ≡ false) → Old K (belief z Q) history u σ (table v) f → (t : ℕ) → t < z .T → E .scrub t (λ d j. f (strip d t j)) ≡ all-sound
+  scrub-old history u σ Q v f none q t i = scrub-believed history u σ Q v f t (λ d n. believe-is z Q d t n i (inl (none d n))) q
 
   pub scrub-new : (history : ℕ → Write X) (u : ℕ) (Q : Label) (v v' : Host X) (f : Image X) → ((d : ℕ) → d < z .n → Q .out d ≡ false) → Wrote (z .n) (K .c) (history u) (table v) (table v') → New K (belief z Q) history u (table v') f → (t : ℕ) → t < z .T → E .scrub t (λ d j. cond (eqb t (history u .stripe) && history u .changes d) (history u .new d j) (f (strip d t j))) ≡ all-sound
   unfolding table belief

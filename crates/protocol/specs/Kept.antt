@@ -14,7 +14,7 @@ use Rattle.protocol.specs.Startup.{L, M, late, level-to, again-to, last-
 use Rattle.protocol.specs.Decide.{in-turn, settled, startup, Rest}
 use Rattle.protocol.specs.Spare.{Spares}
 use Rattle.protocol.specs.Host.{Host, Code, table}
-use Rattle.protocol.specs.Program.{Stamps, Medium, Verdict, clear, because, Own, Kind, creating, starting, logging, storing, labelling, Memory, nothing, idle, doing, Input, create, start, read-block, write, take-out, begin, rebuild-on, scrub-stripe, step, Reply, accepted, refused, did, safe, done, block, found, scrubbed, beyond, mask, asked-start, may-start, may, may-create, answer, one-step, meanwhile, choose, program}
+use Rattle.protocol.specs.Program.{Stamps, Medium, Verdict, clear, because, Own, Kind, creating, starting, logging, storing, labelling, Memory, nothing, idle, doing, Input, create, start, read-block, write, take-out, begin, rebuild-on, scrub-stripe, repair, step, Reply, accepted, refused, did, safe, done, block, found, scrubbed, beyond, mask, asked-start, may-start, may, may-repair, may-create, answer, one-step, meanwhile, choose, program}
 use Rattle.protocol.specs.Machine.{Machine, at, Event, Runs, View, sure, Views}
 use Rattle.protocol.specs.Invariant.{Ghost, Left, Off, Invariant}
 use Rattle.protocol.specs.Promise.{Zeros, zeros-off, promise}
@@ -136,6 +136,7 @@ module _ {X : Type 0} (z : Size) (W : Quorum (z .n)) (C : LabelCodec X (z .n)) (
   quiet-idle o f (take-out d) = still (idle o) (may z W C K E S R false o (take-out d)) _ accepted refl
   quiet-idle o f (begin d) = still (idle o) (may z W C K E S R false o (begin d)) _ accepted refl
   quiet-idle o f (rebuild-on b) = still (idle o) (may z W C K E S R false o (rebuild-on b)) _ accepted refl
+  quiet-idle o f (repair t) = still (idle o) (may-repair z W C K E S R false o f t) _ accepted refl
   quiet-idle o f (scrub-stripe t) = still (idle o) (may z W C K E S R false o (scrub-stripe t)) _ (found _) refl
   quiet-idle o f step = still (idle o) (may z W C K E S R false o step) (idle o) accepted refl
 
@@ -148,6 +149,7 @@ module _ {X : Type 0} (z : Size) (W : Quorum (z .n)) (C : LabelCodec X (z .n)) (
   quiet-nothing f (begin d) = refl
   quiet-nothing f (rebuild-on b) = refl
   quiet-nothing f (scrub-stripe t) = refl
+  quiet-nothing f (repair t) = refl
   quiet-nothing f step = refl
 
   quiet-doing : (k : Kind X) (l : List (Action X)) (o o' : Own) (f : Image X) → Spares (o' .absent) l → (i : Input X) (a : Action X) → choose z W C K E S R (doing k l o o') f i .1 ≡ did a → o' .absent (slot-of a) ≡ false
@@ -158,6 +160,7 @@ module _ {X : Type 0} (z : Size) (W : Quorum (z .n)) (C : LabelCodec X (z .n)) (
   quiet-doing k l o o' f h (take-out d) a e = absurd (false≢true (sym (still (doing k l o o') (may z W C K E S R true o (take-out d)) (doing k l o o') accepted refl) ∙ ap is-did e))
   quiet-doing k l o o' f h (begin d) a e = absurd (false≢true (sym (still (doing k l o o') (may z W C K E S R true o (begin d)) (doing k l o o') accepted refl) ∙ ap is-did e))
   quiet-doing k l o o' f h (rebuild-on b) a e = absurd (false≢true (sym (still (doing k l o o') (may z W C K E S R true o (rebuild-on b)) (doing k l o o') accepted refl) ∙ ap is-did e))
+  quiet-doing k l o o' f h (repair t) a e = absurd (false≢true (sym (still (doing k l o o') (may-repair z W C K E S R true o f t) (doing k l o o') accepted refl) ∙ ap is-did e))
   quiet-doing k l o o' f h (scrub-stripe t) a e = absurd (false≢true (sym (still-scrub k o f t (may z W C K E S R true o (scrub-stripe t))) ∙ ap is-did e))
   quiet-doing k l o o' f h step a e = touches k l o o' h a e
 

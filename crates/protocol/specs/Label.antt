@@ -4,11 +4,11 @@ use Prim.Native.Nat.{ℕ, suc, _≤_, _<_}
 use mathlib.Core.Path.{_≡_, refl, sym, ap, subst, _∙_}
 use mathlib.Core.Bool.{Bool, true, false, cond, not, _&&_, _||_, true≢false, false≢true}
 use mathlib.Core.Logic.{_⊎_, ⊎-elim, inl, inr, _≢_}
-use mathlib.Core.List.{List, [], _∷_, List·Memᴰ, List·Memᴰ·head}
+use mathlib.Core.List.{List, [], _∷_, _++_, List·Memᴰ, List·Memᴰ·head}
 use native.Mathlib.Omega.{arith}
 use lib.Dec.{eqb, ltb}
-use borrow.Author.Tests.{eq-eqb, eqb-true, ltb-true, lt-ltb}
-use Rattle.protocol.specs.World.{Place, label, slot, Image, update, update-other, update-cases, World, Action, run, Sane, Always, During}
+use borrow.Author.Tests.{eq-eqb, eqb-true, ltb-true, ltb-false, lt-ltb}
+use Rattle.protocol.specs.World.{Place, label, log, strip, slot, Image, update, update-other, update-cases, World, Action, run, Sane, Always, During}
 use Rattle.protocol.specs.Batch.{Batch, actions, Kept, Covered, Done, stage}
 use Rattle.protocol.specs.Slots.{keep, of-keep, rows, in-rows, of-rows, rows-slots}
 use Rattle.protocol.specs.Log.{Belief, Within}
@@ -105,6 +105,7 @@ pub record Quorum (n : ℕ) : Type 0 where
   pub meet : (a b : ℕ → Bool) → few a ≡ true → few b ≡ true → (d : ℕ) × (d < n) × (a d ≡ false) × (b d ≡ false)
 
 -- a label's bytes on the disk of slot d, of n; the label of generation g lies in sector `side g`. What is no valid label reads as generation 0.
+-- strange: the generation of a valid copy of another shelf or slot, 0 where the sector holds none
 pub record LabelCodec (X : Type 0) (n : ℕ) : Type 1 where
   pub Fits : Label → Type 0
   pub side : ℕ → Bool
@@ -116,6 +117,10 @@ pub record LabelCodec (X : Type 0) (n : ℕ) : Type 1 where
   pub decode-zeros : (d : ℕ) (b : Bool) → decode d b zeros .generation ≡ 0
   pub side-next : (g : ℕ) → side (suc g) ≡ not (side g)
   pub decode-side : (d : ℕ) (b : Bool) (x : X) → 0 < decode d b x .generation → b ≡ side (decode d b x .generation)
+  pub strange : ℕ → Bool → X → ℕ
+  pub strange-none : (d : ℕ) (b : Bool) (x : X) → 0 < strange d b x → decode d b x .generation ≡ 0
+  pub strange-zeros : (d : ℕ) (b : Bool) → strange d b zeros ≡ 0
+  pub strange-encode : (d : ℕ) (l : Label) → d < n → Fits l → strange d (side (l .generation)) (encode d l) ≡ 0
 
 module _ {X : Type 0} {n : ℕ} (C : LabelCodec X n) where
   -- what the copy in sector b of slot d's disk says
@@ -179,6 +184,65 @@ module _ {X : Type 0} {n : ℕ} (C : LabelCodec X n) where
 
   abbrev pub prep : Image X → ℕ → Label → List ℕ → List (Action X)
   prep f0 g l ds = actions (prep-batch f0 g l ds)
+
+  -- COPIES OF ANOTHER SHELF OR SLOT. The generation of the one in sector b of slot d's disk, and whether there is one
+  abbrev pub foreign : Image X → ℕ → Bool → ℕ
+  foreign f d b = C .strange d b (f (label d b))
+
+  abbrev pub alien : Image X → Bool → ℕ → Bool
+  alien f b d = ltb 0 (foreign f d b)
+
+  -- the sector whose foreign copy goes last: that of the greater generation
+  unfoldable pub last-side : Image X → ℕ → Bool
+  last-side f d = ltb (foreign f d false) (foreign f d true)
+
+  pub last-greater : (f : Image X) (d : ℕ) → foreign f d (not (last-side f d)) ≤ foreign f d (last-side f d)
+  unfolding last-side
+  last-greater f d = go (ltb (foreign f d false) (foreign f d true)) refl
+    where
+      go : (s : Bool) → ltb (foreign f d false) (foreign f d true) ≡ s → foreign f d (not s) ≤ foreign f d s
+      go true e = omega (arith, ltb-true (foreign f d false) (foreign f d true) e)
+      go false e = ltb-false (foreign f d false) (foreign f d true) e
+
+  -- zeros over sector s of those slots of the list where it holds a foreign copy, and a flush of each
+  unfoldable pub expel-batch : Image X → Bool → List ℕ → Batch X
+  expel-batch f0 s ds =
+      record {
+        value = λ k. C .zeros;
+        places = rows (λ d j. label d s) (0 ∷ []) (keep (alien f0 s) ds);
+        flushed = keep (alien f0 s) ds;
+      }
+
+  abbrev pub expel : Image X → Bool → List ℕ → List (Action X)
+  expel f0 s ds = actions (expel-batch f0 s ds)
+
+  -- of one slot: first the copy of the smaller generation, then the other
+  abbrev pub expelled : Image X → ℕ → List (Action X)
+  expelled f0 d = expel f0 (not (last-side f0 d)) (d ∷ []) ++ expel f0 (last-side f0 d) (d ∷ [])
+
+  -- the image without them
+  abbrev pub purged : Image X → Image X
+  purged f (label d b) = cond (alien f b d) (C .zeros) (f (label d b))
+  purged f (log d j) = f (log d j)
+  purged f (strip d t j) = f (strip d t j)
+
+  purged-copy : (f : Image X) (d : ℕ) (b : Bool) → copy f d b .generation ≡ copy (purged f) d b .generation
+  unfolding copy
+  purged-copy f d b = go (alien f b d) refl
+    where
+      go : (y : Bool) → alien f b d ≡ y → C .decode d b (f (label d b)) .generation ≡ C .decode d b (cond y (C .zeros) (f (label d b))) .generation
+      go true e = C .strange-none d b (f (label d b)) (ltb-true 0 (foreign f d b) e) ∙ sym (C .decode-zeros d b)
+      go false e = refl
+
+  -- prep does not look at them
+  pub prep-purged : (f : Image X) (g : ℕ) (l : Label) (ds : List ℕ) → prep f g l ds ≡ prep (purged f) g l ds
+  unfolding prep-batch
+  prep-purged f g l ds =
+      λ i. actions (record {
+        value = λ k. cond (ltb 0 (purged-copy f (slot k) (C .side (suc g)) i) || eqb (purged-copy f (slot k) (C .side g) i) 0) (C .zeros) (C .encode (slot k) (again l g));
+        places = prep-places g (keep (λ d. not (eqb (purged-copy f d (C .side g) i) g)) ds);
+        flushed = keep (λ d. not (eqb (purged-copy f d (C .side g) i) g)) ds;
+      })
 
   prep-decodes : (P : Label → Type 0) (f0 : Image X) (g : ℕ) (l : Label) (d : ℕ) → d < n → ((x : Label) → x .generation ≡ 0 → P x) → (C .Fits (again l g)) → P (again l g) → P (C .decode d (C .side g) (prep-value f0 g l (label d (C .side g))))
   prep-decodes P f0 g l d i none fit h = go (ltb 0 (copy f0 d (C .side (suc g)) .generation) || eqb (copy f0 d (C .side g) .generation) 0)
@@ -335,6 +399,22 @@ module _ {X : Type 0} (z : Size) (W : Quorum (z .n)) (C : LabelCodec X (z .n)) w
         bare f (y .0) (C .side g) (prep-value C f0 g l (label (y .0) (C .side g))) (o .1),
       ))
       (prep-slots C g es)
+      (λ f o done. o)
+
+  -- foreign copies of a slot that is out and far are zeroed
+  pub expel-safe : (Q N : Label) (top : ℕ) (far : ℕ → Bool) (f0 : Image X) (s : Bool) (ds : List ℕ) (E : Image X → Type 0) → Bare E → (w : World X) → Sane w → ((d : ℕ) → List·Memᴰ d ds → (Q .out d ≡ true) × (far d ≡ true)) → Always w (λ f. Labels Q N top far f × E f) → During w (expel C f0 s ds) (λ f. Labels Q N top far f × E f) × Always (run w (expel C f0 s ds)) (λ f. Labels Q N top far f × E f)
+  unfolding expel-batch Kept Covered Done Bare
+  expel-safe Q N top far f0 s ds E bare w sane aside h =
+      let es = keep (alien C f0 s) ds in
+      stage (λ f. Labels Q N top far f × E f) (λ f. Labels Q N top far f × E f) w (expel-batch C f0 s ds) sane h
+      (λ k m f o.
+      let y = of-rows (λ d j. label d s) (0 ∷ []) es k m in
+      let a = aside (y .0) (of-keep (alien C f0 s) ds (y .0) (y .2) .0) in
+      rw (y .4) (
+        labels-aside Q N top far f (y .0) s (C .zeros) (a .0) (a .1) (λ i. omega (arith, C .decode-zeros (y .0) s)) (λ i p. absurd (omega (arith, p, C .decode-zeros (y .0) s))) (o .0),
+        bare f (y .0) s (C .zeros) (o .1),
+      ))
+      (rows-slots (λ d j. label d s) (0 ∷ []) es (λ d j. refl))
       (λ f o done. o)
 
   -- labels alone matter

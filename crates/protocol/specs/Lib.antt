@@ -10,6 +10,7 @@ pub mod Startup
 pub mod Decide
 pub mod Request
 pub mod Rebuild
+pub mod Strangers
 pub mod Host
 pub mod Count
 pub mod Spare
@@ -20,6 +21,10 @@ pub mod Program
 pub mod Machine
 pub mod Invariant
 pub mod Promise
+pub mod Refresh
+pub mod Veil
+pub mod Rot
+pub mod Repaired
 pub mod Toy
 pub mod Run
 pub mod Kept
@@ -27,6 +32,7 @@ pub mod Ends
 pub mod Order
 pub mod Shape
 pub mod Tidy
+pub mod Formed
 pub mod Shaped
 pub mod Limits
 pub mod Exchange

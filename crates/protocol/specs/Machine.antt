@@ -10,7 +10,7 @@ use Rattle.protocol.specs.Log.{RecordCodec}
 use Rattle.protocol.specs.Label.{Size, looked, Quorum, LabelCodec}
 use Rattle.protocol.specs.Host.{Host, all-sound, replace, Code}
 use Rattle.protocol.specs.Swap.{Swapped}
-use Rattle.protocol.specs.Program.{Stamps, Medium, Own, Kind, creating, starting, logging, storing, labelling, Memory, nothing, idle, Input, create, start, read-block, write, take-out, begin, rebuild-on, scrub-stripe, step, Reply, accepted, refused, did, safe, done, block, found, program}
+use Rattle.protocol.specs.Program.{Stamps, Medium, Own, Kind, creating, starting, logging, storing, labelling, Memory, nothing, idle, Input, create, start, read-block, write, take-out, begin, rebuild-on, scrub-stripe, repair, step, Reply, accepted, refused, did, safe, done, block, found, program}
 
 -- the disks, and what the program remembers
 pub data Machine (X : Type 0) : Type 1 where
@@ -80,6 +80,7 @@ Accepting (take-out d) p p' = p' ≡ p
 Accepting (begin d) p p' = p' ≡ p
 Accepting (rebuild-on b) p p' = p' ≡ p
 Accepting (scrub-stripe t) p p' = p' ≡ p
+Accepting (repair t) p p' = p' ≡ p
 Accepting step p p' = p' ≡ p
 
 -- the step from which the write survives
@@ -110,6 +111,7 @@ Gives c b (take-out d) p p' = ⊥
 Gives c b (begin d) p p' = ⊥
 Gives c b (rebuild-on x) p p' = ⊥
 Gives c b (scrub-stripe t) p p' = ⊥
+Gives c b (repair t) p p' = ⊥
 Gives c b step p p' = ⊥
 
 abbrev pub Answered : {X : Type 0} → ℕ → Input X → Reply X → View X → View X → Type 0

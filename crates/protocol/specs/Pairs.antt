@@ -14,8 +14,8 @@ use Rattle.protocol.specs.Slots.{from, in-from, of-from, every, every-of
 use Rattle.protocol.specs.Log.{RecordCodec}
 use Rattle.protocol.specs.Write.{both}
 use Rattle.protocol.specs.Label.{Size, Quorum, LabelCodec}
-use Rattle.protocol.specs.Host.{Blocks, Code, read, read-through, writeOf, rebuilt}
-use Rattle.protocol.specs.Program.{Stamps, Medium, Memory, nothing, idle, doing, Input, create, start, read-block, write, take-out, begin, rebuild-on, scrub-stripe, step, Reply, mask, left-out, flushed-first, told-to}
+use Rattle.protocol.specs.Host.{Blocks, Code, read, read-through, writeOf, whole-change, repairOf, rebuilt}
+use Rattle.protocol.specs.Program.{Stamps, Medium, Memory, nothing, idle, doing, Input, create, start, read-block, write, take-out, begin, rebuild-on, scrub-stripe, repair, step, Reply, mask, change-made, left-out, flushed-first, told-to}
 use Rattle.protocol.specs.Machine as Machine
 use Rattle.protocol.specs.Machine.{Machine, at, effect, Event, ask, Outside, View, sure, Views}
 use Rattle.protocol.specs.Promise.{Zeros}
@@ -159,6 +159,13 @@ code-for test E ok W sub =
       scrub = E .scrub;
       scrub-sound = E .scrub-sound;
       broad = λ t i h a few. ok .broad t i h a (sub a few);
+      lies = E .lies;
+      mended = E .mended;
+      at-home = E .at-home;
+      mends = E .mends;
+      accuses-it = E .accuses-it;
+      sharp = E .sharp;
+      tells = E .tells;
     }
 
 module _ {X : Type 0} (z : Size) (C : LabelCodec X (z .n)) (K : RecordCodec X) (E : Code X (z .n) (K .c) (no-sets (z .n))) (S : Stamps) (R : Medium z (no-sets (z .n)) C K E S) (test : (ℕ → Bool) → Bool) (ok : Mends test E) where
@@ -183,7 +190,7 @@ module _ {X : Type 0} (z : Size) (C : LabelCodec X (z .n)) (K : RecordCodec X) (
 
     -- THE FAMILY IS NO PART OF THE PROGRAM
     pub same-by : (m : Memory X) (f : Image X) (i : Input X) → program-by z (no-sets (z .n)) C K E S R test m f i ≡ program-by z W C K code-of S medium-for test m f i
-    unfolding program-by mask left-out flushed-first told-to read read-through writeOf rebuilt
+    unfolding program-by mask left-out flushed-first told-to read read-through writeOf change-made whole-change repairOf rebuilt
     same-by nothing f create = refl
     same-by nothing f (start A) = refl
     same-by nothing f (read-block t i) = refl
@@ -192,6 +199,7 @@ module _ {X : Type 0} (z : Size) (C : LabelCodec X (z .n)) (K : RecordCodec X) (
     same-by nothing f (begin d) = refl
     same-by nothing f (rebuild-on b) = refl
     same-by nothing f (scrub-stripe t) = refl
+    same-by nothing f (repair t) = refl
     same-by nothing f step = refl
     same-by (idle o) f create = refl
     same-by (idle o) f (start A) = refl
@@ -201,6 +209,7 @@ module _ {X : Type 0} (z : Size) (C : LabelCodec X (z .n)) (K : RecordCodec X) (
     same-by (idle o) f (begin d) = refl
     same-by (idle o) f (rebuild-on b) = refl
     same-by (idle o) f (scrub-stripe t) = refl
+    same-by (idle o) f (repair t) = refl
     same-by (idle o) f step = refl
     same-by (doing k l o o') f create = refl
     same-by (doing k l o o') f (start A) = refl
@@ -210,6 +219,7 @@ module _ {X : Type 0} (z : Size) (C : LabelCodec X (z .n)) (K : RecordCodec X) (
     same-by (doing k l o o') f (begin d) = refl
     same-by (doing k l o o') f (rebuild-on b) = refl
     same-by (doing k l o o') f (scrub-stripe t) = refl
+    same-by (doing k l o o') f (repair t) = refl
     same-by (doing k l o o') f step = refl
 
     pub same-leaves : (m : Memory X) (f : Image X) (i : Input X) → leaves z (no-sets (z .n)) C K E S R test m f i ≡ leaves z W C K code-of S medium-for test m f i
@@ -222,6 +232,7 @@ module _ {X : Type 0} (z : Size) (C : LabelCodec X (z .n)) (K : RecordCodec X) (
     same-leaves nothing f (begin d) = refl
     same-leaves nothing f (rebuild-on b) = refl
     same-leaves nothing f (scrub-stripe t) = refl
+    same-leaves nothing f (repair t) = refl
     same-leaves nothing f step = refl
     same-leaves (idle o) f create = refl
     same-leaves (idle o) f (start A) = refl
@@ -231,6 +242,7 @@ module _ {X : Type 0} (z : Size) (C : LabelCodec X (z .n)) (K : RecordCodec X) (
     same-leaves (idle o) f (begin d) = refl
     same-leaves (idle o) f (rebuild-on b) = refl
     same-leaves (idle o) f (scrub-stripe t) = refl
+    same-leaves (idle o) f (repair t) = refl
     same-leaves (idle o) f step = refl
     same-leaves (doing k l o o') f i = refl
 

@@ -11,10 +11,10 @@ use Rattle.protocol.specs.Slots.{from, keep, slots}
 use Rattle.protocol.specs.Log.{Write, RecordCodec, Belief}
 use Rattle.protocol.specs.Write.{logged, stored, log-write, store}
 use Rattle.protocol.specs.Redo.{key, lead, tail, whole, redone, forward, kill, redo}
-use Rattle.protocol.specs.Label.{Label, again, Size, belief, Quorum, LabelCodec, there, told, round, prepared, prep-value, prep-places, prep-batch, prep}
+use Rattle.protocol.specs.Label.{Label, again, alien, last-side, expel, expel-batch, Size, belief, Quorum, LabelCodec, there, told, round, prepared, prep-value, prep-places, prep-batch, prep}
 use Rattle.protocol.specs.Startup.{L, M, gone, stale, level-to, again-to, last-to, rounds}
 use Rattle.protocol.specs.Decide.{in-turn, settled, startup}
-use Rattle.protocol.specs.Rebuild.{begun, wiped-sectors, wipe-batch, wipe, flushed-at-begin, beginning, filled, fill}
+use Rattle.protocol.specs.Rebuild.{begun, wiped-sectors, wipe-batch, wipe, flushed-at-begin, expel-first, beginning, filled, fill}
 use Rattle.protocol.specs.Host.{Code}
 use Rattle.protocol.specs.Program.{Stamps, Medium, flushed-first, told-to}
 use Rattle.protocol.specs.Walk.{Walk, Cursor, putting, flushing, append-assoc, batch-of, begins, tick, left, walk-begins, walks, round-walk, log-walk, store-walk, kill-walk, fill-walk, prep-walk}
@@ -157,15 +157,24 @@ module _ {X : Type 0} (z : Size) (W : Quorum (z .n)) (C : LabelCodec X (z .n)) (
       ap (λ (y : List (Action X)). flushes (keep (λ d. not (A d)) (from 0 (z .n))) ++ y)
       (ap (λ (ds : List ℕ). round C l ds) (all-kept 0 (z .n)) ∙ (round-phase C K (belief z l) l (z .n) (λ d. true) ∙ sym (append-nil (actions (batch-of (label-phase C K l (z .n) (λ d. true)))))))
 
-  -- BEGIN: flush d, wipe its log, prep it, and a round
+  -- BEGIN: flush d, zeros over the label sectors that are another shelf's, wipe its log, prep it, and a round
+  abbrev pub expel-phase : Image X → Bool → ℕ → Walk X
+  expel-phase f s d = record { a = d; n = 1; test = alien C f s; b = 0; c = 1; place = λ e j. label e s; value = λ k. C .zeros; first-flush = d; flushes-n = 1; flush-test = alien C f s }
+
   abbrev pub begin-walks : Image X → Label → ℕ → (ℕ → Bool) → List (Walk X)
   begin-walks f Q d A =
       record { a = d; n = 0; test = λ e. true; b = 0; c = 0; place = log; value = λ k. K .zeros; first-flush = d; flushes-n = 1; flush-test = λ e. true }
+      ∷ expel-phase f (not (last-side C f d)) d
+      ∷ expel-phase f (last-side C f d) d
       ∷ record { a = d; n = 1; test = λ e. true; b = 0; c = suc (K .c); place = log; value = λ k. K .zeros; first-flush = d; flushes-n = 1; flush-test = λ e. true }
       ∷ record { a = d; n = 1; test = λ e. not (prepared C f (Q .generation) e); b = 0; c = 1; place = λ e j. label e (C .side (Q .generation)); value = prep-value C f (Q .generation) Q; first-flush = d; flushes-n = 1; flush-test = λ e. not (prepared C f (Q .generation) e) }
       ∷ label-phase C K (begun Q d) (z .n) (λ e. not (A e))
       ∷ []
 
   pub begin-phases : (f : Image X) (Q : Label) (d : ℕ) (A : ℕ → Bool) → beginning K C f Q d (told-to z W C K E S R A) ≡ all-of (begin-walks f Q d A)
-  unfolding flushed-at-begin wipe-batch wiped-sectors prep-batch prep-places
-  begin-phases f Q d A = ap (λ (y : List (Action X)). flushes (flushed-at-begin K d) ++ (wipe K d ++ (prep C f (Q .generation) Q (d ∷ []) ++ y))) (change-phases (begun Q d) A)
+  unfolding flushed-at-begin expel-first expel-batch wipe-batch wiped-sectors prep-batch prep-places
+  begin-phases f Q d A =
+      let X1 = expel C f (not (last-side C f d)) (d ∷ []) in
+      let X2 = expel C f (last-side C f d) (d ∷ []) in
+      ap (λ (y : List (Action X)). flushes (flushed-at-begin K d) ++ ((X1 ++ X2) ++ (wipe K d ++ (prep C f (Q .generation) Q (d ∷ []) ++ y)))) (change-phases (begun Q d) A)
+      ∙ ap (λ (y : List (Action X)). flushes (flushed-at-begin K d) ++ y) (append-assoc X1 X2 (wipe K d ++ (prep C f (Q .generation) Q (d ∷ []) ++ all-of (label-phase C K (begun Q d) (z .n) (λ e. not (A e)) ∷ []))))

@@ -9,7 +9,7 @@ use Rattle.protocol.specs.Log.{RecordCodec}
 use Rattle.protocol.specs.Write.{both}
 use Rattle.protocol.specs.Label.{Size, looked, Quorum, LabelCodec}
 use Rattle.protocol.specs.Host.{Code}
-use Rattle.protocol.specs.Program.{Stamps, Medium, Refusal, Own, Memory, nothing, idle, doing, Input, create, start, read-block, write, take-out, begin, rebuild-on, scrub-stripe, step, Reply, accepted, refused, did, safe, done, block, found, beyond, unseen, program}
+use Rattle.protocol.specs.Program.{Stamps, Medium, Refusal, Own, Memory, nothing, idle, doing, Input, create, start, read-block, write, take-out, begin, rebuild-on, scrub-stripe, repair, step, Reply, accepted, refused, did, safe, done, block, found, beyond, unseen, program}
 use Rattle.protocol.specs.Machine.{effect, Event, cut, dies, swap, ask, View, sure, Views}
 use Rattle.protocol.specs.Promise.{Zeros}
 use Rattle.protocol.specs.Exchange as Exchange
@@ -28,6 +28,7 @@ absent-in n (take-out d) = beyond n (λ d. false)
 absent-in n (begin d) = beyond n (λ d. false)
 absent-in n (rebuild-on b) = beyond n (λ d. false)
 absent-in n (scrub-stripe t) = beyond n (λ d. false)
+absent-in n (repair t) = beyond n (λ d. false)
 absent-in n step = beyond n (λ d. false)
 
 not-accepted : {X : Type 0} (r : Reply X) (why : Refusal) → r ≡ refused why → r ≡ accepted → ⊥
@@ -98,6 +99,7 @@ module _ {X : Type 0} (z : Size) (W : Quorum (z .n)) (C : LabelCodec X (z .n)) (
   unseen-is (begin d) = refl
   unseen-is (rebuild-on b) = refl
   unseen-is (scrub-stripe t) = refl
+  unseen-is (repair t) = refl
   unseen-is step = refl
 
   as-asked : (w : World X) (m : Memory X) (i : Input X) (r : Reply X) (x : Disks X) → AskedBy z W C K E S R test (W .few) w m i r x → Asked z W C K E S R w m i r x

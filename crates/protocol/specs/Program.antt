@@ -11,12 +11,12 @@ use Rattle.protocol.specs.Batch.{flushes}
 use Rattle.protocol.specs.Slots.{from, slots, every}
 use Rattle.protocol.specs.Log.{Write, RecordCodec}
 use Rattle.protocol.specs.Write.{log-write, store}
-use Rattle.protocol.specs.Label.{Label, plainly-out, Size, belief, Quorum, LabelCodec, round}
+use Rattle.protocol.specs.Label.{Label, plainly-out, Size, believed, belief, Quorum, LabelCodec, round}
 use Rattle.protocol.specs.Startup.{labelled, gone, L, M}
 use Rattle.protocol.specs.Decide.{settled, startup}
 use Rattle.protocol.specs.Request.{outed}
 use Rattle.protocol.specs.Rebuild.{begun, raised, healed, beginning, fill}
-use Rattle.protocol.specs.Host.{Finding, Change, Code, proper, read, read-through, writeOf, rebuilt}
+use Rattle.protocol.specs.Host.{Finding, blames, unsound, Change, Code, proper, read, read-through, writeOf, strips-of, accused-slot, repairOf, whole-change, rebuilt}
 
 -- Stamps are numbers; those of an epoch lie between its base and the base of the next one. (As bytes: epoch and count.)
 pub record Stamps : Type 0 where
@@ -98,6 +98,7 @@ pub data Input (X : Type 0) : Type 0 where
   begin : ℕ → Input X
   rebuild-on : ℕ → Input X
   scrub-stripe : ℕ → Input X
+  repair : ℕ → Input X
   step : Input X
 
 -- what it answers. `safe` is the answer of the one step of a write that does nothing: its log is flushed, and from here on the write will survive.
@@ -169,10 +170,31 @@ module _ {X : Type 0} (z : Size) (W : Quorum (z .n)) (C : LabelCodec X (z .n)) (
       ∷ [])
 
   -- WRITE
+  abbrev pub ask-log : Own → Write X → Memory X
+  ask-log o w = doing (logging w) (log-write K (belief z (o .now)) (suc (o .count)) w) o (record { now = o .now; absent = o .absent; epoch = o .epoch; count = suc (o .count) })
+
+  -- no slot is out, nor absent
+  abbrev pub all-in : Own → Bool
+  all-in o = every (λ d. not (o .now .out d)) (from 0 (z .n))
+
+  -- every strip of stripe t is believed: no slot is out, or the one being rebuilt alone, and t is below its mark
+  abbrev pub all-believed : Own → ℕ → Bool
+  all-believed o t = every (λ d. believed z (o .now) d t) (from 0 (z .n))
+
+  -- the stripe as it is found
+  abbrev pub finding : Image X → ℕ → Finding
+  finding f t = E .scrub t (strips-of z W K E f t)
+
+  -- where all shards are believed and contradict each other, the whole stripe is written
+  unfoldable pub change-made : Own → Image X → ℕ → Change X → Change X
+  change-made o f t ch = cond (all-believed o t && unsound (finding f t)) (whole-change z W K E (o .now) f t ch) ch
+
   abbrev pub asked-write : Own → Image X → ℕ → Change X → Memory X
-  asked-write o f t ch =
-      doing (logging (writeOf z W K E (o .now) f t ch)) (log-write K (belief z (o .now)) (suc (o .count)) (writeOf z W K E (o .now) f t ch)) o
-      (record { now = o .now; absent = o .absent; epoch = o .epoch; count = suc (o .count) })
+  asked-write o f t ch = ask-log o (writeOf z W K E (o .now) f t (change-made o f t ch))
+
+  -- REPAIR: the accused shard's strip
+  abbrev pub asked-repair : Own → Image X → ℕ → Memory X
+  asked-repair o f t = ask-log o (repairOf z W K E f t (accused-slot z W K E t (finding f t)))
 
   abbrev pub asked-store : Write X → Own → Own → Memory X
   asked-store w o o' = doing (storing w) (store K (belief z (o .now)) (w .stripe) (w .changes) (w .new)) o o'
@@ -252,9 +274,23 @@ module _ {X : Type 0} (z : Size) (W : Quorum (z .n)) (C : LabelCodec X (z .n)) (
   may b o (scrub-stripe t) =
       first
       (record { why = BAD_BLOCK; holds = not (ltb t (z .T)) }
-      ∷ record { why = NOT_NOW; holds = not (every (λ d. not (o .now .out d)) (from 0 (z .n))) }
+      ∷ record { why = NOT_NOW; holds = not (all-in o) }
+      ∷ [])
+  may b o (repair t) =
+      first
+      (record { why = BAD_BLOCK; holds = not (ltb t (z .T)) }
+      ∷ record { why = BUSY; holds = b }
+      ∷ record { why = NOT_NOW; holds = not (all-in o) || not (ltb (suc (o .count)) (S .base (suc (o .epoch)))) }
       ∷ [])
   may b o step = first (record { why = NOT_NOW; holds = true } ∷ [])
+
+  -- a repair is also refused where the scrub accuses nobody
+  abbrev pub also : Verdict → Bool → Verdict
+  also clear b = first (record { why = NOT_NOW; holds = b } ∷ [])
+  also (because why) b = because why
+
+  abbrev pub may-repair : Bool → Own → Image X → ℕ → Verdict
+  may-repair b o f t = also (may b o (repair t)) (not (blames (finding f t)))
 
   -- a refusal is an answer and leaves everything as it was
   abbrev pub answer : Memory X → Verdict → Memory X → Reply X → Memory X × Reply X
@@ -271,6 +307,7 @@ module _ {X : Type 0} (z : Size) (W : Quorum (z .n)) (C : LabelCodec X (z .n)) (
   from-nothing f (begin d) = (nothing, refused NOT_NOW)
   from-nothing f (rebuild-on b) = (nothing, refused NOT_NOW)
   from-nothing f (scrub-stripe t) = (nothing, refused NOT_NOW)
+  from-nothing f (repair t) = (nothing, refused NOT_NOW)
   from-nothing f step = (nothing, refused NOT_NOW)
 
   -- ready
@@ -283,6 +320,7 @@ module _ {X : Type 0} (z : Size) (W : Quorum (z .n)) (C : LabelCodec X (z .n)) (
   from-idle o f (begin d) = answer (idle o) (may false o (begin d)) (asked-begin o f d) accepted
   from-idle o f (rebuild-on b) = answer (idle o) (may false o (rebuild-on b)) (asked-on o f b) accepted
   from-idle o f (scrub-stripe t) = answer (idle o) (may false o (scrub-stripe t)) (idle o) (found (E .scrub t (λ d j. f (strip d t j))))
+  from-idle o f (repair t) = answer (idle o) (may-repair false o f t) (asked-repair o f t) accepted
   from-idle o f step = answer (idle o) (may false o step) (idle o) accepted
 
   -- a step of a request under way
@@ -322,6 +360,7 @@ module _ {X : Type 0} (z : Size) (W : Quorum (z .n)) (C : LabelCodec X (z .n)) (
   from-doing k l o o' f (begin d) = answer (doing k l o o') (may true o (begin d)) (doing k l o o') accepted
   from-doing k l o o' f (rebuild-on b) = answer (doing k l o o') (may true o (rebuild-on b)) (doing k l o o') accepted
   from-doing k l o o' f (scrub-stripe t) = (doing k l o o', scrubbed k o f t (may true o (scrub-stripe t)))
+  from-doing k l o o' f (repair t) = answer (doing k l o o') (may-repair true o f t) (doing k l o o') accepted
   from-doing k l o o' f step = one-step k l o o'
 
   abbrev pub choose : Memory X → Image X → Input X → Memory X × Reply X
@@ -339,6 +378,7 @@ module _ {X : Type 0} (z : Size) (W : Quorum (z .n)) (C : LabelCodec X (z .n)) (
   unseen-idle o (begin d) = back-in (o .absent) d
   unseen-idle o (rebuild-on b) = o .absent
   unseen-idle o (scrub-stripe t) = o .absent
+  unseen-idle o (repair t) = o .absent
   unseen-idle o step = o .absent
 
   abbrev pub unseen-nothing : Input X → ℕ → Bool
@@ -350,6 +390,7 @@ module _ {X : Type 0} (z : Size) (W : Quorum (z .n)) (C : LabelCodec X (z .n)) (
   unseen-nothing (begin d) = beyond (z .n) (λ d. false)
   unseen-nothing (rebuild-on b) = beyond (z .n) (λ d. false)
   unseen-nothing (scrub-stripe t) = beyond (z .n) (λ d. false)
+  unseen-nothing (repair t) = beyond (z .n) (λ d. false)
   unseen-nothing step = beyond (z .n) (λ d. false)
 
   abbrev pub unseen : Memory X → Input X → ℕ → Bool

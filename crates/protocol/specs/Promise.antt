@@ -23,9 +23,9 @@ use Rattle.protocol.specs.Spare.{Spares, startup-spares, log-spares, sto
 use Rattle.protocol.specs.Swap.{Swapped, rest-swap}
 use Rattle.protocol.specs.Blind.{startup-blind, settled-same, accepted-same, start-decision-same}
 use Rattle.protocol.specs.Restart.{restart}
-use Rattle.protocol.specs.Host.{Host, all-sound, scrub-old, scrub-new, Change, replace, Code, table, missing, few-missing, proper, reached-n, reached-broad, read, read-through, read-old, read-new, read-right, rebuilt, rebuilt-right, writeOf, write-right}
+use Rattle.protocol.specs.Host.{Host, Finding, blames, unsound, all-sound, scrub-believed, scrub-old, scrub-new, Change, replace, Code, table, missing, few-missing, proper, reached-n, reached-broad, read, read-through, read-old, read-new, read-right, rebuilt, rebuilt-right, writeOf, whole-change, write-right}
 use Rattle.protocol.specs.Program as Program
-use Rattle.protocol.specs.Program.{Stamps, Proper, Medium, NO_LABEL, TOO_FEW, BAD_BLOCK, BUSY, NOT_NOW, Verdict, clear, because, Test, first, Own, Kind, creating, starting, logging, storing, labelling, Memory, nothing, idle, doing, Input, create, start, read-block, write, take-out, begin, rebuild-on, scrub-stripe, step, Reply, accepted, block, found, scrubbed, new-label, beyond, mask, present, flushed-first, left-out, blank-slot, blank, created, asked-create, may-create, started, asked-start, may-start, asked-write, relabelled, told-to, asked-out, back-in, asked-begin, at-least-one, filling, asked-raise, asked-heal, last-batch, asked-on, generations-left, may, answer, from-nothing, from-idle, one-step, meanwhile, from-doing, unseen, program}
+use Rattle.protocol.specs.Program.{Stamps, Proper, Medium, NO_LABEL, TOO_FEW, BAD_BLOCK, BUSY, NOT_NOW, Verdict, clear, because, Test, first, Own, Kind, creating, starting, logging, storing, labelling, Memory, nothing, idle, doing, Input, create, start, read-block, write, take-out, begin, rebuild-on, scrub-stripe, repair, step, Reply, accepted, block, found, scrubbed, new-label, beyond, mask, present, flushed-first, left-out, blank-slot, blank, created, asked-create, may-create, started, asked-start, may-start, ask-log, all-in, finding, change-made, all-believed, asked-write, asked-repair, also, may-repair, relabelled, told-to, asked-out, back-in, asked-begin, at-least-one, filling, asked-raise, asked-heal, last-batch, asked-on, generations-left, may, answer, from-nothing, from-idle, one-step, meanwhile, from-doing, unseen, program}
 use Rattle.protocol.specs.Machine.{Machine, at, effect, Event, swap, ask, Outside, power-cut, program-dies, disk-swapped, Happens, from-outside, from-host, Runs, stays, goes, View, sure, open-write, kept-write, Goes, Views, same, next}
 use Rattle.protocol.specs.Invariant.{Ghost, Under, Left, Pending, Pends, Off, Dark, Ready, Readable, Reads, Ends, Busy, Invariant}
 
@@ -118,7 +118,7 @@ module _ {X : Type 0} (z : Size) (W : Quorum (z .n)) (C : LabelCodec X (z .n)) (
   unfolding mask
   mask-present A f k e = rw e
 
-  mask-agrees : (Q : Label) (A : ℕ → Bool) (f : Image X) → ((d : ℕ) → A d ≡ true → looked z Q d ≡ true → ⊥) → Agrees (belief z Q) f (mask z W C K E S R A f)
+  pub mask-agrees : (Q : Label) (A : ℕ → Bool) (f : Image X) → ((d : ℕ) → A d ≡ true → looked z Q d ≡ true → ⊥) → Agrees (belief z Q) f (mask z W C K E S R A f)
   unfolding belief
   mask-agrees Q A f dark = record { on-log = λ d j l. mask-present A f (log d j) (there d l); on-strip = λ d t j l. mask-present A f (strip d t j) (there d l) }
     where
@@ -129,7 +129,7 @@ module _ {X : Type 0} (z : Size) (W : Quorum (z .n)) (C : LabelCodec X (z .n)) (
           go true e = absurd (dark d e l)
           go false e = e
 
-  quiet-seen : (history : ℕ → Write X) (u : ℕ) (s : Table X) (Q : Label) (A : ℕ → Bool) (f : Image X) → ((d : ℕ) → A d ≡ true → looked z Q d ≡ true → ⊥) → Quiet K (belief z Q) history u s f → Quiet K (belief z Q) history u s (mask z W C K E S R A f)
+  pub quiet-seen : (history : ℕ → Write X) (u : ℕ) (s : Table X) (Q : Label) (A : ℕ → Bool) (f : Image X) → ((d : ℕ) → A d ≡ true → looked z Q d ≡ true → ⊥) → Quiet K (belief z Q) history u s f → Quiet K (belief z Q) history u s (mask z W C K E S R A f)
   unfolding Quiet
   quiet-seen history u s Q A f dark q = old-frame K (belief z Q) (belief z Q) history (within-self (belief z Q)) f (mask z W C K E S R A f) (mask-agrees Q A f dark) u 0 s q
 
@@ -154,7 +154,7 @@ module _ {X : Type 0} (z : Size) (W : Quorum (z .n)) (C : LabelCodec X (z .n)) (
   ready-early v w o h = epoch-grows o (h .epoch-now) (h .u) (omega (arith, h .used, h .early))
 
   -- READY AS LEFT BY A CUT
-  ready-off : (v : Host X) (w : World X) (o : Own) → Sane w → Ready z W C K E S R v w o → Off z W C K E S R (sure v) w
+  pub ready-off : (v : Host X) (w : World X) (o : Own) → Sane w → Ready z W C K E S R v w o → Off z W C K E S R (sure v) w
   ready-off v w o sane h =
       record {
         sane = sane;
@@ -169,11 +169,11 @@ module _ {X : Type 0} (z : Size) (W : Quorum (z .n)) (C : LabelCodec X (z .n)) (
   busy-off k p w l o o' h = record { sane = h .sane; ghost = h .ghost; early = h .early; pends = h .pends; left = during-start (Left z W C K E S R (h .ghost) p) w l (h .during) }
 
   -- what a cut leaves
-  off-cut : (p : View X) (w : World X) (f : Image X) → Possible w f → Off z W C K E S R p w → Off z W C K E S R p (after f)
+  pub off-cut : (p : View X) (w : World X) (f : Image X) → Possible w f → Off z W C K E S R p w → Off z W C K E S R p (after f)
   unfolding Always
   off-cut p w f q h = record { sane = sane-after f; ghost = h .ghost; early = h .early; pends = h .pends; left = always-after (Left z W C K E S R (h .ghost) p) f (h .left f q) }
 
-  memory-off : (w : World X) (m : Memory X) (p : View X) → Invariant z W C K E S R (at w m) p → Off z W C K E S R p w
+  pub memory-off : (w : World X) (m : Memory X) (p : View X) → Invariant z W C K E S R (at w m) p → Off z W C K E S R p w
   memory-off w nothing p h = h
   memory-off w (idle o) (sure v) h = ready-off v w o (h .0) (h .1)
   memory-off w (idle o) (open-write v v') h = absurd h
@@ -721,7 +721,7 @@ module _ {X : Type 0} (z : Size) (W : Quorum (z .n)) (C : LabelCodec X (z .n)) (
         go true e = heal-busy (z .T - o .now .mark) i (omega (arith, h .sound .mark-T)) room
         go false e = raise-busy (at-least-one z W C K E S R b) i (omega (arith, leb-false (z .T) (o .now .mark + at-least-one z W C K E S R b) e)) room
 
-  in-range : (t i : ℕ) (b : Bool) (o : Own) → may z W C K E S R b o (read-block t i) ≡ clear → (t < z .T) × (i < E .k)
+  pub in-range : (t i : ℕ) (b : Bool) (o : Own) → may z W C K E S R b o (read-block t i) ≡ clear → (t < z .T) × (i < E .k)
   in-range t i b o e =
       let a = first-clear (record { why = BAD_BLOCK; holds = not (ltb t (z .T) && ltb i (E .k)) }) [] e in
       let y = both (ltb t (z .T)) (ltb i (E .k)) (yes-of (ltb t (z .T) && ltb i (E .k)) (a .0)) in
@@ -765,7 +765,7 @@ module _ {X : Type 0} (z : Size) (W : Quorum (z .n)) (C : LabelCodec X (z .n)) (
       let b = first-clear (record { why = NOT_NOW; holds = not (leb 1 (R .greatest)) }) [] (a .1) in
       (blank-zeros f (yes-of (blank z W C K E S R f) (a .0)), leb-true 1 (R .greatest) (yes-of (leb 1 (R .greatest)) (b .0)))
 
-  scrub-tests : (t : ℕ) (b : Bool) (o : Own) → may z W C K E S R b o (scrub-stripe t) ≡ clear → (t < z .T) × ((d : ℕ) → d < z .n → o .now .out d ≡ false)
+  pub scrub-tests : (t : ℕ) (b : Bool) (o : Own) → may z W C K E S R b o (scrub-stripe t) ≡ clear → (t < z .T) × ((d : ℕ) → d < z .n → o .now .out d ≡ false)
   scrub-tests t b o e =
       let none = every (λ d. not (o .now .out d)) (from 0 (z .n)) in
       let r1 : List Test = record { why = NOT_NOW; holds = not none } ∷ [] in
@@ -776,6 +776,46 @@ module _ {X : Type 0} (z : Size) (W : Quorum (z .n)) (C : LabelCodec X (z .n)) (
   quiet-scrub : (history : ℕ → Write X) (u : ℕ) (Q : Label) (v : Host X) (f : Image X) → ((d : ℕ) → d < z .n → Q .out d ≡ false) → Quiet K (belief z Q) history u (tableOf v) f → (t : ℕ) → t < z .T → E .scrub t (λ d j. f (strip d t j)) ≡ all-sound
   unfolding Quiet
   quiet-scrub history u Q v f none q t i = scrub-old z W K E history u 0 Q v f none q t i
+
+  pub repair-tests : (t : ℕ) (o : Own) → may z W C K E S R false o (repair t) ≡ clear → (t < z .T) × ((d : ℕ) → d < z .n → o .now .out d ≡ false) × (suc (o .count) < S .base (suc (o .epoch)))
+  repair-tests t o e =
+      let none = all-in z W C K E S R o in
+      let left = ltb (suc (o .count)) (S .base (suc (o .epoch))) in
+      let r2 : List Test = record { why = NOT_NOW; holds = not none || not left } ∷ [] in
+      let r1 : List Test = record { why = BUSY; holds = false } ∷ r2 in
+      let a = first-clear (record { why = BAD_BLOCK; holds = not (ltb t (z .T)) }) r1 e in
+      let c = first-clear (record { why = NOT_NOW; holds = not none || not left }) [] (first-clear (record { why = BUSY; holds = false }) r2 (a .1) .1) in
+      let x = neither (not none) (not left) (c .0) in
+      (ltb-true t (z .T) (yes-of (ltb t (z .T)) (a .0)), (λ d i. not-true (o .now .out d) (every-of (λ y. not (o .now .out y)) (from 0 (z .n)) (yes-of none (x .0)) d (in-from (z .n) 0 d (omega arith) (omega arith)))), ltb-true (suc (o .count)) (S .base (suc (o .epoch))) (yes-of left (x .1)))
+
+  pub may-repair-tests : (t : ℕ) (o : Own) (f : Image X) → may-repair z W C K E S R false o f t ≡ clear → (t < z .T) × ((d : ℕ) → d < z .n → o .now .out d ≡ false) × (suc (o .count) < S .base (suc (o .epoch))) × (blames (finding z W C K E S R f t) ≡ true)
+  unfolding is-clear
+  may-repair-tests t o f e = go (may z W C K E S R false o (repair t)) refl e
+    where
+      go : (v : Verdict) → may z W C K E S R false o (repair t) ≡ v → also z W C K E S R v (not (blames (finding z W C K E S R f t))) ≡ clear → (t < z .T) × ((d : ℕ) → d < z .n → o .now .out d ≡ false) × (suc (o .count) < S .base (suc (o .epoch))) × (blames (finding z W C K E S R f t) ≡ true)
+      go clear q h = let a = repair-tests t o q in (a .0, a .1, a .2, yes-of (blames (finding z W C K E S R f t)) (first-clear (record { why = NOT_NOW; holds = not (blames (finding z W C K E S R f t)) }) [] h .0))
+      go (because why) q h = absurd (false≢true (ap is-clear h))
+
+  -- with nothing out every stripe is found sound: a write is made as it is asked, and no repair is needed
+  module _ (v : Host X) (w : World X) (o : Own) (sane : Sane w) (h : Ready z W C K E S R v w o) where
+    pub found-sound : (t : ℕ) → t < z .T → ((d : ℕ) → d < z .n → o .now .out d ≡ false) → finding z W C K E S R (mask z W C K E S R (o .absent) (w .cur)) t ≡ all-sound
+    found-sound t i none = quiet-scrub (h .history) (h .u) (o .now) v (mask z W C K E S R (o .absent) (w .cur)) none (seen-quiet v w o sane h (o .absent) (h .dark)) t i
+
+    pub made-as-asked : (t : ℕ) (ch : Change X) → t < z .T → change-made z W C K E S R o (mask z W C K E S R (o .absent) (w .cur)) t ch ≡ ch
+    unfolding change-made Quiet
+    made-as-asked t ch i = go (all-believed z W C K E S R o t) refl
+      where
+        seen : Image X
+        seen = mask z W C K E S R (o .absent) (w .cur)
+
+        go : (b : Bool) → all-believed z W C K E S R o t ≡ b → cond (b && unsound (finding z W C K E S R seen t)) (whole-change z W K E (o .now) seen t ch) ch ≡ ch
+        go true e =
+            ap (λ (x : Finding). cond (unsound x) (whole-change z W K E (o .now) seen t ch) ch)
+            (scrub-believed z W K E (h .history) (h .u) 0 (o .now) v seen t (λ d j. every-of (λ y. believed z (o .now) y t) (from 0 (z .n)) e d (in-from (z .n) 0 d (omega arith) (omega arith))) (seen-quiet v w o sane h (o .absent) (h .dark)))
+        go false e = refl
+
+    pub no-repair : (t : ℕ) → may-repair z W C K E S R false o (mask z W C K E S R (o .absent) (w .cur)) t ≡ clear → ⊥
+    no-repair t e = let a = may-repair-tests t o (mask z W C K E S R (o .absent) (w .cur)) e in false≢true (ap blames (sym (found-sound t (a .0) (a .1))) ∙ a .3)
 
   -- EACH REQUEST
   -- nothing is known yet
@@ -800,6 +840,7 @@ module _ {X : Type 0} (z : Size) (W : Quorum (z .n)) (C : LabelCodec X (z .n)) (
   sim-nothing w (begin d) p h = (p, refl, h)
   sim-nothing w (rebuild-on b) p h = (p, refl, h)
   sim-nothing w (scrub-stripe t) p h = (p, refl, h)
+  sim-nothing w (repair t) p h = (p, refl, h)
   sim-nothing w step p h = (p, refl, h)
 
   -- ready, with the list v
@@ -821,8 +862,12 @@ module _ {X : Type 0} (z : Size) (W : Quorum (z .n)) (C : LabelCodec X (z .n)) (
       let r1 : List Test = record { why = BUSY; holds = false } ∷ r2 in
       let a = first-clear (record { why = BAD_BLOCK; holds = not (ltb t (z .T) && proper z W K E ch) }) r1 e in
       let b = both (ltb t (z .T)) (proper z W K E ch) (yes-of (ltb t (z .T) && proper z W K E ch) (a .0)) in
-      let c = first-clear (record { why = NOT_NOW; holds = not (ltb (suc (o .count)) (S .base (suc (o .epoch)))) }) [] (first-clear (record { why = BUSY; holds = false }) r2 (a .1) .1) in
-      (open-write v (replace v t ch), refl, write-busy v w o s h t ch (ltb-true t (z .T) (b .0)) (b .1) (ltb-true (suc (o .count)) (S .base (suc (o .epoch))) (yes-of (ltb (suc (o .count)) (S .base (suc (o .epoch)))) (c .0)))))
+      let c = first-clear (record { why = NOT_NOW; holds = not (ltb (suc (o .count)) (S .base (suc (o .epoch)))) }) [] (first-clear (record { why = BUSY; holds = false }) r2 (a .1) .1) in (
+        open-write v (replace v t ch),
+        refl,
+        subst (λ (y : Change X). Invariant z W C K E S R (at w (ask-log z W C K E S R o (writeOf z W K E (o .now) seen t y))) (open-write v (replace v t ch))) (sym (made-as-asked v w o s h t ch (ltb-true t (z .T) (b .0))))
+            (write-busy v w o s h t ch (ltb-true t (z .T) (b .0)) (b .1) (ltb-true (suc (o .count)) (S .base (suc (o .epoch))) (yes-of (ltb (suc (o .count)) (S .base (suc (o .epoch)))) (c .0)))),
+      ))
   sim-idle w o (take-out d) v s h =
       verdict w (idle o) (take-out d) (sure v) (s, h) (may z W C K E S R false o (take-out d)) (asked-out z W C K E S R o d) accepted
       (λ e. let t = out-tests o d e in (sure v, refl, out-busy v w o s h d (t .0) (t .1) (t .2)))
@@ -838,6 +883,9 @@ module _ {X : Type 0} (z : Size) (W : Quorum (z .n)) (C : LabelCodec X (z .n)) (
       let seen = mask z W C K E S R (o .absent) (w .cur) in
       verdict w (idle o) (scrub-stripe t) (sure v) (s, h) (may z W C K E S R false o (scrub-stripe t)) (idle o) (found (E .scrub t (λ d j. seen (strip d t j))))
       (λ e. let b = scrub-tests t false o e in (sure v, (refl, quiet-scrub (h .history) (h .u) (o .now) v seen (b .1) (seen-quiet v w o s h (o .absent) (h .dark)) t (b .0)), (s, h)))
+  sim-idle w o (repair t) v s h =
+      let seen = mask z W C K E S R (o .absent) (w .cur) in
+      verdict w (idle o) (repair t) (sure v) (s, h) (may-repair z W C K E S R false o seen t) (asked-repair z W C K E S R o seen t) accepted (λ e. absurd (no-repair v w o s h t e))
   sim-idle w o step v s h = verdict w (idle o) step (sure v) (s, h) (may z W C K E S R false o step) (idle o) accepted (λ e. (sure v, refl, (s, h)))
 
   -- a step of a request under way
@@ -995,6 +1043,11 @@ module _ {X : Type 0} (z : Size) (W : Quorum (z .n)) (C : LabelCodec X (z .n)) (
       busy-refused true = (p, refl, h)
       busy-refused false = (p, refl, h)
   sim-doing k l o o' w (rebuild-on b) p h = (p, refl, h)
+  sim-doing k l o o' w (repair t) p h = busy-refused (not (ltb t (z .T)))
+    where
+      busy-refused : (b : Bool) → Answers w (answer z W C K E S R (doing k l o o') (also z W C K E S R (cond b (because BAD_BLOCK) (because BUSY)) (not (blames (finding z W C K E S R (mask z W C K E S R (o .absent) (w .cur)) t)))) (doing k l o o') accepted) (repair t) p
+      busy-refused true = (p, refl, h)
+      busy-refused false = (p, refl, h)
   sim-doing k l o o' w (scrub-stripe t) p h = sim-scrub k p w l o o' t h (may z W C K E S R true o (scrub-stripe t)) refl
   sim-doing k l o o' w step p h = sim-step k l p w o o' h
 

@@ -1,6 +1,6 @@
 -- Rebuild: begin, on, healthy. A rebuild never changes the table; what a label calls rebuilt or healthy is right on disk, flushed, before any disk may hold that label.
 use Prim.Native.Nat.{ℕ, suc, _+_, _≤_, _<_}
-use mathlib.Core.Path.{_≡_, refl, sym, ap, _∙_}
+use mathlib.Core.Path.{_≡_, refl, sym, ap, subst, _∙_}
 use mathlib.Core.Bool.{Bool, true, false, not, _&&_, true≢false}
 use mathlib.Core.Logic.{_⊎_, ⊎-elim, inl, inr}
 use mathlib.Core.List.{List, [], _∷_, _++_, List·Memᴰ, List·Memᴰ·head, List·Memᴰ·eq-of-singleton}
@@ -11,7 +11,7 @@ use Rattle.protocol.specs.Batch.{Batch, actions, flushes, flushes-during
 use Rattle.protocol.specs.Slots.{from, rows, in-from, of-from, of-from-low, of-rows, in-rows, rows-slots}
 use Rattle.protocol.specs.Startup.{Shelf}
 use Rattle.protocol.specs.Log.{Write, RecordCodec, Belief, Table, Quiet, Fit, old-log, quiet-widen, old-spare}
-use Rattle.protocol.specs.Label.{Label, Size, looked, believed, belief, look-of, look-is, believe-of, believe-is, Quorum, LabelCodec, round, prep, prep-safe, Labels, Bare, rules-self}
+use Rattle.protocol.specs.Label.{Label, Size, looked, believed, belief, look-of, look-is, believe-of, believe-is, Quorum, LabelCodec, round, last-side, expel, expelled, expel-safe, prep, prep-safe, Labels, Bare, rules-self}
 use Rattle.protocol.specs.Decide.{quiet-framed, labels-data, Rest}
 use Rattle.protocol.specs.Request.{framed-bare, relabel}
 
@@ -48,7 +48,7 @@ module _ {X : Type 0} (K : RecordCodec X) where
   unfolding filled-sectors
   filled-in j h = in-from (K .c) 0 j (omega arith) (omega arith)
 
-  -- BEGIN: zeros over the log of d, flush; then the round
+  -- BEGIN: flush d; zeros over copies of another shelf or slot; zeros over the log of d, flush; prep; then the round
   unfoldable pub wipe-batch : ℕ → Batch X
   wipe-batch d =
       record {
@@ -68,8 +68,20 @@ module _ {X : Type 0} (K : RecordCodec X) where
   unfolding flushed-at-begin
   begin-flushes d = List·Memᴰ·head refl
 
+  -- copies of another shelf or slot go before anything else of the disk changes: for its old shelf it is untouched, or has no label
+  unfoldable pub expel-first : List (Action X) → List (Action X) → List (Action X)
+  expel-first labels others = labels ++ others
+
+  pub expel-run : (w : World X) (labels others : List (Action X)) → run w (expel-first labels others) ≡ run (run w labels) others
+  unfolding expel-first
+  expel-run w labels others = run-append w labels others
+
+  pub expel-during : (P : Image X → Type 0) (w : World X) (labels others : List (Action X)) → During w labels P → During (run w labels) others P → During w (expel-first labels others) P
+  unfolding expel-first
+  expel-during P w labels others h g = during-append P w labels others h g
+
   abbrev pub beginning : {n : ℕ} → LabelCodec X n → Image X → Label → ℕ → List ℕ → List (Action X)
-  beginning C f0 Q d ds = flushes (flushed-at-begin d) ++ (wipe d ++ (prep C f0 (Q .generation) Q (d ∷ []) ++ round C (begun Q d) ds))
+  beginning C f0 Q d ds = flushes (flushed-at-begin d) ++ expel-first (expelled C f0 d) (wipe d ++ (prep C f0 (Q .generation) Q (d ∷ []) ++ round C (begun Q d) ds))
 
   -- ON: the strips from the mark on, flush; then the round
   abbrev pub filled : (ℕ → ℕ → X) → Place → X
@@ -107,6 +119,18 @@ module _ {X : Type 0} (z : Size) (W : Quorum (z .n)) (C : LabelCodec X (z .n)) (
         quiet = old-log K (belief z Q) history u 0 s f d j (K .zeros) h (inl (K .stamp-zeros)) (λ τ e. absurd (omega (arith, e, K .stamp-zeros))) (o .quiet);
       }
 
+  -- foreign copies on the disk of a slot that is out
+  expel-keeps : (f0 : Image X) (Q : Label) (d : ℕ) (b : Bool) → Q .out d ≡ true → (w : World X) → Sane w → Always w (Rest z W C K history u Q s) → During w (expel C f0 b (d ∷ [])) (Rest z W C K history u Q s) × Always (run w (expel C f0 b (d ∷ []))) (Rest z W C K history u Q s)
+  unfolding Bare
+  expel-keeps f0 Q d b o w sane h =
+      let R = Rest z W C K history u Q s in
+      let P : Image X → Type 0 = λ f. Labels z W C Q Q (Q .generation) (Q .out) f × QuietB (belief z Q) f in
+      let fr = quiet-framed K history u s in
+      let acts = expel C f0 b (d ∷ []) in
+      let r = expel-safe z W C Q Q (Q .generation) (Q .out) f0 b (d ∷ []) (QuietB (belief z Q)) (framed-bare z W C K QuietB fr (belief z Q)) w sane (λ e m. let q : e ≡ d = List·Memᴰ·eq-of-singleton m in rw q (o, o))
+      (always-map R P w (λ f p. (p .labels, p .quiet)) h) in
+      (during-map P R w acts (λ f p. record { labels = p .0; quiet = p .1 }) (r .0), always-map P R (run w acts) (λ f p. record { labels = p .0; quiet = p .1 }) (r .1))
+
   begun-quiet : (Q : Label) (d : ℕ) (f : Image X) → ((j : ℕ) → j ≤ K .c → f (log d j) ≡ K .zeros) → Quiet K (belief z Q) history u s f → Quiet K (belief z (begun Q d)) history u s f
   unfolding belief
   begun-quiet Q d f h =
@@ -127,12 +151,20 @@ module _ {X : Type 0} (z : Size) (W : Quorum (z .n)) (C : LabelCodec X (z .n)) (
       let s0 = sane-run w A0 sane in
       let z0 = flushes-during R (w .cur) w (flushed-at-begin K d) h in
       let h0 = during-end R w A0 z0 in
-      let a = stage R (λ f. R f × QuietB (belief z N) f) w0 (wipe-batch K d) s0 h0
+      let s' = last-side C f0 d in
+      let X1 = expel C f0 (not s') (d ∷ []) in
+      let X2 = expel C f0 s' (d ∷ []) in
+      let x1 = expel-keeps f0 Q d (not s') o w0 s0 h0 in
+      let v1 = run w0 X1 in
+      let x2 = expel-keeps f0 Q d s' o v1 (sane-run w0 X1 s0) (x1 .1) in
+      let v2 = run v1 X2 in
+      let t2 = sane-run v1 X2 (sane-run w0 X1 s0) in
+      let a = stage R (λ f. R f × QuietB (belief z N) f) v2 (wipe-batch K d) t2 (x2 .1)
       (λ k m f p. let y = of-rows log (wiped-sectors K) (d ∷ []) k m in rw (y .4) (rest-wiped Q (y .0) (y .1) f (wiped-of K (y .1) (y .3)) p))
       (rows-slots log (wiped-sectors K) (d ∷ []) (λ e j. refl))
       (λ f p done. (p, begun-quiet Q d f (λ j g. done (log d j) (in-rows log (wiped-sectors K) (d ∷ []) d j (List·Memᴰ·head refl) (wiped-in K j (omega arith)))) (p .quiet))) in
-      let w1 = run w0 (wipe K d) in
-      let s1 = sane-run w0 (wipe K d) s0 in
+      let w1 = run v2 (wipe K d) in
+      let s1 = sane-run v2 (wipe K d) t2 in
       let few : W .few (Q .out) ≡ true = always-cur R w sane h .labels .few-Q in
       let P : Image X → Type 0 = Labels z W C Q Q (Q .generation) (Q .out) in
       let E : Image X → Type 0 = λ f. QuietB (belief z Q) f × QuietB (belief z N) f in
@@ -145,11 +177,14 @@ module _ {X : Type 0} (z : Size) (W : Quorum (z .n)) (C : LabelCodec X (z .n)) (
       let c = relabel z W C K history u s Q N ds refl few fit all w2 (sane-run w1 acts s1)
       (always-map (λ f. P f × E f) (λ f. R f × QuietB (belief z N) f) w2 (λ f p. (record { labels = p .0; quiet = p .1 .0 }, p .1 .1)) (b .1)) in
       let A3 = round C N ds in (
-        during-append (Keeps Q) w A0 (wipe K d ++ (acts ++ A3)) (during-map R (Keeps Q) w A0 (rest-keeps Q) z0)
-            (during-append (Keeps Q) w0 (wipe K d) (acts ++ A3)
-            (during-map R (Keeps Q) w0 (wipe K d) (rest-keeps Q) (a .0))
-            (during-append (Keeps Q) w1 acts A3 (during-map (λ f. P f × E f) (Keeps Q) w1 acts (λ f p. rest-keeps Q f (record { labels = p .0; quiet = p .1 .0 })) (b .0)) (c .0))),
-        rw (run-append w A0 (wipe K d ++ (acts ++ A3)), run-append w0 (wipe K d) (acts ++ A3), run-append w1 acts A3) (c .1),
+        during-append (Keeps Q) w A0 (expel-first K (X1 ++ X2) (wipe K d ++ (acts ++ A3))) (during-map R (Keeps Q) w A0 (rest-keeps Q) z0)
+            (expel-during K (Keeps Q) w0 (X1 ++ X2) (wipe K d ++ (acts ++ A3))
+            (during-append (Keeps Q) w0 X1 X2 (during-map R (Keeps Q) w0 X1 (rest-keeps Q) (x1 .0)) (during-map R (Keeps Q) v1 X2 (rest-keeps Q) (x2 .0)))
+            (subst (λ (v : World X). During v (wipe K d ++ (acts ++ A3)) (Keeps Q)) (sym (run-append w0 X1 X2))
+            (during-append (Keeps Q) v2 (wipe K d) (acts ++ A3)
+            (during-map R (Keeps Q) v2 (wipe K d) (rest-keeps Q) (a .0))
+            (during-append (Keeps Q) w1 acts A3 (during-map (λ f. P f × E f) (Keeps Q) w1 acts (λ f p. rest-keeps Q f (record { labels = p .0; quiet = p .1 .0 })) (b .0)) (c .0))))),
+        rw (run-append w A0 (expel-first K (X1 ++ X2) (wipe K d ++ (acts ++ A3))), expel-run K w0 (X1 ++ X2) (wipe K d ++ (acts ++ A3)), run-append w0 X1 X2, run-append v2 (wipe K d) (acts ++ A3), run-append w1 acts A3) (c .1),
       )
 
   rest-strip : (Q : Label) (t j : ℕ) (x : X) (f : Image X) → Q .out (Q .rebuilding) ≡ true → Q .mark ≤ t → Rest z W C K history u Q s f → Rest z W C K history u Q s (update f (strip (Q .rebuilding) t j) x)

@@ -74,13 +74,13 @@ module _ {X : Type 0} (K : RecordCodec X) (B : Belief) (f0 : Image X) where
   redo = cond (eqb (key lead) 0) [] (cond whole forward kill)
 
 module _ {X : Type 0} (K : RecordCodec X) (B : Belief) (history : ℕ → Write X) (f0 : Image X) where
-  key-look : (d : ℕ) → B .look d ≡ true → key K B f0 d ≡ K .stamp (f0 (log d (K .c)))
+  pub key-look : (d : ℕ) → B .look d ≡ true → key K B f0 d ≡ K .stamp (f0 (log d (K .c)))
   key-look d e = rw e
 
-  key-top : (d : ℕ) → B .look d ≡ true → K .stamp (f0 (log d (K .c))) ≤ key K B f0 (lead K B f0)
+  pub key-top : (d : ℕ) → B .look d ≡ true → K .stamp (f0 (log d (K .c))) ≤ key K B f0 (lead K B f0)
   key-top d e = omega (arith, key-look d e, leader-top (key K B f0) (B .n) d (B .look-n d e))
 
-  key-seen : (d κ : ℕ) → key K B f0 d ≡ suc κ → (B .look d ≡ true) × (K .stamp (f0 (log d (K .c))) ≡ suc κ)
+  pub key-seen : (d κ : ℕ) → key K B f0 d ≡ suc κ → (B .look d ≡ true) × (K .stamp (f0 (log d (K .c))) ≡ suc κ)
   key-seen d κ e = go (B .look d) refl e
     where
       go : (b : Bool) → B .look d ≡ b → cond b (K .stamp (f0 (log d (K .c)))) 0 ≡ suc κ → (B .look d ≡ true) × (K .stamp (f0 (log d (K .c))) ≡ suc κ)
@@ -97,20 +97,20 @@ module _ {X : Type 0} (K : RecordCodec X) (B : Belief) (history : ℕ → Write 
 
   -- what the leader's tail tells
   module _ (u : ℕ) (l : Logs K B history u f0) (κ : ℕ) (e : key K B f0 (lead K B f0) ≡ suc κ) where
-    the-tail : tail K B f0 ≡ K .sector (suc κ) (history (suc κ)) (lead K B f0) (K .c)
+    pub the-tail : tail K B f0 ≡ K .sector (suc κ) (history (suc κ)) (lead K B f0) (K .c)
     the-tail = let s = key-seen (lead K B f0) κ e in l .real (lead K B f0) (K .c) κ (s .0) (omega arith) (s .1) .0
 
     the-fits : K .Fits (suc κ) (history (suc κ))
     the-fits = let s = key-seen (lead K B f0) κ e in l .real (lead K B f0) (K .c) κ (s .0) (omega arith) (s .1) .2
 
-    the-stripe : K .stripeOf (tail K B f0) ≡ history (suc κ) .stripe
+    pub the-stripe : K .stripeOf (tail K B f0) ≡ history (suc κ) .stripe
     the-stripe = ap (K .stripeOf) the-tail ∙ K .stripe-tail (suc κ) (history (suc κ)) (lead K B f0) the-fits
 
-    the-changes : (d : ℕ) → K .changesOf (tail K B f0) d ≡ history (suc κ) .changes d
+    pub the-changes : (d : ℕ) → K .changesOf (tail K B f0) d ≡ history (suc κ) .changes d
     the-changes d = ap (λ (x : X). K .changesOf x d) the-tail ∙ K .changes-tail (suc κ) (history (suc κ)) (lead K B f0) d the-fits
 
     -- a complete record gives back its strip
-    the-strip : (d : ℕ) → B .look d ≡ true → Complete K f0 d (suc κ) → (j : ℕ) → j < K .c → redone K B f0 d j ≡ history (suc κ) .new d j
+    pub the-strip : (d : ℕ) → B .look d ≡ true → Complete K f0 d (suc κ) → (j : ℕ) → j < K .c → redone K B f0 d j ≡ history (suc κ) .new d j
     unfolding Complete
     the-strip d a p j h =
         let x = l .real d (K .c) κ a (omega arith) (p (K .c) (omega arith)) .0 in
@@ -141,7 +141,7 @@ module _ {X : Type 0} (K : RecordCodec X) (B : Belief) (history : ℕ → Write 
   tails-same f g d a = inl (g .on-log d (K .c) a)
 
   module _ (u : ℕ) (l : Logs K B history u f0) (κ : ℕ) (e : key K B f0 (lead K B f0) ≡ suc κ) where
-    forward-is : forward K B f0 ≡ store K B (history (suc κ) .stripe) (history (suc κ) .changes) (redone K B f0)
+    pub forward-is : forward K B f0 ≡ store K B (history (suc κ) .stripe) (history (suc κ) .changes) (redone K B f0)
     unfolding forward
     forward-is = ap₂ (λ (t : ℕ) (ch : ℕ → Bool). store K B t ch (redone K B f0)) (the-stripe u l κ e) (fun-ext (the-changes u l κ e))
 
@@ -151,7 +151,7 @@ module _ {X : Type 0} (K : RecordCodec X) (B : Belief) (history : ℕ → Write 
         let m = in-involved B (K .stripeOf (tail K B f0)) (K .changesOf (tail K B f0)) d (rw (the-stripe u l κ e) a) (the-changes u l κ e d ∙ b) in
         rw e at (completeB-of (key K B f0 (lead K B f0)) d (every-of (completeB K B f0 (key K B f0 (lead K B f0))) (involved B (K .stripeOf (tail K B f0)) (K .changesOf (tail K B f0))) h d m))
 
-    whole-is : ((d : ℕ) → B .believe d (history (suc κ) .stripe) ≡ true → history (suc κ) .changes d ≡ true → Complete K f0 d (suc κ)) → whole K B f0 ≡ true
+    pub whole-is : ((d : ℕ) → B .believe d (history (suc κ) .stripe) ≡ true → history (suc κ) .changes d ≡ true → Complete K f0 d (suc κ)) → whole K B f0 ≡ true
     unfolding whole
     whole-is h =
         every-all (completeB K B f0 (key K B f0 (lead K B f0))) (involved B (K .stripeOf (tail K B f0)) (K .changesOf (tail K B f0)))
@@ -215,7 +215,7 @@ module _ {X : Type 0} (K : RecordCodec X) (B : Belief) (history : ℕ → Write 
   unfolding redo
   redo-none e = rw e
 
-  redo-forward : (κ : ℕ) → key K B f0 (lead K B f0) ≡ suc κ → whole K B f0 ≡ true → redo K B f0 ≡ forward K B f0
+  pub redo-forward : (κ : ℕ) → key K B f0 (lead K B f0) ≡ suc κ → whole K B f0 ≡ true → redo K B f0 ≡ forward K B f0
   unfolding redo
   redo-forward κ e h = rw (ne-eqb (key K B f0 (lead K B f0)) 0 (λ q. omega arith), h)
 

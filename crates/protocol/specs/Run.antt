@@ -13,7 +13,7 @@ use Rattle.protocol.specs.Startup.{behind, disowned, gone, level-to, aga
 use Rattle.protocol.specs.Decide.{in-turn, startup}
 use Rattle.protocol.specs.Host.{one-block, set-block, replace, table, read, read-through, writeOf}
 use Rattle.protocol.specs.Count.{at-most}
-use Rattle.protocol.specs.Program.{nothing, Input, create, start, read-block, write, step, Reply, accepted, refused, did, safe, done, block, found, mask, told-to, flushed-first, left-out, program}
+use Rattle.protocol.specs.Program.{nothing, Input, create, start, read-block, write, step, Reply, accepted, refused, did, safe, done, block, found, mask, change-made, told-to, flushed-first, left-out, program}
 use Rattle.protocol.specs.Machine.{Machine, at, effect}
 use Rattle.protocol.specs.Toy.{Sector, blank, datum, size, labels, records, quorum, code, stamps, medium}
 
@@ -58,14 +58,14 @@ abbrev risen : Machine Sector
 risen = steps 19 (react torn (start (λ d. eqb d 1)))
 
 made-reads : ask-block made 0 ≡ blank
-unfolding update after belief copy round-batch prep-batch slots logged-sectors stored-sectors compared-sectors involved log-batch store-batch completeB whole forward marked kill-batch redo gone level-to again-to last-to rounds in-turn behind disowned prep-places startup set-block replace table read read-through writeOf at-most mask told-to flushed-first left-out program quorum code medium
+unfolding update after belief copy round-batch prep-batch slots logged-sectors stored-sectors compared-sectors involved log-batch store-batch completeB whole forward marked kill-batch redo gone level-to again-to last-to rounds in-turn behind disowned prep-places startup set-block replace table read read-through writeOf change-made at-most mask told-to flushed-first left-out program quorum code medium
 made-reads = refl
 
 filled-reads : (ask-block filled 0 ≡ datum 7) × (ask-block filled 1 ≡ datum 8)
-unfolding update after belief copy round-batch prep-batch slots logged-sectors stored-sectors compared-sectors involved log-batch store-batch completeB whole forward marked kill-batch redo gone level-to again-to last-to rounds in-turn behind disowned prep-places startup set-block replace table read read-through writeOf at-most mask told-to flushed-first left-out program quorum code medium
+unfolding update after belief copy round-batch prep-batch slots logged-sectors stored-sectors compared-sectors involved log-batch store-batch completeB whole forward marked kill-batch redo gone level-to again-to last-to rounds in-turn behind disowned prep-places startup set-block replace table read read-through writeOf change-made at-most mask told-to flushed-first left-out program quorum code medium
 filled-reads = (refl, refl)
 
 -- THE NEW ONE, AND THE ONE THAT NOBODY WAS WRITING
 pub risen-reads : (ask-block risen 0 ≡ datum 9) × (ask-block risen 1 ≡ datum 8)
-unfolding update after belief copy round-batch prep-batch slots logged-sectors stored-sectors compared-sectors involved log-batch store-batch completeB whole forward marked kill-batch redo gone level-to again-to last-to rounds in-turn behind disowned prep-places startup set-block replace table read read-through writeOf at-most mask told-to flushed-first left-out program quorum code medium
+unfolding update after belief copy round-batch prep-batch slots logged-sectors stored-sectors compared-sectors involved log-batch store-batch completeB whole forward marked kill-batch redo gone level-to again-to last-to rounds in-turn behind disowned prep-places startup set-block replace table read read-through writeOf change-made at-most mask told-to flushed-first left-out program quorum code medium
 risen-reads = (refl, refl)

@@ -5,16 +5,16 @@ use mathlib.Core.Bool.{Bool, true, false, not, _&&_}
 use mathlib.Core.Logic.{inr}
 use mathlib.Core.List.{List, [], _∷_, _++_, List·Memᴰ, List·Memᴰ·eq-of-singleton}
 use borrow.Author.Tests.{not-true}
-use Rattle.protocol.specs.World.{Place, log, strip, slot, Image, Action}
+use Rattle.protocol.specs.World.{Place, label, log, strip, slot, Image, Action}
 use Rattle.protocol.specs.Batch.{flushes, each-flushes, Each, each-append, each-batch, each-map}
 use Rattle.protocol.specs.Slots.{from, slots, keep, of-keep, of-slots, of-rows}
 use Rattle.protocol.specs.Log.{Write, RecordCodec}
 use Rattle.protocol.specs.Write.{both, log-write, store}
 use Rattle.protocol.specs.Redo.{redo}
-use Rattle.protocol.specs.Label.{Label, again, prep, prepared, of-prep, prep-batch, Size, looked, belief, look-of, look-is, Quorum, LabelCodec, round, round-batch, there}
+use Rattle.protocol.specs.Label.{Label, again, alien, last-side, expel, expel-batch, prep, prepared, of-prep, prep-batch, Size, looked, belief, look-of, look-is, Quorum, LabelCodec, round, round-batch, there}
 use Rattle.protocol.specs.Startup.{gone, stale, parts, late, level-to, again-to, last-to, rounds, L, M, gone-absent, without-gone}
 use Rattle.protocol.specs.Decide.{Touch, Looked, log-each, strips-each, redo-each, in-turn, settled, startup}
-use Rattle.protocol.specs.Rebuild.{begun, wipe, wipe-batch, wiped-sectors, filled-sectors, flushed-at-begin, beginning, fill, fill-batch}
+use Rattle.protocol.specs.Rebuild.{begun, wipe, wipe-batch, wiped-sectors, filled-sectors, flushed-at-begin, expel-first, beginning, fill, fill-batch}
 
 -- the list of actions leaves the absent slots alone
 abbrev pub Spares : {X : Type 0} → (ℕ → Bool) → List (Action X) → Type 0
@@ -70,15 +70,24 @@ module _ {X : Type 0} (z : Size) (W : Quorum (z .n)) (C : LabelCodec X (z .n)) (
       each-batch Far Not (prep-batch C f g l ds)
       (λ k m. let y = of-prep C g es k m in rw (y .2) (low (y .0) (y .1))) low
 
+  expel-spares : (f : Image X) (b : Bool) (d : ℕ) → absent d ≡ false → Spares absent (expel C f b (d ∷ []))
+  unfolding expel-batch
+  expel-spares f b d h =
+      let low : (e : ℕ) → List·Memᴰ e (keep (alien C f b) (d ∷ [])) → absent e ≡ false = λ e m. rw (List·Memᴰ·eq-of-singleton (of-keep (alien C f b) (d ∷ []) e m .0)) h in
+      each-batch Far Not (expel-batch C f b (d ∷ []))
+      (λ k m. let y = of-rows (λ e j. label e b) (0 ∷ []) (keep (alien C f b) (d ∷ [])) k m in rw (y .4) (low (y .0) (y .2))) low
+
   pub begin-spares : (f : Image X) (Q : Label) (d : ℕ) (ds : List ℕ) → absent d ≡ false → ((e : ℕ) → List·Memᴰ e ds → absent e ≡ false) → Spares absent (beginning K C f Q d ds)
-  unfolding flushed-at-begin
+  unfolding flushed-at-begin expel-first
   begin-spares f Q d ds h g =
       let A0 : List (Action X) = flushes (flushed-at-begin K d) in
+      let X1 = expel C f (not (last-side C f d)) (d ∷ []) in
+      let X2 = expel C f (last-side C f d) (d ∷ []) in
       let A1 = wipe K d in
       let A2 = prep C f (Q .generation) Q (d ∷ []) in
       let A3 = round C (begun Q d) ds in
-      each-append Far Not A0 (A1 ++ (A2 ++ A3)) (flushes-spares (flushed-at-begin K d) (λ e m. rw (List·Memᴰ·eq-of-singleton m) h))
-      (each-append Far Not A1 (A2 ++ A3) (wipe-spares d h) (each-append Far Not A2 A3 (prep-spares f (Q .generation) Q (d ∷ []) (λ e m. rw (List·Memᴰ·eq-of-singleton m) h)) (round-spares (begun Q d) ds g)))
+      each-append Far Not A0 ((X1 ++ X2) ++ (A1 ++ (A2 ++ A3))) (flushes-spares (flushed-at-begin K d) (λ e m. rw (List·Memᴰ·eq-of-singleton m) h))
+      (each-append Far Not (X1 ++ X2) (A1 ++ (A2 ++ A3)) (each-append Far Not X1 X2 (expel-spares f (not (last-side C f d)) d h) (expel-spares f (last-side C f d) d h)) (each-append Far Not A1 (A2 ++ A3) (wipe-spares d h) (each-append Far Not A2 A3 (prep-spares f (Q .generation) Q (d ∷ []) (λ e m. rw (List·Memᴰ·eq-of-singleton m) h)) (round-spares (begun Q d) ds g))))
 
   pub fill-spares : (Q : Label) → ((d : ℕ) → absent d ≡ true → looked z Q d ≡ true → ⊥) → Q .rebuilding < z .n → (more : ℕ) (v : ℕ → ℕ → X) → Spares absent (fill K Q more v)
   unfolding fill-batch

@@ -1,4 +1,4 @@
--- EVERY DISK HAS THE C6 SHAPE AT EVERY MOMENT, as long as every disk that is put in has it (zeros have it, and an older disk of the shelf kept it).
+-- EVERY DISK HAS THE C6 SHAPE AT EVERY MOMENT, as long as every disk that is put in has it (one without a label of this shelf has it, and an older disk of the shelf kept it).
 use Prim.Native.Nat.{ℕ, zero, suc, _+_, _≤_, _<_}
 use mathlib.Core.Path.{_≡_, refl, sym, ap, subst, _∙_}
 use mathlib.Core.Bool.{Bool, true, false, not, _&&_, _||_, true≢false, false≢true, or-true}
@@ -17,7 +17,7 @@ use Rattle.protocol.specs.Redo.{redo}
 use Rattle.protocol.specs.Label.{Label, again, Size, belief, Quorum, LabelCodec, copy, copy-same, round, prep}
 use Rattle.protocol.specs.Startup.{behind, behind-false, disowned, newest, newest-is, newest-top, seen, stale, gone, gone-absent, parts, late, level-to, again-to, last-to, rounds, L, M, M-positive, L-valid}
 use Rattle.protocol.specs.Decide.{data-place, Touch, Looked, redo-each, turn-run, turn-during, settled, startup, Accepted}
-use Rattle.protocol.specs.Shape.{not-not, copy-side, Shape, Low, Top, Shapes, round-shape, prep-shape}
+use Rattle.protocol.specs.Shape.{not-not, copy-side, shape-same, Low, Top, ShapesBy, round-shape, prep-shape}
 
 module _ {X : Type 0} (z : Size) (W : Quorum (z .n)) (C : LabelCodec X (z .n)) (K : RecordCodec X) where
   -- disk d has generation q, and is ready for the next one
@@ -34,21 +34,13 @@ module _ {X : Type 0} (z : Size) (W : Quorum (z .n)) (C : LabelCodec X (z .n)) (
   pub labels-kept : (f : Image X) (k : Place) (v : X) → data-place k ≡ true → (d : ℕ) (b : Bool) → update f k v (label d b) ≡ f (label d b)
   labels-kept f k v p d b = update-other f k v (label d b) (λ q. false≢true (ap data-place q ∙ p))
 
-  pub shape-same : (f g : Image X) (d : ℕ) → ((b : Bool) → g (label d b) ≡ f (label d b)) → Shape C f d → Shape C g d
-  shape-same f g d e s =
-      let c : (b : Bool) → copy C g d b .generation ≡ copy C f d b .generation = λ b. ap (λ (l : Label). l .generation) (copy-same C f g d b (e b)) in
-      record {
-        calm = λ b. ⊎-elim (λ q. inl (e b ∙ q)) (λ q. inr (omega (arith, q, c b))) (s .calm b);
-        follow = λ b p q. ⊎-elim (λ y. inl (omega (arith, y, c b, c (not b)))) (λ y. inr (omega (arith, y, c b, c (not b)))) (s .follow b (omega (arith, p, c b)) (omega (arith, q, c (not b))));
-      }
-
   pub top-same : (f g : Image X) (d a : ℕ) → ((b : Bool) → g (label d b) ≡ f (label d b)) → Top C f d a → Top C g d a
   top-same f g d a e t =
       let c : (b : Bool) → copy C g d b .generation ≡ copy C f d b .generation = λ b. ap (λ (l : Label). l .generation) (copy-same C f g d b (e b)) in
       (c (C .side (suc a)) ∙ t .0, ⊎-elim (λ q. inl (e (C .side a) ∙ q)) (λ q. inr (q .0, c (C .side a) ∙ q .1)) (t .1))
 
   -- START-UP, on disks that have the shape
-  module _ (A : ℕ → Bool) (f0 : Image X) (ok : Accepted z W C A f0) (h0 : Shapes C f0) where
+  module _ (A : ℕ → Bool) (f0 : Image X) (ok : Accepted z W C A f0) (strict : Bool) (h0 : ShapesBy C strict f0) where
     few-gone : W .few (gone z C A f0) ≡ true
     few-gone = W .part (gone z C A f0) (λ d. L z C A f0 .out d || gone z C A f0 d) (λ d i e. rw (e, or-true)) (ok .enough)
 
@@ -101,7 +93,7 @@ module _ {X : Type 0} (z : Size) (W : Quorum (z .n)) (C : LabelCodec X (z .n)) (
               let o : not b ≡ C .side g0 = ap not (s ∙ C .side-next g0) ∙ not-not (C .side g0) in
               let gb : copy C f0 d b .generation ≡ suc g0 = ap (λ (l : Label). l .generation) (sym q) ∙ (m ∙ M0) in
               subst (λ (y : Bool). (f0 (label d y) ≡ C .zeros) ⊎ ((0 < g0) × (copy C f0 d y .generation ≡ g0))) o
-              (⊎-elim inl (λ p. ⊎-elim (λ y. inr (omega (arith, gb, y, p), omega (arith, gb, y))) (λ y. absurd (omega (arith, gb, y, newest-top z W C A f0 d (not b), m, M0))) (h0 d i .follow b (omega (arith, gb)) p)) (h0 d i .calm (not b)))
+              (⊎-elim inl (λ p. ⊎-elim (λ y. inr (omega (arith, gb, y, p), omega (arith, gb, y))) (λ y. absurd (omega (arith, gb, y, newest-top z W C A f0 d (not b), m, M0))) (h0 d i .follow b (omega (arith, gb)) p)) (h0 d i .calm (not b) (inr (omega (arith, gb, ap (λ (y : Bool). copy C f0 d y .generation) (not-not b))))))
           near (b, q) (no m) =
               let e1 : newest z C A f0 d .generation ≡ g0 = omega (arith, close, top, M0) in
               inr (omega (arith, there, e1), subst (λ (y : Bool). copy C f0 d y .generation ≡ g0) (at b q ∙ ap (C .side) e1) (ap (λ (l : Label). l .generation) (sym q) ∙ e1))
@@ -155,7 +147,7 @@ module _ {X : Type 0} (z : Size) (W : Quorum (z .n)) (C : LabelCodec X (z .n)) (
     abbrev Everyone : Image X → Type 0
     Everyone f = (d : ℕ) → d < z .n → A d ≡ false → Top C f d (suc m)
 
-    rounds-shape : During (after f0) (rounds z C A f0) (Shapes C) × Always (run (after f0) (rounds z C A f0)) (λ f. Shapes C f × Everyone f)
+    rounds-shape : During (after f0) (rounds z C A f0) (ShapesBy C strict) × Always (run (after f0) (rounds z C A f0)) (λ f. ShapesBy C strict f × Everyone f)
     unfolding rounds level-to again-to last-to
     rounds-shape = go m refl
       where
@@ -163,10 +155,10 @@ module _ {X : Type 0} (z : Size) (W : Quorum (z .n)) (C : LabelCodec X (z .n)) (
         everybody f ls ps d i a true e = ls d (in-slots (λ x. not (A x) && stale z C A f0 x) (z .n) d i (not-and (A d) (stale z C A f0 d) a (gone-true d i a e)))
         everybody f ls ps d i a false e = ps d (in-slots (λ x. not (gone z C A f0 x)) (z .n) d i (rw e))
 
-        go : (a : ℕ) → M z C A f0 ≡ a → During (after f0) (rounds z C A f0) (Shapes C) × Always (run (after f0) (rounds z C A f0)) (λ f. Shapes C f × Everyone f)
+        go : (a : ℕ) → M z C A f0 ≡ a → During (after f0) (rounds z C A f0) (ShapesBy C strict) × Always (run (after f0) (rounds z C A f0)) (λ f. ShapesBy C strict f × Everyone f)
         go zero e = absurd (omega (arith, some, e))
         go (suc g0) e =
-            let P = Shapes C in
+            let P = ShapesBy C strict in
             let ps = parts z C A f0 in
             let ls = late z C A f0 in
             let l = L z C A f0 in
@@ -187,18 +179,18 @@ module _ {X : Type 0} (z : Size) (W : Quorum (z .n)) (C : LabelCodec X (z .n)) (
             let s2 = sane-run w1 A2 s1 in
             let s3 = sane-run w2 A3 s2 in
             let s4 = sane-run w3 A4 s3 in
-            let r1 = round-shape C l g0 ps Aside aside-put (valid .0 ∙ e) (valid .1) (λ d x. part-in d x .0) w s0
+            let r1 = round-shape C strict l g0 ps Aside aside-put (valid .0 ∙ e) (valid .1) (λ d x. part-in d x .0) w s0
             (always-after (λ f. P f × ((d : ℕ) → List·Memᴰ d ps → Low C f d g0) × Aside f) f0 (h0, (λ d x. let y = part-in d x in part-low g0 e d (y .0) (y .1)), λ d b x. refl)) in
             let t2 : Always w1 (λ f. P f × ((d : ℕ) → List·Memᴰ d ps → Low C f d m) × Aside f) =
             always-map (λ f. P f × ((d : ℕ) → List·Memᴰ d ps → Top C f d g0) × Aside f) (λ f. P f × ((d : ℕ) → List·Memᴰ d ps → Low C f d m) × Aside f) w1 (λ f o. (o .0, (λ d x. has-low f d m (g0, e, o .1 d x)), o .2)) (r1 .1) in
-            let r2 = round-shape C l1 m ps Aside aside-put refl (ok .fits1) (λ d x. part-in d x .0) w1 s1 t2 in
+            let r2 = round-shape C strict l1 m ps Aside aside-put refl (ok .fits1) (λ d x. part-in d x .0) w1 s1 t2 in
             let t3 : Always w2 (λ f. P f × ((d : ℕ) → List·Memᴰ d ps → Low C f d (suc m)) × Aside f) =
             always-map (λ f. P f × ((d : ℕ) → List·Memᴰ d ps → Top C f d m) × Aside f) (λ f. P f × ((d : ℕ) → List·Memᴰ d ps → Low C f d (suc m)) × Aside f) w2 (λ f o. (o .0, (λ d x. has-low f d (suc m) (m, refl, o .1 d x)), o .2)) (r2 .1) in
-            let r3 = round-shape C l2 (suc m) ps Aside aside-put refl (ok .fits2) (λ d x. part-in d x .0) w2 s2 t3 in
+            let r3 = round-shape C strict l2 (suc m) ps Aside aside-put refl (ok .fits2) (λ d x. part-in d x .0) w2 s2 t3 in
             let t4 : Always w3 (λ f. P f × ((d : ℕ) (b : Bool) → List·Memᴰ d ls → f (label d b) ≡ f0 (label d b)) × Parts f) =
             always-map (λ f. P f × ((d : ℕ) → List·Memᴰ d ps → Top C f d (suc m)) × Aside f) (λ f. P f × ((d : ℕ) (b : Bool) → List·Memᴰ d ls → f (label d b) ≡ f0 (label d b)) × Parts f) w3 (λ f o. (o .0, o .2, o .1)) (r3 .1) in
-            let r4 = prep-shape C f0 (suc m) l2 ls Parts parts-put (omega arith) (ok .fits1') (λ d x. late-in d x .0) w3 s3 t4 in
-            let r5 = round-shape C l2 (suc m) ls Parts parts-put refl (ok .fits2) (λ d x. late-in d x .0) w4 s4 (r4 .1) in
+            let r4 = prep-shape C strict f0 (suc m) l2 ls Parts parts-put (omega arith) (ok .fits1') (λ d x. late-in d x .0) w3 s3 t4 in
+            let r5 = round-shape C strict l2 (suc m) ls Parts parts-put refl (ok .fits2) (λ d x. late-in d x .0) w4 s4 (r4 .1) in
             let u1 = during-map (λ f. P f × Aside f) P w A1 (λ f o. o .0) (r1 .0) in
             let u2 = during-map (λ f. P f × Aside f) P w1 A2 (λ f o. o .0) (r2 .0) in
             let u3 = during-map (λ f. P f × Aside f) P w2 A3 (λ f o. o .0) (r3 .0) in
@@ -210,13 +202,13 @@ module _ {X : Type 0} (z : Size) (W : Quorum (z .n)) (C : LabelCodec X (z .n)) (
             )
 
     -- the log part puts no label
-    pub start-shape : During (after f0) (startup z C K A f0) (Shapes C) × Always (run (after f0) (startup z C K A f0)) (λ f. Shapes C f × Everyone f)
+    pub start-shape : During (after f0) (startup z C K A f0) (ShapesBy C strict) × Always (run (after f0) (startup z C K A f0)) (λ f. ShapesBy C strict f × Everyone f)
     unfolding startup Touch
     start-shape =
-        let P : Image X → Type 0 = λ f. Shapes C f × Everyone f in
+        let P : Image X → Type 0 = λ f. ShapesBy C strict f × Everyone f in
         let B = belief z l2 in
         let w1 = run (after f0) (rounds z C A f0) in
         let acts = redo K B f0 in
         let r = rounds-shape in
-        let a : During w1 acts P = each-during (Touch B) (Looked B) P (λ f k v t o. ((λ d i. shape-same f (update f k v) d (λ b. labels-kept f k v (t .0) d b) (o .0 d i)), λ d i x. top-same f (update f k v) d (suc m) (λ b. labels-kept f k v (t .0) d b) (o .1 d i x))) w1 acts (sane-run (after f0) (rounds z C A f0) (sane-after f0)) (r .1) (redo-each K B f0) in
-        (turn-during (Shapes C) (after f0) (rounds z C A f0) acts (r .0) (during-map P (Shapes C) w1 acts (λ f o. o .0) a), rw turn-run (during-end P w1 acts a))
+        let a : During w1 acts P = each-during (Touch B) (Looked B) P (λ f k v t o. ((λ d i. shape-same C strict f (update f k v) d (λ b. labels-kept f k v (t .0) d b) (o .0 d i)), λ d i x. top-same f (update f k v) d (suc m) (λ b. labels-kept f k v (t .0) d b) (o .1 d i x))) w1 acts (sane-run (after f0) (rounds z C A f0) (sane-after f0)) (r .1) (redo-each K B f0) in
+        (turn-during (ShapesBy C strict) (after f0) (rounds z C A f0) acts (r .0) (during-map P (ShapesBy C strict) w1 acts (λ f o. o .0) a), rw turn-run (during-end P w1 acts a))

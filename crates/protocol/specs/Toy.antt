@@ -3,7 +3,7 @@
 use Prim.Native.Nat.{ℕ, zero, suc, _+_, _*_, _≤_, _<_}
 use mathlib.Core.Path.{_≡_, refl, sym, ap, ap₂, _∙_, fun-ext}
 use mathlib.Core.Bool.{Bool, true, false, cond, not, _&&_, _||_, Bool·beq, true≢false, false≢true}
-use mathlib.Core.Logic.{_⊎_, ⊎-elim, inl, inr}
+use mathlib.Core.Logic.{_⊎_, ⊎-elim, inl, inr, _≢_}
 use native.Mathlib.Omega.{arith}
 use lib.Dec.{eqb, ltb, leb}
 use borrow.Author.Tests.{leb-true, le-leb, ltb-true, ltb-false, lt-ltb, eq-eqb}
@@ -11,18 +11,19 @@ use Rattle.protocol.specs.Log.{RecordCodec}
 use Rattle.protocol.specs.Write.{both}
 use Rattle.protocol.specs.Label.{Label, Size, Quorum, LabelCodec}
 use Rattle.protocol.specs.Count.{at-most, tally}
-use Rattle.protocol.specs.Host.{all-sound, several, Blocks, set-block, Code}
+use Rattle.protocol.specs.Host.{accused, blames, all-sound, several, Blocks, set-block, Code}
 use Rattle.protocol.specs.Program.{Stamps, Proper, Medium}
 
 -- 3 slots, 1 stripe
 abbrev pub size : Size
 size = record { n = 3; T = 1 }
 
--- zeros; a datum; both data of a stripe; a label: generation, which of the three slots are out, the one being rebuilt, mark; a log sector: stamp, stripe, which slots are changed, content
+-- zeros; a datum; both data of a stripe; a label of another shelf: its generation; a label: generation, which of the three slots are out, the one being rebuilt, mark; a log sector: stamp, stripe, which slots are changed, content
 pub data Sector : Type 0 where
   blank : Sector
   datum : ℕ → Sector
   pair : Sector → Sector → Sector
+  other : ℕ → Sector
   told : ℕ → Bool → Bool → Bool → ℕ → ℕ → Sector
   kept : ℕ → ℕ → Bool → Bool → Bool → Sector → Sector
 
@@ -30,6 +31,7 @@ abbrev pub zero-sector : Sector → Bool
 zero-sector blank = true
 zero-sector (datum a) = false
 zero-sector (pair x y) = false
+zero-sector (other g) = false
 zero-sector (told g a b c r m) = false
 zero-sector (kept s t a b c x) = false
 
@@ -37,6 +39,7 @@ pub zero-sector-of : (x : Sector) → zero-sector x ≡ true → x ≡ blank
 zero-sector-of blank h = refl
 zero-sector-of (datum a) h = absurd (false≢true h)
 zero-sector-of (pair x y) h = absurd (false≢true h)
+zero-sector-of (other g) h = absurd (false≢true h)
 zero-sector-of (told g a b c r m) h = absurd (false≢true h)
 zero-sector-of (kept s t a b c x) h = absurd (false≢true h)
 
@@ -81,6 +84,7 @@ abbrev pub labelOf : Bool → Sector → Label
 labelOf s blank = record { generation = 0; out = λ d. false; rebuilding = 3; mark = 0 }
 labelOf s (datum a) = record { generation = 0; out = λ d. false; rebuilding = 3; mark = 0 }
 labelOf s (pair x y) = record { generation = 0; out = λ d. false; rebuilding = 3; mark = 0 }
+labelOf s (other g) = record { generation = 0; out = λ d. false; rebuilding = 3; mark = 0 }
 labelOf s (told g a b c r m) = record { generation = cond (valid s g (flags a b c) r m) g 0; out = flags a b c; rebuilding = r; mark = m }
 labelOf s (kept u t a b c x) = record { generation = 0; out = λ d. false; rebuilding = 3; mark = 0 }
 
@@ -112,6 +116,7 @@ pub labels-back : (d : ℕ) (s : Bool) (x : Sector) → 0 < labelOf s x .generat
 labels-back d s blank h = absurd (omega arith)
 labels-back d s (datum a) h = absurd (omega arith)
 labels-back d s (pair x y) h = absurd (omega arith)
+labels-back d s (other g) h = absurd (omega arith)
 labels-back d s (kept u t a b c x) h = absurd (omega arith)
 labels-back d s (told g a b c r m) h = go (valid s g (flags a b c) r m) refl h
   where
@@ -151,6 +156,7 @@ pub own-side : (s : Bool) (x : Sector) → 0 < labelOf s x .generation → s ≡
 own-side s blank h = absurd (omega arith)
 own-side s (datum a) h = absurd (omega arith)
 own-side s (pair x y) h = absurd (omega arith)
+own-side s (other g) h = absurd (omega arith)
 own-side s (kept u t a b c x) h = absurd (omega arith)
 own-side s (told g a b c r m) h = go (valid s g (flags a b c) r m) refl h
   where
@@ -163,6 +169,23 @@ labels-forth d l f =
     let e : valid (odd (l .generation)) (l .generation) (flags (l .out 0) (l .out 1) (l .out 2)) (l .rebuilding) (l .mark) ≡ true = rw (beq-self (odd (l .generation)), le-leb (l .generation) 1000 (f .low), rebuilding-fits l f, mark-fits l f) in
     let o : flags (l .out 0) (l .out 1) (l .out 2) ≡ l .out = fun-ext (flags-of (l .out) (f .sound .inside)) in
     λ i. record { generation = cond (e i) (l .generation) 0; out = o i; rebuilding = l .rebuilding; mark = l .mark }
+
+-- a label of another shelf, in its own sector
+abbrev pub strangeIn : Bool → Sector → ℕ
+strangeIn s blank = 0
+strangeIn s (datum a) = 0
+strangeIn s (pair x y) = 0
+strangeIn s (other g) = cond (Bool·beq s (odd g)) g 0
+strangeIn s (told g a b c r m) = 0
+strangeIn s (kept u t a b c x) = 0
+
+pub strange-none : (s : Bool) (x : Sector) → 0 < strangeIn s x → labelOf s x .generation ≡ 0
+strange-none s blank h = refl
+strange-none s (datum a) h = refl
+strange-none s (pair x y) h = refl
+strange-none s (other g) h = refl
+strange-none s (told g a b c r m) h = absurd (omega arith)
+strange-none s (kept u t a b c x) h = refl
 
 abbrev pub labels : LabelCodec Sector (size .n)
 labels =
@@ -177,12 +200,17 @@ labels =
       decode-zeros = λ d b. refl;
       side-next = λ g. refl;
       decode-side = λ d b x h. own-side b x h;
+      strange = λ d b x. strangeIn b x;
+      strange-none = λ d b x h. strange-none b x h;
+      strange-zeros = λ d b. refl;
+      strange-encode = λ d l i h. refl;
     }
 
 abbrev pub stampOf : Sector → ℕ
 stampOf blank = 0
 stampOf (datum a) = 0
 stampOf (pair x y) = 0
+stampOf (other g) = 0
 stampOf (told g a b c r m) = 0
 stampOf (kept s t a b c x) = s
 
@@ -190,6 +218,7 @@ abbrev pub stripeIn : Sector → ℕ
 stripeIn blank = 0
 stripeIn (datum a) = 0
 stripeIn (pair x y) = 0
+stripeIn (other g) = 0
 stripeIn (told g a b c r m) = 0
 stripeIn (kept s t a b c x) = t
 
@@ -197,6 +226,7 @@ abbrev pub changesIn : Sector → ℕ → Bool
 changesIn blank e = false
 changesIn (datum a) e = false
 changesIn (pair x y) e = false
+changesIn (other g) e = false
 changesIn (told g a b c r m) e = false
 changesIn (kept s t a b c x) e = flags a b c e
 
@@ -204,6 +234,7 @@ abbrev pub inner : Sector → Sector
 inner blank = blank
 inner (datum a) = blank
 inner (pair x y) = blank
+inner (other g) = blank
 inner (told g a b c r m) = blank
 inner (kept s t a b c x) = x
 
@@ -241,6 +272,7 @@ abbrev pub left : Sector → Sector
 left blank = blank
 left (datum a) = blank
 left (pair x y) = x
+left (other g) = blank
 left (told g a b c r m) = blank
 left (kept s t a b c x) = blank
 
@@ -248,6 +280,7 @@ abbrev pub right : Sector → Sector
 right blank = blank
 right (datum a) = blank
 right (pair x y) = y
+right (other g) = blank
 right (told g a b c r m) = blank
 right (kept s t a b c x) = blank
 
@@ -274,6 +307,7 @@ abbrev pub kind : Sector → ℕ
 kind blank = 0
 kind (datum a) = 1
 kind (pair x y) = 2
+kind (other g) = 5
 kind (told g a b c r m) = 3
 kind (kept s t a b c x) = 4
 
@@ -281,6 +315,7 @@ abbrev pub number : Sector → ℕ
 number blank = 0
 number (datum a) = suc a
 number (pair x y) = 0
+number (other g) = 0
 number (told g a b c r m) = 0
 number (kept s t a b c x) = 0
 
@@ -288,6 +323,7 @@ abbrev pub alike : Sector → Sector → Bool
 alike blank y = eqb (kind y) 0
 alike (datum a) y = eqb (number y) (suc a)
 alike (pair x x') y = eqb (kind y) 2 && (alike x (left y) && alike x' (right y))
+alike (other g) y = eqb (kind y) 5
 alike (told g a b c r m) y = eqb (kind y) 3
 alike (kept s t a b c x) y = eqb (kind y) 4
 
@@ -295,6 +331,7 @@ pub alike-self : (x : Sector) → alike x x ≡ true
 alike-self blank = refl
 alike-self (datum a) = eq-eqb (suc a) (suc a) refl
 alike-self (pair x x') = let p = alike-self x in let q = alike-self x' in rw (p, q)
+alike-self (other g) = refl
 alike-self (told g a b c r m) = refl
 alike-self (kept s t a b c x) = refl
 
@@ -313,6 +350,13 @@ reaches i zero = eqb 0 i
 reaches i (suc zero) = eqb 1 i
 reaches i (suc (suc zero)) = true
 reaches i (suc (suc (suc d))) = false
+
+-- a strip from the two others
+abbrev pub from-others : (ℕ → ℕ → Sector) → ℕ → ℕ → Sector
+from-others g zero j = left (g 2 j)
+from-others g (suc zero) j = right (g 2 j)
+from-others g (suc (suc zero)) j = joined (g 0 j) (g 1 j)
+from-others g (suc (suc (suc d))) j = blank
 
 unfoldable pub quorum : Quorum 3
 quorum = at-most 2 1 (omega arith)
@@ -346,12 +390,34 @@ code =
       scrub = λ t g. cond (alike (g 2 0) (joined (g 0 0) (g 1 0))) all-sound several;
       scrub-sound = λ t b g h. blameless b g h;
       broad = λ t i h a few. hit i h a few;
+      lies = λ t r. r;
+      mended = λ t g d j. from-others g d j;
+      at-home = λ t bad g i j h e. home bad g i j h e;
+      mends = λ t d b g h e j i. mended-right d b g h e j i;
+      accuses-it = λ t d r b g h e q. absurd (nobody (alike (g 2 0) (joined (g 0 0) (g 1 0))) r q);
+      sharp = false;
+      tells = λ e. absurd (false≢true e);
     }
   where
     blameless : (b : Blocks Sector) (g : ℕ → ℕ → Sector) → ((d j : ℕ) → d < 3 → j < 1 → g d j ≡ spread b d j) → cond (alike (g 2 0) (joined (g 0 0) (g 1 0))) all-sound several ≡ all-sound
     blameless b g h =
         let e : g 2 0 ≡ joined (g 0 0) (g 1 0) = h 2 0 (omega arith) (omega arith) ∙ sym (ap₂ joined (h 0 0 (omega arith) (omega arith)) (h 1 0 (omega arith) (omega arith))) in
         ap (λ (y : Bool). cond y all-sound several) (ap (λ (y : Sector). alike y (joined (g 0 0) (g 1 0))) e ∙ alike-self (joined (g 0 0) (g 1 0)))
+
+    home : (bad : ℕ → Bool) (g : ℕ → ℕ → Sector) (i j : ℕ) → i < 2 → bad i ≡ false → gather bad g i j ≡ g i j
+    home bad g zero j h e = rw e
+    home bad g (suc zero) j h e = rw e
+    home bad g (suc (suc i)) j h e = absurd (omega arith)
+
+    mended-right : (d : ℕ) (b : Blocks Sector) (g : ℕ → ℕ → Sector) → d < 3 → ((e j : ℕ) → e < 3 → e ≢ d → j < 1 → g e j ≡ spread b e j) → (j : ℕ) → j < 1 → from-others g d j ≡ spread b d j
+    mended-right zero b g h e j i = ap left (e 2 j (omega arith) (λ q. omega arith) i) ∙ left-back (b 0 j) (b 1 j)
+    mended-right (suc zero) b g h e j i = ap right (e 2 j (omega arith) (λ q. omega arith) i) ∙ right-back (b 0 j) (b 1 j)
+    mended-right (suc (suc zero)) b g h e j i = ap₂ joined (e 0 j (omega arith) (λ q. omega arith) i) (e 1 j (omega arith) (λ q. omega arith) i)
+    mended-right (suc (suc (suc d))) b g h e j i = absurd (omega arith)
+
+    nobody : (y : Bool) (r : ℕ) → cond y all-sound several ≡ accused r → ⊥
+    nobody true r q = false≢true (ap blames q)
+    nobody false r q = false≢true (ap blames q)
 
     low : (i d : ℕ) → reaches i d ≡ true → d < 3
     low i zero e = omega arith

@@ -2,7 +2,7 @@
 -- program remembers beside the state of a request that begins is what it remembers of that request. Assumes nothing.
 use mathlib.Core.Path.{_≡_, sym, ap, ap₂, _∙_, fun-ext}
 use mathlib.Core.Bool.{Bool, true, false, not, _||_}
-use mathlib.Core.List.{List}
+use mathlib.Core.List.{List, []}
 use Prim.Native.Nat.{ℕ, _+_, _*_}
 use native.Mathlib.Omega.{arith}
 use lib.Dec.{ltb}
@@ -25,7 +25,7 @@ use Rattle.refine.specs.Disks.{curOf, seen-mask}
 use Rattle.refine.specs.ToDo.{toDo}
 use Rattle.refine.specs.Lists.{Says, create-list, change-list}
 use Rattle.refine.specs.StartList.{settles, Starts, start-list}
-use Rattle.refine.specs.Tied.{ownOf, memoryBy, memoryOf}
+use Rattle.refine.specs.Tied.{ownOf, writeIn, writeMemory, memoryBy, memoryOf}
 
 -- a request that begins, with what it ends with
 with-own : {k : Kind Sector} {l : List (Action Sector)} {o x y : Own} → x ≡ y → doing k l o x ≡ doing k l o y
@@ -39,9 +39,9 @@ module _ (z : Shelf) (s : State) (img : List ℕ) where
   abbrev pub absentOf : ℕ → Bool
   absentOf = beyond (slots z) (inMask (s .absent))
 
-  remembers : (k : state.Kind) (l : List (Action Sector)) → s .kind ≡ k → toDo z s img ≡ l → memoryOf z s img ≡ memoryBy k z s l
+  remembers : (k : state.Kind) (l : List (Action Sector)) → s .kind ≡ k → toDo z s [] img ≡ l → memoryOf z s [] img ≡ memoryBy k z s (writeMemory z (writeIn z s []) s [] (curOf z img)) l
   unfolding memoryOf
-  remembers k l e q = ap₂ (λ (x : state.Kind) (y : List (Action Sector)). memoryBy x z s y) e q
+  remembers k l e q = ap₂ (λ (x : state.Kind) (y : List (Action Sector)). memoryBy x z s (writeMemory z (writeIn z s []) s [] (curOf z img)) y) e q
 
   -- the epoch's first stamp
   own-is : (l : Label) → labelOf z (s .next) ≡ l → s .epoch ≡ l .generation → s .count ≡ 0
@@ -53,7 +53,7 @@ module _ (z : Shelf) (s : State) (img : List ℕ) where
   module _ (at-first : s .cursor ≡ record { stage = 0; slot = 0; sector = 0 }) where
     -- CREATE
     pub create-asked : s .kind ≡ Creating → Says z (s .marks .present) (λ d. true) → labelOf z (s .next) ≡ new-label (slots z) 1 → s .absent ≡ 0 → s .epoch ≡ 1 → s .count ≡ 0
-        → memoryOf z s img ≡ asked-create (size z) (no-sets (slots z)) (labels z) (records z) (any-code z) stamps (any-sectors z)
+        → memoryOf z s [] img ≡ asked-create (size z) (no-sets (slots z)) (labels z) (records z) (any-code z) stamps (any-sectors z)
     create-asked kind says label-is none epoch count =
         let a : absentOf ≡ beyond (slots z) (λ d. false) = fun-ext (λ d. ap (λ (b : Bool). b || not (ltb d (slots z))) (ap (λ (x : ℕ). inMask x d) none ∙ in-past 0 0 d (omega arith) (omega arith))) in
         let o : ownOf z s (s .next) ≡ created (size z) (no-sets (slots z)) (labels z) (records z) (any-code z) stamps (any-sectors z) =
@@ -62,7 +62,7 @@ module _ (z : Shelf) (s : State) (img : List ℕ) where
 
     -- TAKING SLOT d OUT
     pub out-asked : (d : ℕ) → s .kind ≡ Labelling → Says z (s .marks .present) (λ e. not (absentOf e)) → labelOf z (s .next) ≡ outed (slots z) (labelOf z (s .now)) d
-        → memoryOf z s img ≡ asked-out (size z) (no-sets (slots z)) (labels z) (records z) (any-code z) stamps (any-sectors z) (ownOf z s (s .now)) d
+        → memoryOf z s [] img ≡ asked-out (size z) (no-sets (slots z)) (labels z) (records z) (any-code z) stamps (any-sectors z) (ownOf z s (s .now)) d
     out-asked d kind says label-is =
         let N = outed (slots z) (labelOf z (s .now)) d in
         let o : ownOf z s (s .next) ≡ relabelled (size z) (no-sets (slots z)) (labels z) (records z) (any-code z) stamps (any-sectors z) (ownOf z s (s .now)) N =
@@ -71,7 +71,7 @@ module _ (z : Shelf) (s : State) (img : List ℕ) where
 
   -- START-UP, by what is seen of the present slots
   pub start-asked : Starts z absentOf img s → s .epoch ≡ settles z absentOf img .generation → s .count ≡ 0
-      → memoryOf z s img ≡ asked-start (size z) (no-sets (slots z)) (labels z) (records z) (any-code z) stamps (any-sectors z) absentOf (mask (size z) (no-sets (slots z)) (labels z) (records z) (any-code z) stamps (any-sectors z) absentOf (curOf z img))
+      → memoryOf z s [] img ≡ asked-start (size z) (no-sets (slots z)) (labels z) (records z) (any-code z) stamps (any-sectors z) absentOf (mask (size z) (no-sets (slots z)) (labels z) (records z) (any-code z) stamps (any-sectors z) absentOf (curOf z img))
   start-asked h epoch count =
       remembers Starting _ (h .kind) (start-list z absentOf img s h) ∙ with-both (own-is (settles z absentOf img) (h .next) epoch count)
       ∙ ap (asked-start (size z) (no-sets (slots z)) (labels z) (records z) (any-code z) stamps (any-sectors z) absentOf) (sym (seen-mask z absentOf img))

@@ -3,7 +3,7 @@
 use mathlib.Core.Path.{_≡_, refl, sym, ap, subst, _∙_}
 use mathlib.Core.Logic.{inl, inr}
 use mathlib.Core.Bool.{Bool, true, false, not, false≢true}
-use mathlib.Core.List.{List}
+use mathlib.Core.List.{List, []}
 use Prim.Native.Nat.{ℕ, _+_, _≤_, _<_}
 use native.Mathlib.Omega.{arith}
 use lib.Dec.{ltb, leb}
@@ -18,18 +18,18 @@ use Rattle.label.specs.declared.fields.Label as bytes
 use Rattle.label.proofs.Fits.{fits-says}
 use Rattle.protocol.specs.Label.{belief, believe-of}
 use Rattle.protocol.specs.Startup.{gone, stale}
-use Rattle.codecs.specs.Shelf.{Shelf, slots, geometry, size}
+use Rattle.codecs.specs.Shelf.{Shelf, slots, geometry, size, some-sectors}
 use Rattle.codecs.specs.Labels.{ours, labels}
 use Rattle.codecs.specs.Records.{records}
 use Rattle.shelf.specs.Act.{named}
-use Rattle.shelf.specs.Stage.{again, stageAt}
+use Rattle.shelf.specs.Stage.{again, stageAt, stageOf}
 use Rattle.shelf.specs.Step.{sound}
 use Rattle.shelf.specs.declared.state.State.{State}
 use Rattle.shelf.specs.declared.state.Kind.{Kind}
 use Rattle.shelf.specs.declared.state.Kind.the-variants.{Creating, Starting, Labelling}
 use Rattle.refine.specs.Disks.{Disks}
-use Rattle.refine.specs.ToDo.{round-each, create-each, start-each}
-use Rattle.refine.specs.Steps.{Present, Tells, Can, Fair}
+use Rattle.refine.specs.ToDo.{round-each, create-each, start-each, stampIn}
+use Rattle.refine.specs.Steps.{Present, Tells, Can, Narrow, Fair, first-narrow}
 use Rattle.refine.specs.Lists.{Says}
 use Rattle.refine.specs.Given.{shelf-geometry}
 use Rattle.refine.specs.StartList.{LogPart, sight, settles, B, last, adopts, readies, forwards, wipes, Starts, gone-there, seen-there}
@@ -64,17 +64,25 @@ module _ (z : Shelf) (l : bytes.Label) (same : ours z l ≡ true) (fit : fitsOf 
 
 -- ---- requests
 
-module _ (z : Shelf) (s : State) (img : List ℕ) (in-range : sound s ≡ true) (ours-now : ours z (s .now) ≡ true) (disks : Disks z img) where
-  fair-by : (k : Kind) → s .kind ≡ k → ((i : ℕ) → Can z (s .absent) (stageAt k s i)) → Fair z s img
-  fair-by k e h = record { in-range = in-range; ours-now = ours-now; disks = disks; stages = λ i. subst (λ (x : Kind). Can z (s .absent) (stageAt x s i)) (sym e) (h i) }
+module _ (z : Shelf) (s : State) (img : List ℕ) (in-range : sound s ≡ true) (ours-now : ours z (s .now) ≡ true) (disks : Disks z img) (first : s .cursor .sector ≡ 0) where
+  fair-by : (k : Kind) → s .kind ≡ k → ((i : ℕ) → Can z (s .absent) (stampIn s) [] (stageAt k s i)) → Fair z s [] img
+  fair-by k e h =
+      let c : (i : ℕ) → Can z (s .absent) (stampIn s) [] (stageAt (s .kind) s i) = λ i. subst (λ (x : Kind). Can z (s .absent) (stampIn s) [] (stageAt x s i)) (sym e) (h i) in
+      record {
+        in-range = in-range;
+        ours-now = ours-now;
+        disks = disks;
+        narrow = subst (Narrow (z .c) (stageOf s)) (sym first) (first-narrow z (s .absent) (stampIn s) [] (stageOf s) (c (s .cursor .stage)));
+        stages = c;
+      }
 
   -- CREATE
-  pub create-fair : s .kind ≡ Creating → Present z (s .absent) (s .marks .present) → Tells z (s .next) → Fair z s img
-  create-fair e p t = fair-by Creating e (create-each (Can z (s .absent)) tt s p (p, t))
+  pub create-fair : s .kind ≡ Creating → Present z (s .absent) (s .marks .present) → Tells z (s .next) → Fair z s [] img
+  create-fair e p t = fair-by Creating e (create-each (Can z (s .absent) (stampIn s) []) tt s p (p, t))
 
   -- A LABEL CHANGE
-  pub change-fair : s .kind ≡ Labelling → Present z (s .absent) (s .marks .present) → Tells z (s .next) → Fair z s img
-  change-fair e p t = fair-by Labelling e (round-each (Can z (s .absent)) tt (s .marks .present) (s .next) (p, t) p)
+  pub change-fair : s .kind ≡ Labelling → Present z (s .absent) (s .marks .present) → Tells z (s .next) → Fair z s [] img
+  change-fair e p t = fair-by Labelling e (round-each (Can z (s .absent) (stampIn s) []) tt (s .marks .present) (s .next) (p, t) p)
 
   -- START-UP
   module _ (A : ℕ → Bool) (h : Starts z A img s) (absent : Says z (s .absent) A) where
@@ -119,7 +127,7 @@ module _ (z : Shelf) (s : State) (img : List ℕ) (in-range : sound s ≡ true) 
         by (inr (inl p)) = (present-by (s .marks .redo) (forwards z A img) (p .3) forwards-there, λ f d i e. omega (arith, p .2, forwards-in d (sym (p .3 d i) ∙ e)))
         by (inr (inr p)) = (present-by (s .marks .redo) (wipes z A img) (p .2) wipes-there, λ f d i e. absurd (false≢true (sym (p .1) ∙ f)))
 
-    pub start-fair : ours z (s .next) ≡ true → fitsOf (s .next) ≡ true → s .now .generation + 1 ≤ mostGeneration → Fair z s img
+    pub start-fair : ours z (s .next) ≡ true → fitsOf (s .next) ≡ true → s .now .generation + 1 ≤ mostGeneration → Fair z s [] img
     unfolding sound
     start-fair ours-next fit-next high =
         let fit-now : fitsOf (s .now) ≡ true = and-left (fitsOf (s .now)) _ in-range in
@@ -129,7 +137,7 @@ module _ (z : Shelf) (s : State) (img : List ℕ) (in-range : sound s ≡ true) 
         let prep = present-by (s .marks .prep) (readies z A img) (h .prep) readies-there in
         let next = tells z (s .next) ours-next fit-next in
         fair-by Starting (h .kind)
-        (start-each (Can z (s .absent)) tt s
+        (start-each (Can z (s .absent) (stampIn s) []) tt s
         present parts prep late (redo-there .0)
         (parts, tells z (s .now) ours-now fit-now)
         (parts, tells-again z (s .now) ours-now fit-now (s .now .generation + 1) (omega arith) high)

@@ -58,7 +58,7 @@ use Rattle.shelf.specs.Step as Step
 use Rattle.shelf.specs.Limits.{mostStages}
 use Rattle.shelf.specs.declared.state.State.{State}
 use Rattle.shelf.specs.declared.state.Kind.{Kind}
-use Rattle.shelf.specs.declared.state.Kind.the-variants.{Nothing, Idle, Creating, Starting, Labelling}
+use Rattle.shelf.specs.declared.state.Kind.the-variants.{Nothing, Idle, Creating, Starting, Labelling, Writing, Beginning, Filling}
 use Rattle.shelf.specs.declared.state.Answer.{Answer}
 use Rattle.shelf.specs.declared.state.Answer.the-variants as answer
 use Rattle.requests.specs.Begun.{workBytes, begun}
@@ -76,7 +76,7 @@ use Rattle.refine.specs.Labels.{Led}
 use Rattle.refine.specs.Rounds.{beyond-below}
 use Rattle.refine.specs.ToDo.{toDo}
 use Rattle.refine.specs.Steps.{Fair}
-use Rattle.refine.specs.Tied.{ownOf, memoryOf, memoryBy, Same, programOf, Tied, step-tied}
+use Rattle.refine.specs.Tied.{ownOf, writeIn, writeMemory, memoryOf, memoryBy, plain, Same, programOf, Tied, step-tied}
 use Rattle.refine.specs.Requests.{goes, first-ours, create-begins, out-ours, out-begins}
 use Rattle.refine.specs.Ends.{nth}
 use Rattle.refine.specs.StartBegins.{start-begins}
@@ -119,8 +119,8 @@ pub data Calls (z : Shelf) : Moment → Moment → Type 1 where
   creates-late : {w : World Sector} {img : List ℕ} {h : Hand} (s : State) (k m c S number room : ℕ) → allZero img ≡ false → Calls z (at w img h) (at w img (handed h (createOf s k m c S number img room)))
   -- the state that was handed out last is handed back
   takes-out : {w : World Sector} {img : List ℕ} {s : State} (d room : ℕ) → Calls z (at w img (has s)) (at w img (handed (has s) (takeOutOf s d img room)))
-  steps : {w w' : World Sector} {img : List ℕ} {s : State} (room : ℕ) → Heard z w (stepWith s img room .stepped .answer) (stepWith s img room .image) w'
-      → Calls z (at w img (has s)) (at w' (stepWith s img room .image) (has (stepWith s img room .stepped .state)))
+  steps : {w w' : World Sector} {img : List ℕ} {s : State} (work : List ℕ) → Heard z w (stepWith s img work .stepped .answer) (stepWith s img work .image) w'
+      → Calls z (at w img (has s)) (at w' (stepWith s img work .image) (has (stepWith s img work .stepped .state)))
   -- power is lost: each sector holds something that its cache allows, each by itself; the state is lost
   cut : {w : World Sector} {img : List ℕ} {h : Hand} (left : List ℕ) → Disks z left → Possible w (curOf z left) → Calls z (at w img h) (at (after (curOf z left)) left none)
   -- the program dies: the state is lost
@@ -144,7 +144,7 @@ sets-call (creates s room) = []
 sets-call (creates-late s k m c S number room e) = []
 sets-call (starts {img = img} s g absent room sits) = outs (startOf s g absent img room)
 sets-call (takes-out {img = img} {s = s} d room) = outs (takeOutOf s d img room)
-sets-call (steps room heard) = []
+sets-call (steps work heard) = []
 sets-call (cut left d p) = []
 sets-call dies = []
 
@@ -170,12 +170,12 @@ blocks t i j = zeros
 -- what the protocol's program remembers
 abbrev pub memoryIn : Shelf → Hand → List ℕ → Memory Sector
 memoryIn z none img = nothing
-memoryIn z (has s) img = memoryOf z s img
+memoryIn z (has s) img = memoryOf z s [] img
 
 -- the state is of this shelf, and at rest or with a request under way that can be carried out
 abbrev InOrder : Shelf → Hand → List ℕ → Type 0
 InOrder z none img = Unit {0}
-InOrder z (has s) img = (ours z (s .next) ≡ true) × (Fair z s img ⊎ ((s .kind ≡ Idle) × (ours z (s .now) ≡ true)))
+InOrder z (has s) img = (ours z (s .next) ≡ true) × ((Fair z s [] img × (plain (s .kind) ≡ true)) ⊎ ((s .kind ≡ Idle) × (ours z (s .now) ≡ true)))
 
 -- what is asked of the sets that are left out: those of at most m slots are in the family
 abbrev pub Allowed : (z : Shelf) → Family z → List (ℕ → Bool) → Type 0
@@ -191,9 +191,9 @@ module _ (z : Shelf) where
   run-on l (even.goes {l = r} y x) h = even.goes y (run-on r x h)
 
   -- at rest the program remembers its own
-  pub rests : (s : State) (img : List ℕ) → s .kind ≡ Idle → memoryOf z s img ≡ idle (ownOf z s (s .now))
+  pub rests : (s : State) (img : List ℕ) → s .kind ≡ Idle → memoryOf z s [] img ≡ idle (ownOf z s (s .now))
   unfolding memoryOf
-  rests s img e = ap (λ (k : Kind). memoryBy k z s (toDo z s img)) e
+  rests s img e = ap (λ (k : Kind). memoryBy k z s (writeMemory z (writeIn z s []) s [] (curOf z img)) (toDo z s [] img)) e
 
 module _ (z : Shelf) (F : Family z) (first : Machine Sector) where
   -- the protocol's machine comes here from the first one by its own events, and its invariant holds for the family, with the host's blocks all zeros;
@@ -264,7 +264,7 @@ module _ (z : Shelf) (F : Family z) (first : Machine Sector) where
           let y : createOf s (z .k) (z .m) (z .c) (z .sectors) (z .number) img room .outcome ≡ Done = ap (λ (o : Outcome). begun o s fresh .outcome) e in
           let b = create-begins z img (t .disks) s room y in
           let q = goes (createAnswer (z .k) (z .m) (z .c) (z .sectors) img room) s fresh y .1 in
-          let m = ap (λ (x : State). memoryOf z x img) (sym q) ∙ b .1 in
+          let m = ap (λ (x : State). memoryOf z x [] img) (sym q) ∙ b .1 in
           record {
             disks = t .disks;
             reads = t .reads;
@@ -273,7 +273,7 @@ module _ (z : Shelf) (F : Family z) (first : Machine Sector) where
                 (asks img (t .reads) (off (t .reached)) _ create accepted (create-accepted z img (create-done (z .k) (z .m) (z .c) (z .sectors) img room e .1)) accepted-none (λ q x n. absurd (List·Memᴰ·not-nil n)) (λ p a. a));
             named = t .named;
             names = subst (λ (x : Memory Sector). Names z (leftIn z x)) (sym m) (create-names z);
-            order = (first-ours z img (t .disks), inl (subst (λ (x : State). Fair z x img) q (b .0)));
+            order = (first-ours z img (t .disks), inl (subst (λ (x : State). Fair z x [] img) q (b .0), refl));
           }
       by (Refused why) e = t
 
@@ -310,14 +310,14 @@ module _ (z : Shelf) (F : Family z) (first : Machine Sector) where
           ap (λ (x : Survey). bySurvey x s (geometry z) absent img room) e ∙ ap (λ (b : Bool). cond b (record { state = started (geometry z) absent p img; outcome = Done }) (record { state = s; outcome = Refused BadBuffer })) q in
           let in-family = subst (λ (x : Begun). Allowed z F (outs x)) is ok (inMask (p .next .out)) (List·Memᴰ·head refl) (start-few z img absent p e led) in
           let b = start-begins z img absent p led e (start-real z img absent p e led F in-family w (t .reads) blocks (off-w .keeps)) s room (ap (λ (x : Begun). x .outcome) is) in
-          let m = ap (λ (x : Begun). memoryOf z (x .state) img) (sym is) ∙ b .1 in
+          let m = ap (λ (x : Begun). memoryOf z (x .state) [] img) (sym is) ∙ b .1 in
           record {
             disks = t .disks;
             reads = t .reads;
             reached = subst (Reached w) (sym m) (asks img (t .reads) off-w _ (start (inMask absent)) accepted (start-accepted z img absent p e led) accepted-none (λ y. one-allowed (inMask (p .next .out)) _ (start-leaves z img absent p e led) in-family) (λ y a. a));
             named = t .named;
             names = subst (λ (x : Memory Sector). Names z (leftIn z x)) (sym m) (start-names z A _);
-            order = (ap (λ (x : Plan). ours z (x .next)) (survey-grounds (geometry z) img absent p e .is) ∙ settled-ours img absent (p .lead) (led .own), inl (subst (λ (x : Begun). Fair z (x .state) img) is (b .0)));
+            order = (ap (λ (x : Plan). ours z (x .next)) (survey-grounds (geometry z) img absent p e .is) ∙ settled-ours img absent (p .lead) (led .own), inl (subst (λ (x : Begun). Fair z (x .state) [] img) is (b .0), refl));
           }
 
       by : (x : Survey) → surveyOf (geometry z) img absent ≡ x → Tie w img (handed h (bySurvey x s (geometry z) absent img room))
@@ -349,12 +349,15 @@ module _ (z : Shelf) (F : Family z) (first : Machine Sector) where
   idle-is Creating e = absurd (false≢true e)
   idle-is Starting e = absurd (false≢true e)
   idle-is Labelling e = absurd (false≢true e)
+  idle-is Writing e = absurd (false≢true e)
+  idle-is Beginning e = absurd (false≢true e)
+  idle-is Filling e = absurd (false≢true e)
 
   out-kept : (w : World Sector) (img : List ℕ) (s : State) (d room : ℕ) → Allowed z F (outs (takeOutOf s d img room)) → Tie w img (has s) → Tie w img (handed (has s) (takeOutOf s d img room))
   out-kept w img s d room ok t = by (takeAnswer (s .now) (s .kind) (s .absent) img d room) refl
     where
       own : ours z (s .now) ≡ true
-      own = ⊎-elim (λ (f : Fair z s img). f .ours-now) (λ (q : (s .kind ≡ Idle) × (ours z (s .now) ≡ true)). q .1) (t .order .1)
+      own = ⊎-elim (λ (f : Fair z s [] img × (plain (s .kind) ≡ true)). f .0 .ours-now) (λ (q : (s .kind ≡ Idle) × (ours z (s .now) ≡ true)). q .1) (t .order .1)
 
       by : (o : Outcome) → takeAnswer (s .now) (s .kind) (s .absent) img d room ≡ o → Tie w img (handed (has s) (begun o s (tookOut s d)))
       by Done e =
@@ -362,7 +365,7 @@ module _ (z : Shelf) (F : Family z) (first : Machine Sector) where
           let in-family = subst (λ (o : Outcome). Allowed z F (outs (begun o s (tookOut s d)))) e ok (inMask (outed (s .now) d .out)) (List·Memᴰ·head refl) (out-few z img (t .disks) s own d room e) in
           let b = out-begins z img (t .disks) s own d room y in
           let q = goes (takeAnswer (s .now) (s .kind) (s .absent) img d room) s (tookOut s d) y .1 in
-          let m = ap (λ (x : State). memoryOf z x img) (sym q) ∙ b .1 in
+          let m = ap (λ (x : State). memoryOf z x [] img) (sym q) ∙ b .1 in
           let r = rests z s img (idle-is (s .kind) (take-done (s .now) (s .kind) (s .absent) img d room e .1 .at-rest)) in
           record {
             disks = t .disks;
@@ -370,7 +373,7 @@ module _ (z : Shelf) (F : Family z) (first : Machine Sector) where
             reached = subst (Reached w) (sym m) (asks img (t .reads) (subst (Reached w) r (t .reached)) _ (take-out d) accepted (out-accepted z img (t .disks) s own d room e) accepted-none (λ p. one-allowed (inMask (outed (s .now) d .out)) _ (out-leaves z img (t .disks) s own d room e) in-family) (λ p a. a));
             named = t .named;
             names = subst (λ (x : Memory Sector). Names z (leftIn z x)) (sym m) (out-names z (ownOf z s (s .now)) d);
-            order = (out-ours z img (t .disks) s own d, inl (subst (λ (x : State). Fair z x img) q (b .0)));
+            order = (out-ours z img (t .disks) s own d, inl (subst (λ (x : State). Fair z x [] img) q (b .0), refl));
           }
       by (Refused why) e = t
 
@@ -412,22 +415,22 @@ module _ (z : Shelf) (F : Family z) (first : Machine Sector) where
   heard-is w w' img (found x) a s c h = absurd s
 
   -- a step of a request under way
-  goes-kept : (w : World Sector) (img : List ℕ) (s : State) (m : Move) (w' : World Sector) → Tied z s img m → Tie w img (has s) → Heard z w (m .stepped .answer) (m .image) w' → Tie w' (m .image) (has (m .stepped .state))
+  goes-kept : (w : World Sector) (img : List ℕ) (s : State) (m : Move) (w' : World Sector) → Tied z s [] img m → Tie w img (has s) → Heard z w (m .stepped .answer) (m .image) w' → Tie w' (m .image) (has (m .stepped .state))
   goes-kept w img s m w' tied t h =
       let r = tied .reply in
       let o = off (t .reached) .keeps in
-      let n = subst (λ (y : Memory Sector × Reply Sector). Always (effect w (y .1)) (Named z) × Names z (leftIn z (y .0))) (tied .steps) (step-names z (memoryOf z s img) (curOf z img) w (o .sane) (t .named) (t .names)) in
+      let n = subst (λ (y : Memory Sector × Reply Sector). Always (effect w (y .1)) (Named z) × Names z (leftIn z (y .0))) (tied .steps) (step-names z (memoryOf z s [] img) (curOf z img) w (o .sane) (t .named) (t .names)) in
       let next-ours = ap (ours z) (tied .settles) ∙ t .order .0 in
       subst (λ (x : World Sector). Tie x (m .image) (has (m .stepped .state))) (heard-is w w' (m .image) r (m .stepped .answer) (tied .answers) (tied .acts w (t .reads)) h)
       (record {
-        disks = ⊎-elim (λ (f : Fair z (m .stepped .state) (m .image)). f .disks) (λ (q : m ≡ finished s img). subst (λ (x : Move). Disks z (x .image)) (sym q) (t .disks)) (tied .goes-on);
+        disks = ⊎-elim (λ (f : Fair z (m .stepped .state) [] (m .image)). f .disks) (λ (q : m ≡ finished s img). subst (λ (x : Move). Disks z (x .image)) (sym q) (t .disks)) (tied .goes-on);
         reads = tied .acts w (t .reads);
-        reached = asks img (t .reads) (t .reached) (memoryOf z (m .stepped .state) (m .image)) step r (tied .steps) (step-some r (m .stepped .answer) (tied .answers)) (λ e x n. step-leaves r (m .stepped .answer) (tied .answers) e x _ n) (step-same r (m .stepped .answer) (tied .answers));
+        reached = asks img (t .reads) (t .reached) (memoryOf z (m .stepped .state) [] (m .image)) step r (tied .steps) (step-some r (m .stepped .answer) (tied .answers)) (λ e x n. step-leaves r (m .stepped .answer) (tied .answers) e x _ n) (step-same r (m .stepped .answer) (tied .answers));
         named = n .0;
         names = n .1;
         order = (
           next-ours,
-          ⊎-elim (λ (f : Fair z (m .stepped .state) (m .image)). inl f)
+          ⊎-elim (λ (f : Fair z (m .stepped .state) [] (m .image)). inl (f, tied .keeps-plain))
               (λ (q : m ≡ finished s img). inr (ap (λ (x : Move). x .stepped .state .kind) q, ap (λ (x : Move). ours z (x .stepped .state .now)) q ∙ t .order .0)) (tied .goes-on),
         );
       })
@@ -442,27 +445,27 @@ module _ (z : Shelf) (F : Family z) (first : Machine Sector) where
   and-none true = refl
   and-none false = refl
 
-  step-rests : (s : State) (img : List ℕ) (room : ℕ) → s .kind ≡ Idle → stepWith s img room ≡ refuses s NotNow img
+  step-rests : (s : State) (img : List ℕ) (work : List ℕ) → s .kind ≡ Idle → stepWith s img work ≡ refuses s NotNow img
   unfolding sound stepMove
-  step-rests s img room k =
-      let no : sound s ≡ false = ap (λ (x : Kind). fitsOf (s .now) && (underWay x && (leb (s .cursor .stage) mostStages && ltb (s .cursor .sector) (s .now .c)))) k ∙ and-none (fitsOf (s .now)) in
-      step-unsound s img room no
-      ∙ ap (λ (b : Bool). cond b (cond (fitsImage (geometryOf (s .now)) (length img)) (Step.keeps s (walk mostStages s (geometryOf (s .now)) img)) (refuses s BadImage img)) (refuses s NotNow img)) no
+  step-rests s img work k =
+      let no : sound s ≡ false = ap (λ (x : Kind). fitsOf (s .now) && (underWay x && (leb (s .cursor .stage) mostStages && ltb (s .cursor .sector) (s .now .sectors)))) k ∙ and-none (fitsOf (s .now)) in
+      step-unsound s img work no
+      ∙ ap (λ (b : Bool). cond b (cond (fitsImage (geometryOf (s .now)) (length img)) (Step.keeps s (walk mostStages s (geometryOf (s .now)) work img)) (refuses s BadImage img)) (refuses s NotNow img)) no
 
   -- A STEP is the program's, or it is refused and nothing changes
-  pub step-is : (w : World Sector) (img : List ℕ) (s : State) (room : ℕ) → Tie w img (has s) → Tied z s img (stepWith s img room) ⊎ ((why : Refusal) × (stepWith s img room ≡ refuses s why img))
-  step-is w img s room t =
-      ⊎-elim (λ (f : Fair z s img). busy f (otherWork (s .now) (length img) room) refl) (λ (q : (s .kind ≡ Idle) × (ours z (s .now) ≡ true)). inr (NotNow, step-rests s img room (q .0))) (t .order .1)
+  pub step-is : (w : World Sector) (img : List ℕ) (s : State) (work : List ℕ) → Tie w img (has s) → Tied z s [] img (stepWith s img work) ⊎ ((why : Refusal) × (stepWith s img work ≡ refuses s why img))
+  step-is w img s work t =
+      ⊎-elim (λ (f : Fair z s [] img × (plain (s .kind) ≡ true)). busy (f .0) (f .1) (otherWork (s .now) (length img) (length work)) refl) (λ (q : (s .kind ≡ Idle) × (ours z (s .now) ≡ true)). inr (NotNow, step-rests s img work (q .0))) (t .order .1)
     where
-      busy : Fair z s img → (b : Bool) → otherWork (s .now) (length img) room ≡ b → Tied z s img (stepWith s img room) ⊎ ((why : Refusal) × (stepWith s img room ≡ refuses s why img))
-      busy f true e = inr (BadBuffer, step-short s img room (f .in-range) e)
-      busy f false e = inl (subst (Tied z s img) (sym (step-goes s img room (f .in-range) e)) (step-tied z s img f))
+      busy : Fair z s [] img → plain (s .kind) ≡ true → (b : Bool) → otherWork (s .now) (length img) (length work) ≡ b → Tied z s [] img (stepWith s img work) ⊎ ((why : Refusal) × (stepWith s img work ≡ refuses s why img))
+      busy f p true e = inr (BadBuffer, step-short s img work (f .in-range) e)
+      busy f p false e = inl (subst (Tied z s [] img) (sym (step-goes s img work (f .in-range) e)) (step-tied z s [] work img p f))
 
-  step-kept : (w : World Sector) (img : List ℕ) (s : State) (room : ℕ) (w' : World Sector) → Tie w img (has s)
-      → Heard z w (stepWith s img room .stepped .answer) (stepWith s img room .image) w' → Tie w' (stepWith s img room .image) (has (stepWith s img room .stepped .state))
-  step-kept w img s room w' t h =
-      ⊎-elim (λ (d : Tied z s img (stepWith s img room)). goes-kept w img s (stepWith s img room) w' d t h)
-      (λ (d : (why : Refusal) × (stepWith s img room ≡ refuses s why img)). refused-kept w img s (d .0) (stepWith s img room) w' (d .1) t h) (step-is w img s room t)
+  step-kept : (w : World Sector) (img : List ℕ) (s : State) (work : List ℕ) (w' : World Sector) → Tie w img (has s)
+      → Heard z w (stepWith s img work .stepped .answer) (stepWith s img work .image) w' → Tie w' (stepWith s img work .image) (has (stepWith s img work .stepped .state))
+  step-kept w img s work w' t h =
+      ⊎-elim (λ (d : Tied z s [] img (stepWith s img work)). goes-kept w img s (stepWith s img work) w' d t h)
+      (λ (d : (why : Refusal) × (stepWith s img work ≡ refuses s why img)). refused-kept w img s (d .0) (stepWith s img work) w' (d .1) t h) (step-is w img s work t)
 
   -- ---- A CALL KEEPS THE TIE
 
@@ -483,7 +486,7 @@ module _ (z : Shelf) (F : Family z) (first : Machine Sector) where
   call-kept (creates-late {w} {img} {h} s k m c S number room e) ok t = late-kept w img h s k m c S number room e t
   call-kept (starts {w} {img} {h} s g absent room sits) ok t = start-any w img h s g absent room sits ok t
   call-kept (takes-out {w} {img} {s} d room) ok t = out-kept w img s d room ok t
-  call-kept (steps {w} {w'} {img} {s} room heard) ok t = step-kept w img s room w' t heard
+  call-kept (steps {w} {w'} {img} {s} work heard) ok t = step-kept w img s work w' t heard
   call-kept (cut {w} {img} {h} left d p) ok t = cut-kept w img h left d p t
   call-kept (dies {w} {img} {h}) ok t = record { disks = t .disks; reads = t .reads; reached = off (t .reached); named = t .named; names = tt; order = tt }
 
@@ -507,7 +510,7 @@ module _ (z : Shelf) (F : Family z) (first : Machine Sector) where
   out-passed w img s d room t a = by (takeAnswer (s .now) (s .kind) (s .absent) img d room) refl
     where
       own : ours z (s .now) ≡ true
-      own = ⊎-elim (λ (f : Fair z s img). f .ours-now) (λ (q : (s .kind ≡ Idle) × (ours z (s .now) ≡ true)). q .1) (t .order .1)
+      own = ⊎-elim (λ (f : Fair z s [] img × (plain (s .kind) ≡ true)). f .0 .ours-now) (λ (q : (s .kind ≡ Idle) × (ours z (s .now) ≡ true)). q .1) (t .order .1)
 
       by : (o : Outcome) → takeAnswer (s .now) (s .kind) (s .absent) img d room ≡ o → List·Memᴰ a (outs (begun o s (tookOut s d))) → fewOf z a ≡ true
       by Done e m = ⊎-elim (λ q. ap (fewOf z) q ∙ out-few z img (t .disks) s own d room e) (λ n. absurd (List·Memᴰ·not-nil n)) (List·Memᴰ·cases-cons m)
@@ -520,7 +523,7 @@ module _ (z : Shelf) (F : Family z) (first : Machine Sector) where
       ⊎-elim (λ (e : g ≡ geometry z). subst (λ (x : Geometry). List·Memᴰ a (outs (startOf s x absent img room)) → fewOf z a ≡ true) (sym e) (start-passed w img h s absent room t a))
       (λ (other : g ≡ geometry z → ⊥). subst (λ (x : Survey). List·Memᴰ a (outs (bySurvey x s g absent img room)) → fewOf z a ≡ true) (sym (start-other z img (t .disks) (ours-in w img h t) g absent other sits)) (λ n. absurd (List·Memᴰ·not-nil n))) (same-numbers z g) m
   call-passed (takes-out {w} {img} {s} d room) t a m = out-passed w img s d room t a m
-  call-passed (steps room heard) t a m = absurd (List·Memᴰ·not-nil m)
+  call-passed (steps work heard) t a m = absurd (List·Memᴰ·not-nil m)
   call-passed (cut left d p) t a m = absurd (List·Memᴰ·not-nil m)
   call-passed dies t a m = absurd (List·Memᴰ·not-nil m)
 
@@ -542,19 +545,19 @@ module _ (z : Shelf) (F : Family z) (first : Machine Sector) where
   heard-by w img (block b) a s c = absurd s
   heard-by w img (found x) a s c = absurd s
 
-  pub followed : (w : World Sector) (img : List ℕ) (s : State) (room : ℕ) → On (at w img (has s)) → (w' : World Sector) × Heard z w (stepWith s img room .stepped .answer) (stepWith s img room .image) w'
-  followed w img s room t =
-      ⊎-elim (λ (d : Tied z s img (stepWith s img room)). heard-by w (stepWith s img room .image) (d .reply) (stepWith s img room .stepped .answer) (d .answers) (d .acts w (t .reads)))
-      (λ (d : (why : Refusal) × (stepWith s img room ≡ refuses s why img)). subst (λ (m : Move). (w' : World Sector) × Heard z w (m .stepped .answer) (m .image) w') (sym (d .1)) (w, refl)) (step-is w img s room t)
+  pub followed : (w : World Sector) (img : List ℕ) (s : State) (work : List ℕ) → On (at w img (has s)) → (w' : World Sector) × Heard z w (stepWith s img work .stepped .answer) (stepWith s img work .image) w'
+  followed w img s work t =
+      ⊎-elim (λ (d : Tied z s [] img (stepWith s img work)). heard-by w (stepWith s img work .image) (d .reply) (stepWith s img work .stepped .answer) (d .answers) (d .acts w (t .reads)))
+      (λ (d : (why : Refusal) × (stepWith s img work ≡ refuses s why img)). subst (λ (m : Move). (w' : World Sector) × Heard z w (m .stepped .answer) (m .image) w') (sym (d .1)) (w, refl)) (step-is w img s work t)
 
   -- step after step; they leave nothing out
-  pub followed-on : (room n : ℕ) (w : World Sector) (img : List ℕ) (s : State) → On (at w img (has s))
-      → (w' : World Sector) × (c : Chain z (at w img (has s)) (at w' (nth room n s img .image) (has (nth room n s img .stepped .state)))) × (sets c ≡ [])
-  followed-on room zero w img s t = let y = followed w img s room t in (y .0, goes-on stays (steps room (y .1)), refl)
-  followed-on room (suc n) w img s t =
-      let y = followed w img s room t in
-      let r = followed-on room n (y .0) (stepWith s img room .image) (stepWith s img room .stepped .state) (step-kept w img s room (y .0) t (y .1)) in
-      (r .0, chained-on (goes-on stays (steps room (y .1))) (r .1), sets-on (goes-on stays (steps room (y .1))) (r .1) ∙ ap (λ (l : List (ℕ → Bool)). l ++ []) (r .2))
+  pub followed-on : (work : List ℕ) (n : ℕ) (w : World Sector) (img : List ℕ) (s : State) → On (at w img (has s))
+      → (w' : World Sector) × (c : Chain z (at w img (has s)) (at w' (nth work n s img .image) (has (nth work n s img .stepped .state)))) × (sets c ≡ [])
+  followed-on work zero w img s t = let y = followed w img s work t in (y .0, goes-on stays (steps work (y .1)), refl)
+  followed-on work (suc n) w img s t =
+      let y = followed w img s work t in
+      let r = followed-on work n (y .0) (stepWith s img work .image) (stepWith s img work .stepped .state) (step-kept w img s work (y .0) t (y .1)) in
+      (r .0, chained-on (goes-on stays (steps work (y .1))) (r .1), sets-on (goes-on stays (steps work (y .1))) (r .1) ∙ ap (λ (l : List (ℕ → Bool)). l ++ []) (r .2))
 
 -- ---- THE PROMISE
 

@@ -20,40 +20,40 @@ use Rattle.refine.specs.Steps.{Fair, Does, step-does}
 use Rattle.refine.specs.Requests.{room-fits}
 
 -- one step after the other, each with the state and the image that the one before left: the last of i + 1
-abbrev pub nth : ℕ → ℕ → State → List ℕ → Move
-nth room zero s img = stepWith s img room
-nth room (suc i) s img = nth room i (stepWith s img room .stepped .state) (stepWith s img room .image)
+abbrev pub nth : List ℕ → ℕ → State → List ℕ → Move
+nth work zero s img = stepWith s img work
+nth work (suc i) s img = nth work i (stepWith s img work .stepped .state) (stepWith s img work .image)
 
 -- the steps before number n are actions, and this one is done
-pub record EndsAfter (n room : ℕ) (s : State) (img : List ℕ) : Type 0 where
-  pub acts : (i : ℕ) → i < n → acted (nth room i s img .stepped .answer) ≡ true
-  pub ends : nth room n s img .stepped ≡ done s
+pub record EndsAfter (n : ℕ) (work : List ℕ) (s : State) (img : List ℕ) : Type 0 where
+  pub acts : (i : ℕ) → i < n → acted (nth work i s img .stepped .answer) ≡ true
+  pub ends : nth work n s img .stepped ≡ done s
 
-module _ (z : Shelf) (room : ℕ) (fits : room ≡ workBytes (slots z) (z .c)) where
+module _ (z : Shelf) (work : List ℕ) (fits : length work ≡ workBytes (slots z) (z .c)) where
   -- after a step that leaves this
-  ends-on : (n : ℕ) (s t : State) (img to : List ℕ) → stepWith s img room .stepped .state ≡ t → stepWith s img room .image ≡ to → acted (stepWith s img room .stepped .answer) ≡ true → done t ≡ done s
-      → EndsAfter n room t to → EndsAfter (suc n) room s img
+  ends-on : (n : ℕ) (s t : State) (img to : List ℕ) → stepWith s img work .stepped .state ≡ t → stepWith s img work .image ≡ to → acted (stepWith s img work .stepped .answer) ≡ true → done t ≡ done s
+      → EndsAfter n work t to → EndsAfter (suc n) work s img
   ends-on n s t img to p q act same h =
-      let move : (i : ℕ) → nth room (suc i) s img ≡ nth room i t to = λ i. λ j. nth room i (p j) (q j) in
+      let move : (i : ℕ) → nth work (suc i) s img ≡ nth work i t to = λ i. λ j. nth work i (p j) (q j) in
       record { acts = acts move; ends = ap (λ (m : Move). m .stepped) (move n) ∙ h .ends ∙ same }
     where
-      acts : ((i : ℕ) → nth room (suc i) s img ≡ nth room i t to) → (i : ℕ) → i < suc n → acted (nth room i s img .stepped .answer) ≡ true
+      acts : ((i : ℕ) → nth work (suc i) s img ≡ nth work i t to) → (i : ℕ) → i < suc n → acted (nth work i s img .stepped .answer) ≡ true
       acts move zero l = act
       acts move (suc i) l = ap (λ (m : Move). acted (m .stepped .answer)) (move i) ∙ h .acts i (omega arith)
 
-  ends-by : (l : List (Action Sector)) (s : State) (img : List ℕ) → Fair z s img → toDo z s img ≡ l → EndsAfter (length l) room s img
+  ends-by : (l : List (Action Sector)) (s : State) (img : List ℕ) → Fair z s work img → toDo z s work img ≡ l → EndsAfter (length l) work s img
   ends-by [] s img fair e =
-      let h : Does z img s (stepWith s img room) [] = room-fits z s img room fair fits ∙ subst (Does z img s _) e (step-does z img s fair) in
+      let h : Does z work img s (stepWith s img work) [] = room-fits z s work work img fair fits ∙ subst (Does z work img s _) e (step-does z work img s fair) in
       record { acts = λ i l. absurd (omega arith); ends = ap (λ (m : Move). m .stepped) h }
   ends-by (put k v ∷ l) s img fair e =
-      let h = subst (Does z img s _) e (step-does z img s fair) in
-      let q = room-fits z s img room fair fits ∙ h .is in
+      let h = subst (Does z work img s _) e (step-does z work img s fair) in
+      let q = room-fits z s work work img fair fits ∙ h .is in
       ends-on (length l) s (h .state) img _ (ap (λ (m : Move). m .stepped .state) q) (ap (λ (m : Move). m .image) q) (ap (λ (m : Move). acted (m .stepped .answer)) q) (ap done (h .kept)) (ends-by l (h .state) _ (h .fair) (h .rest))
   ends-by (flush d ∷ l) s img fair e =
-      let h = subst (Does z img s _) e (step-does z img s fair) in
-      let q = room-fits z s img room fair fits ∙ h .is in
+      let h = subst (Does z work img s _) e (step-does z work img s fair) in
+      let q = room-fits z s work work img fair fits ∙ h .is in
       ends-on (length l) s (h .state) img img (ap (λ (m : Move). m .stepped .state) q) (ap (λ (m : Move). m .image) q) (ap (λ (m : Move). acted (m .stepped .answer)) q) (ap done (h .kept)) (ends-by l (h .state) img (h .fair) (h .rest))
 
   -- a request under way ends after as many actions as are left
-  pub request-ends : (s : State) (img : List ℕ) → Fair z s img → EndsAfter (length (toDo z s img)) room s img
-  request-ends s img fair = ends-by (toDo z s img) s img fair refl
+  pub request-ends : (s : State) (img : List ℕ) → Fair z s work img → EndsAfter (length (toDo z s work img)) work s img
+  request-ends s img fair = ends-by (toDo z s work img) s img fair refl

@@ -2,7 +2,7 @@
 -- that this follows from: `honest`, `sound`, `untouched` of its Kept, `shaped`.) And there are such chains. Assumes nothing.
 use mathlib.Core.Path.{_≡_, refl, sym, ap, ap₂, subst, _∙_}
 use mathlib.Core.Logic.{_⊎_, ⊎-elim, inl, inr}
-use mathlib.Core.Bool.{Bool, true, false, cond, not, _&&_, _||_, true≢false}
+use mathlib.Core.Bool.{Bool, true, false, cond, not, _&&_, _||_, true≢false, false≢true}
 use mathlib.Core.List.{List, [], _++_, List·Memᴰ, List·Memᴰ·not-nil}
 use Prim.Native.Nat.{ℕ, zero, suc, _+_, _*_, _≤_, _<_}
 use native.Mathlib.Omega.{arith}
@@ -48,10 +48,10 @@ use Rattle.codecs.specs.Labels.{sectorOf, noLabel, ours, labelOf, meant, decode
 use Rattle.codecs.specs.Records.{records}
 use Rattle.codecs.specs.Media.{stamps}
 use Rattle.shards.specs.Quorum.{fewOf}
-use Rattle.shards.specs.Code.{zeros-in}
+use Rattle.shards.specs.Strips.{zeros-in}
 use Rattle.shards.specs.Even.{any-code}
 use Rattle.shelf.specs.declared.state.State.{State}
-use Rattle.shelf.specs.declared.state.Kind.the-variants.{Nothing, Idle, Creating, Starting, Labelling}
+use Rattle.shelf.specs.declared.state.Kind.the-variants.{Nothing, Idle, Creating, Starting, Labelling, Writing, Beginning, Filling}
 use Rattle.shelf.specs.declared.state.Kind.{Kind}
 use Rattle.shelf.specs.State.{rested}
 use Rattle.shelf.specs.Act.{Move, refuses}
@@ -69,7 +69,7 @@ use Rattle.refine.specs.Places as places
 use Rattle.refine.specs.Disks.{Disks, image-fits, curOf, cur-bytes, cur-read}
 use Rattle.refine.specs.Redo.{believe-is}
 use Rattle.refine.specs.ToDo.{toDo}
-use Rattle.refine.specs.Tied.{ownOf, memoryOf, memoryBy, Same, programOf, Tied}
+use Rattle.refine.specs.Tied.{ownOf, memoryOf, memoryBy, plain, fair-work, Same, programOf, Tied}
 use Rattle.refine.specs.Steps.{Fair}
 use Rattle.refine.specs.Rounds.{beyond-below}
 use Rattle.refine.specs.Accepts.{plain-is, all-zeros}
@@ -169,7 +169,7 @@ module _ (z : Shelf) (F : Family z) where
               let b = side s l in
               ⊎-elim
               (λ (q : curOf z img (label d (b .0)) ≡ zeros). inl (ap (sector (z .sectors) img d) (sym (b .1)) ∙ sym (cur-bytes z img disks (label d (b .0)) (label-inside z d (b .0) i)) ∙ ap (λ (x : Sector). x .bytes) q))
-              (λ (q : 0 < copy (labels z) (curOf z img) d (b .0) .generation). inr (let y = copy-there d (b .0) 1 i (omega arith) q in (y .0, ap (copyOf (geometry z) img d) (sym (b .1)) ∙ y .1))) (h .calm (b .0))
+              (λ (q : 0 < copy (labels z) (curOf z img) d (b .0) .generation). inr (let y = copy-there d (b .0) 1 i (omega arith) q in (y .0, ap (copyOf (geometry z) img d) (sym (b .1)) ∙ y .1))) (h .calm (b .0) (inl refl))
 
           follow : (a b : bytes.Label) → copyOf (geometry z) img d 0 ≡ Valid a → copyOf (geometry z) img d 1 ≡ Valid b → (a .generation ≡ suc (b .generation)) ⊎ (b .generation ≡ suc (a .generation))
           follow a b p q =
@@ -187,13 +187,16 @@ module _ (z : Shelf) (F : Family z) where
   or-none true b e = e
   or-none false b e = refl
 
-  away-says : (s : State) (k : Kind) (l : List (Action Sector)) (e : ℕ)
-      → away (size z) (F .sets) (labels z) (records z) (codeIn z F) stamps (sectorsIn z F) (memoryBy k z s l) e ≡ false → inMask (s .absent) e ≡ false
-  away-says s Nothing l e q = absurd (true≢false q)
-  away-says s Idle l e q = or-none (inMask (s .absent) e) (not (ltb e (slots z))) q
-  away-says s Creating l e q = or-none (inMask (s .absent) e) (not (ltb e (slots z))) q
-  away-says s Starting l e q = or-none (inMask (s .absent) e) (not (ltb e (slots z))) q
-  away-says s Labelling l e q = or-none (inMask (s .absent) e) (not (ltb e (slots z))) q
+  away-says : (s : State) (k : Kind) → plain k ≡ true → (v : Memory Sector) (l : List (Action Sector)) (e : ℕ)
+      → away (size z) (F .sets) (labels z) (records z) (codeIn z F) stamps (sectorsIn z F) (memoryBy k z s v l) e ≡ false → inMask (s .absent) e ≡ false
+  away-says s Nothing p v l e q = absurd (true≢false q)
+  away-says s Idle p v l e q = or-none (inMask (s .absent) e) (not (ltb e (slots z))) q
+  away-says s Creating p v l e q = or-none (inMask (s .absent) e) (not (ltb e (slots z))) q
+  away-says s Starting p v l e q = or-none (inMask (s .absent) e) (not (ltb e (slots z))) q
+  away-says s Labelling p v l e q = or-none (inMask (s .absent) e) (not (ltb e (slots z))) q
+  away-says s Writing p v l e q = absurd (false≢true p)
+  away-says s Filling p v l e q = absurd (false≢true p)
+  away-says s Beginning p v l e q = or-none (inMask (s .absent) e) (not (ltb e (slots z))) q
 
   touch-says : (s : State) (e : ℕ) (r : Reply Sector) (a : Answer) → Same z a r → Touches a e
       → ((x : Action Sector) → r ≡ did x → inMask (s .absent) (slot-of x) ≡ false) → inMask (s .absent) e ≡ false
@@ -300,37 +303,41 @@ module _ (z : Shelf) (F : Family z) where
           → createOf t k m c S number img room ≡ record { state = t; outcome = Refused (cond (shelfFits k m c S (length img)) NotNow BadImage) }
       create-again e t k m c S number room = ap (λ (o : Outcome). begun o t (created k m c S number)) (create-late k m c S img room (rests-labelled e))
 
+      -- the request under way keeps nothing in the work area
+      plainly : plain (s .kind) ≡ true
+      plainly = ⊎-elim (λ (f : Fair z s [] img × (plain (s .kind) ≡ true)). f .1) (λ (q : (s .kind ≡ Idle) × (ours z (s .now) ≡ true)). ap plain (q .0)) (held .order .1)
+
       -- NO STEP TOUCHES AN ABSENT SLOT
-      pub absent-untouched : (room e : ℕ) → Touches (stepWith s img room .stepped .answer) e → inMask (s .absent) e ≡ false
+      pub absent-untouched : (work : List ℕ) (e : ℕ) → Touches (stepWith s img work .stepped .answer) e → inMask (s .absent) e ≡ false
       unfolding memoryOf
-      absent-untouched room e t =
+      absent-untouched work e t =
           ⊎-elim
-          (λ (d : Tied z s img (stepWith s img room)).
-          touch-says s e (d .reply) (stepWith s img room .stepped .answer) (d .answers) t
-          (λ x q. away-says s (s .kind) (toDo z s img) (slot-of x)
-          (untouched (size z) (F .sets) (labels z) (records z) (codeIn z F) stamps (sectorsIn z F) w (memoryOf z s img) (sure blocks) step x (held .reached .keeps)
+          (λ (d : Tied z s [] img (stepWith s img work)).
+          touch-says s e (d .reply) (stepWith s img work .stepped .answer) (d .answers) t
+          (λ x q. away-says s (s .kind) plainly _ (toDo z s [] img) (slot-of x)
+          (untouched (size z) (F .sets) (labels z) (records z) (codeIn z F) stamps (sectorsIn z F) w (memoryOf z s [] img) (sure blocks) step x (held .reached .keeps)
           (ap (λ (y : Memory Sector × Reply Sector). y .1)
-          (program-in z F (memoryOf z s img) (w .cur) step _ (d .reply) (ap (λ (f : Image Sector). programOf z (memoryOf z s img) f step) (held .reads) ∙ d .steps)
-          (λ why r. subst (Same z (stepWith s img room .stepped .answer)) r (d .answers)) (λ r. absurd (subst (Same z (stepWith s img room .stepped .answer)) r (d .answers)))) ∙ q))))
-          (λ (d : (why : Refusal) × (stepWith s img room ≡ refuses s why img)). absurd (subst (λ (m : Move). Touches (m .stepped .answer) e) (d .1) t)) (step-is z F (fresh z first disks blank) w img s room held)
+          (program-in z F (memoryOf z s [] img) (w .cur) step _ (d .reply) (ap (λ (f : Image Sector). programOf z (memoryOf z s [] img) f step) (held .reads) ∙ d .steps)
+          (λ why r. subst (Same z (stepWith s img work .stepped .answer)) r (d .answers)) (λ r. absurd (subst (Same z (stepWith s img work .stepped .answer)) r (d .answers)))) ∙ q))))
+          (λ (d : (why : Refusal) × (stepWith s img work ≡ refuses s why img)). absurd (subst (λ (m : Move). Touches (m .stepped .answer) e) (d .1) t)) (step-is z F (fresh z first disks blank) w img s work held)
 
       -- A STEP CAN BE FOLLOWED
-      pub step-followed : (room : ℕ) → (w' : World Sector) × Heard z w (stepWith s img room .stepped .answer) (stepWith s img room .image) w'
-      step-followed room = followed z F (fresh z first disks blank) w img s room held
+      pub step-followed : (work : List ℕ) → (w' : World Sector) × Heard z w (stepWith s img work .stepped .answer) (stepWith s img work .image) w'
+      step-followed work = followed z F (fresh z first disks blank) w img s work held
 
       -- A REQUEST UNDER WAY IS CARRIED OUT by its steps: some actions, and then it is done; none of them is refused
-      pub carried-out : (room : ℕ) → room ≡ workBytes (slots z) (z .c) → (s .kind ≡ Idle → ⊥) → (n : ℕ) × EndsAfter n room s img
-      carried-out room fits busy =
-          ⊎-elim (λ (f : Fair z s img). (length (toDo z s img), request-ends z room fits s img f)) (λ (q : (s .kind ≡ Idle) × (ours z (s .now) ≡ true)). absurd (busy (q .0))) (held .order .1)
+      pub carried-out : (work : List ℕ) → length work ≡ workBytes (slots z) (z .c) → (s .kind ≡ Idle → ⊥) → (n : ℕ) × EndsAfter n work s img
+      carried-out work fits busy =
+          ⊎-elim (λ (f : Fair z s [] img × (plain (s .kind) ≡ true)). (length (toDo z s work img), request-ends z work fits s img (fair-work z [] work s img (f .1) (f .0)))) (λ (q : (s .kind ≡ Idle) × (ours z (s .now) ≡ true)). absurd (busy (q .0))) (held .order .1)
 
       -- so the steps lead to rest, under the label that the request was to settle; they leave no further set out
       pub comes-to-rest : (s .kind ≡ Idle → ⊥) → (w' : World Sector) × (left : List ℕ) × (c : ComesTo z first (at w' left (has (rested s)))) × (sets c ≡ sets chain)
       comes-to-rest busy =
-          let room = workBytes (slots z) (z .c) in
-          let e = carried-out room refl busy in
-          let r = followed-on z F (fresh z first disks blank) room (e .0) w img s held in
-          let y = subst (λ (x : Stepped). (c : Chain z (at w img (has s)) (at (r .0) (nth room (e .0) s img .image) (has (x .state)))) × (sets c ≡ [])) (e .1 .ends) (r .1, r .2) in
-          (r .0, nth room (e .0) s img .image, chained-on chain (y .0), sets-on chain (y .0) ∙ ap (λ (l : List (ℕ → Bool)). l ++ sets chain) (y .1))
+          let work : List ℕ = replicate (workBytes (slots z) (z .c)) 0 in
+          let e = carried-out work (length-replicate (workBytes (slots z) (z .c)) 0) busy in
+          let r = followed-on z F (fresh z first disks blank) work (e .0) w img s held in
+          let y = subst (λ (x : Stepped). (c : Chain z (at w img (has s)) (at (r .0) (nth work (e .0) s img .image) (has (x .state)))) × (sets c ≡ [])) (e .1 .ends) (r .1, r .2) in
+          (r .0, nth work (e .0) s img .image, chained-on chain (y .0), sets-on chain (y .0) ∙ ap (λ (l : List (ℕ → Bool)). l ++ sets chain) (y .1))
 
 -- ---- THERE ARE SUCH CHAINS: the image of zeros is one to begin with, and create is accepted on it
 

@@ -8,6 +8,7 @@ pub mod Redo
 pub mod Refusals
 pub mod Start
 pub mod Given
+pub mod Keeps
 pub mod ToDo
 pub mod Restored
 pub mod Steps
@@ -16,6 +17,9 @@ pub mod StartList
 pub mod Begins
 pub mod Tied
 pub mod Asked
+pub mod WriteList
+pub mod Writes
+pub mod Relabels
 pub mod Requests
 pub mod Ends
 pub mod StartBegins
@@ -26,3 +30,4 @@ pub mod Chain
 pub mod Holds
 pub mod Promise
 pub mod Blind
+pub mod Strips

@@ -81,15 +81,15 @@ module _ (z : Shelf) (first : List ℕ) (disks : Disks z first) (blank : allZero
     any-create-again = holds.create-again z (parts-few z (sets chain) two) first disks blank chain (in-parts z (sets chain) two)
 
     -- NO STEP TOUCHES AN ABSENT SLOT
-    pub any-absent-untouched : (room e : ℕ) → Touches (stepWith s img room .stepped .answer) e → inMask (s .absent) e ≡ false
+    pub any-absent-untouched : (work : List ℕ) (e : ℕ) → Touches (stepWith s img work .stepped .answer) e → inMask (s .absent) e ≡ false
     any-absent-untouched = holds.absent-untouched z (parts-few z (sets chain) two) first disks blank chain (in-parts z (sets chain) two)
 
     -- A STEP CAN BE FOLLOWED
-    pub any-step-followed : (room : ℕ) → (w' : World Sector) × Heard z w (stepWith s img room .stepped .answer) (stepWith s img room .image) w'
+    pub any-step-followed : (work : List ℕ) → (w' : World Sector) × Heard z w (stepWith s img work .stepped .answer) (stepWith s img work .image) w'
     any-step-followed = holds.step-followed z (parts-few z (sets chain) two) first disks blank chain (in-parts z (sets chain) two)
 
     -- A REQUEST UNDER WAY IS CARRIED OUT by its steps: some actions, and then it is done; none of them is refused
-    pub any-carried-out : (room : ℕ) → room ≡ workBytes (slots z) (z .c) → (s .kind ≡ Idle → ⊥) → (n : ℕ) × EndsAfter n room s img
+    pub any-carried-out : (work : List ℕ) → length work ≡ workBytes (slots z) (z .c) → (s .kind ≡ Idle → ⊥) → (n : ℕ) × EndsAfter n work s img
     any-carried-out = holds.carried-out z (parts-few z (sets chain) two) first disks blank chain (in-parts z (sets chain) two)
 
     -- so the steps lead to rest, under the label that the request was to settle; they leave no further set out
@@ -141,15 +141,15 @@ module _ (z : Shelf) (more : z .m < z .k) (first : List ℕ) (disks : Disks z fi
     create-again = holds.create-again z (every-few z more) first disks blank chain (λ s m e. e)
 
     -- NO STEP TOUCHES AN ABSENT SLOT
-    pub absent-untouched : (room e : ℕ) → Touches (stepWith s img room .stepped .answer) e → inMask (s .absent) e ≡ false
+    pub absent-untouched : (work : List ℕ) (e : ℕ) → Touches (stepWith s img work .stepped .answer) e → inMask (s .absent) e ≡ false
     absent-untouched = holds.absent-untouched z (every-few z more) first disks blank chain (λ s m e. e)
 
     -- A STEP CAN BE FOLLOWED
-    pub step-followed : (room : ℕ) → (w' : World Sector) × Heard z w (stepWith s img room .stepped .answer) (stepWith s img room .image) w'
+    pub step-followed : (work : List ℕ) → (w' : World Sector) × Heard z w (stepWith s img work .stepped .answer) (stepWith s img work .image) w'
     step-followed = holds.step-followed z (every-few z more) first disks blank chain (λ s m e. e)
 
     -- A REQUEST UNDER WAY IS CARRIED OUT by its steps: some actions, and then it is done; none of them is refused
-    pub carried-out : (room : ℕ) → room ≡ workBytes (slots z) (z .c) → (s .kind ≡ Idle → ⊥) → (n : ℕ) × EndsAfter n room s img
+    pub carried-out : (work : List ℕ) → length work ≡ workBytes (slots z) (z .c) → (s .kind ≡ Idle → ⊥) → (n : ℕ) × EndsAfter n work s img
     carried-out = holds.carried-out z (every-few z more) first disks blank chain (λ s m e. e)
 
     -- so the steps lead to rest, under the label that the request was to settle; they leave no further set out

@@ -2,7 +2,7 @@
 -- taking a slot out; and a step of theirs is the program's. Assumes nothing.
 use mathlib.Core.Path.{_≡_, refl, sym, ap, ap₂, subst, _∙_, fun-ext}
 use mathlib.Core.Bool.{Bool, true, false, cond, not, _&&_, _||_}
-use mathlib.Core.List.{List}
+use mathlib.Core.List.{List, []}
 use Prim.Native.Nat.{ℕ, suc, _+_, _<_}
 use native.Mathlib.Numerals.{add-one}
 use native.Mathlib.Omega.{arith}
@@ -41,7 +41,7 @@ use Rattle.refine.specs.Given.{shelf-geometry}
 use Rattle.refine.specs.Steps.{Fair}
 use Rattle.refine.specs.Lists.{Says}
 use Rattle.refine.specs.Begins.{create-fair, change-fair}
-use Rattle.refine.specs.Tied.{ownOf, memoryOf, Tied, step-tied}
+use Rattle.refine.specs.Tied.{ownOf, memoryOf, plain, Tied, step-tied}
 use Rattle.refine.specs.Asked.{create-asked, out-asked}
 
 -- an accepted request begins with its first state
@@ -78,14 +78,14 @@ module _ (z : Shelf) (img : List ℕ) (disks : Disks z img) where
 
   -- CREATE, accepted on an image of this shelf
   pub create-begins : (s : State) (room : ℕ) → createOf s (z .k) (z .m) (z .c) (z .sectors) (z .number) img room .outcome ≡ Done
-      → Fair z (createOf s (z .k) (z .m) (z .c) (z .sectors) (z .number) img room .state) img
-      × (memoryOf z (createOf s (z .k) (z .m) (z .c) (z .sectors) (z .number) img room .state) img ≡ asked-create (size z) (no-sets (slots z)) (labels z) (records z) (any-code z) stamps (any-sectors z))
+      → Fair z (createOf s (z .k) (z .m) (z .c) (z .sectors) (z .number) img room .state) [] img
+      × (memoryOf z (createOf s (z .k) (z .m) (z .c) (z .sectors) (z .number) img room .state) [] img ≡ asked-create (size z) (no-sets (slots z)) (labels z) (records z) (any-code z) stamps (any-sectors z))
   create-begins s room e =
       let t = createOf s (z .k) (z .m) (z .c) (z .sectors) (z .number) img room .state in
       let q = goes (createAnswer (z .k) (z .m) (z .c) (z .sectors) img room) s first-state e .1 in
       let h = subst Steps q (create-steps s (z .k) (z .m) (z .c) (z .sectors) (z .number) img room e) in
-      subst (λ (x : State). Fair z x img × (memoryOf z x img ≡ asked-create (size z) (no-sets (slots z)) (labels z) (records z) (any-code z) stamps (any-sectors z))) (sym q)
-      (create-fair z first-state img (h .taken) first-ours disks refl (λ d l i. none-in d) (record { same = first-ours; fit = h .next-fits }), create-asked z first-state img refl refl all-say first-label refl refl refl)
+      subst (λ (x : State). Fair z x [] img × (memoryOf z x [] img ≡ asked-create (size z) (no-sets (slots z)) (labels z) (records z) (any-code z) stamps (any-sectors z))) (sym q)
+      (create-fair z first-state img (h .taken) first-ours disks refl refl (λ d l i. none-in d) (record { same = first-ours; fit = h .next-fits }), create-asked z first-state img refl refl all-say first-label refl refl refl)
 
   -- ---- taking a slot out
 
@@ -140,27 +140,27 @@ module _ (z : Shelf) (img : List ℕ) (disks : Disks z img) where
 
     -- TAKING SLOT d OUT, accepted in a state of this shelf
     pub out-begins : (room : ℕ) → takeOutOf s d img room .outcome ≡ Done
-        → Fair z (takeOutOf s d img room .state) img
-        × (memoryOf z (takeOutOf s d img room .state) img ≡ asked-out (size z) (no-sets (slots z)) (labels z) (records z) (any-code z) stamps (any-sectors z) (ownOf z s (s .now)) d)
+        → Fair z (takeOutOf s d img room .state) [] img
+        × (memoryOf z (takeOutOf s d img room .state) [] img ≡ asked-out (size z) (no-sets (slots z)) (labels z) (records z) (any-code z) stamps (any-sectors z) (ownOf z s (s .now)) d)
     out-begins room e =
         let p = goes (takeAnswer l (s .kind) (s .absent) img d room) s (tookOut s d) e in
         let h = subst Steps (p .1) (out-steps s d img room e) in
         let there : d < slots z = omega (arith, n-is, take-done l (s .kind) (s .absent) img d room (p .0) .1 .there) in
-        subst (λ (x : State). Fair z x img × (memoryOf z x img ≡ asked-out (size z) (no-sets (slots z)) (labels z) (records z) (any-code z) stamps (any-sectors z) (ownOf z s (s .now)) d)) (sym (p .1)) (
-          change-fair z (tookOut s d) img (h .taken) own disks refl (λ x i q. not-true (inMask (s .absent) x) (sym (rest-say x i) ∙ q)) (record { same = out-ours; fit = λ x i. h .next-fits x (omega (arith, n-is)) }),
+        subst (λ (x : State). Fair z x [] img × (memoryOf z x [] img ≡ asked-out (size z) (no-sets (slots z)) (labels z) (records z) (any-code z) stamps (any-sectors z) (ownOf z s (s .now)) d)) (sym (p .1)) (
+          change-fair z (tookOut s d) img (h .taken) own disks refl refl (λ x i q. not-true (inMask (s .absent) x) (sym (rest-say x i) ∙ q)) (record { same = out-ours; fit = λ x i. h .next-fits x (omega (arith, n-is)) }),
           out-asked z (tookOut s d) img refl d refl (λ x i. rest-say x i ∙ sym (ap not (beyond-below (slots z) (s .absent) x i))) (out-label there),
         )
 
 -- ---- A STEP, with a work area of the right size, is the program's
 
 -- it is the shelf's step
-pub room-fits : (z : Shelf) (s : State) (img : List ℕ) (room : ℕ) → Fair z s img → room ≡ workBytes (slots z) (z .c) → stepWith s img room ≡ stepMove s img
+pub room-fits : (z : Shelf) (s : State) (work other img : List ℕ) → Fair z s other img → length work ≡ workBytes (slots z) (z .c) → stepWith s img work ≡ stepMove s work img
 unfolding otherWork
-room-fits z s img room fair e =
+room-fits z s work other img fair e =
     let g = shelf-geometry z (s .now) (fair .ours-now) in
-    let w : eqb room (workBytes (s .now .k + s .now .m) (s .now .c)) ≡ true = eq-eqb room (workBytes (s .now .k + s .now .m) (s .now .c)) (e ∙ sym (ap (λ (x : Geometry). workBytes (x .n) (x .c)) g)) in
+    let w : eqb (length work) (workBytes (s .now .k + s .now .m) (s .now .c)) ≡ true = eq-eqb (length work) (workBytes (s .now .k + s .now .m) (s .now .c)) (e ∙ sym (ap (λ (x : Geometry). workBytes (x .n) (x .c)) g)) in
     let f : fitsImage (geometryOf (s .now)) (length img) ≡ true = ap (λ (x : Geometry). fitsImage x (length img)) g ∙ image-fits z img (fair .disks) in
-    step-goes s img room (fair .in-range) (ap₂ (λ (a b : Bool). a && not b) f w)
+    step-goes s img work (fair .in-range) (ap₂ (λ (a b : Bool). a && not b) f w)
 
-pub step-with : (z : Shelf) (s : State) (img : List ℕ) (room : ℕ) → Fair z s img → room ≡ workBytes (slots z) (z .c) → Tied z s img (stepWith s img room)
-step-with z s img room fair e = subst (Tied z s img) (sym (room-fits z s img room fair e)) (step-tied z s img fair)
+pub step-with : (z : Shelf) (s : State) (work img : List ℕ) → plain (s .kind) ≡ true → Fair z s [] img → length work ≡ workBytes (slots z) (z .c) → Tied z s [] img (stepWith s img work)
+step-with z s work img p fair e = subst (Tied z s [] img) (sym (room-fits z s work [] img fair e)) (step-tied z s [] work img p fair)

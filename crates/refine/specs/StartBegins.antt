@@ -173,15 +173,15 @@ module _ (z : Shelf) (img : List ℕ) (absent : ℕ) (l : bytes.Label) where
 
       taken : sound (started (geometry z) absent p img) ≡ true
       unfolding sound planOf
-      taken = both (fitsOf l) _ fit-lead (lt-ltb 0 (l .c) (fits-says l fit-lead .range .some))
+      taken = both (fitsOf l) _ fit-lead (lt-ltb 0 (l .sectors) (omega (arith, fits-says l fit-lead .range .room)))
 
       pub start-state : l .generation + 1 ≤ mostGeneration
-          → Fair z (started (geometry z) absent p img) img
-          × (memoryOf z (started (geometry z) absent p img) img
+          → Fair z (started (geometry z) absent p img) [] img
+          × (memoryOf z (started (geometry z) absent p img) [] img
           ≡ asked-start (size z) (no-sets (slots z)) (labels z) (records z) (any-code z) stamps (any-sectors z) A (mask (size z) (no-sets (slots z)) (labels z) (records z) (any-code z) stamps (any-sectors z) A (curOf z img)))
       unfolding planOf
       start-state high = (
-        start-fair z (started (geometry z) absent p img) img taken (led .own) (led .disks) A starts (λ d i. sym (beyond-below (slots z) absent d i)) own-next fit-next high,
+        start-fair z (started (geometry z) absent p img) img taken (led .own) (led .disks) refl A starts (λ d i. sym (beyond-below (slots z) absent d i)) own-next fit-next high,
         start-asked z (started (geometry z) absent p img) img starts (ap (λ (N : Label). N .generation) settles-is) refl,
       )
 
@@ -195,13 +195,13 @@ pub start-begins : (z : Shelf) (img : List ℕ) (absent : ℕ) (p : Plan) (led :
     → surveyOf (geometry z) img absent ≡ survey.Plan p
     → Redo.Fair z (nextOf (geometry z) img absent (p .lead)) img (led .disks) (beyond (slots z) (inMask absent)) (settled-dark z img absent (beyond (slots z) (inMask absent)) (p .lead) led)
     → (s : State) (room : ℕ) → startOf s (geometry z) absent img room .outcome ≡ Done
-    → Fair z (startOf s (geometry z) absent img room .state) img
-    × (memoryOf z (startOf s (geometry z) absent img room .state) img
+    → Fair z (startOf s (geometry z) absent img room .state) [] img
+    × (memoryOf z (startOf s (geometry z) absent img room .state) [] img
     ≡ asked-start (size z) (no-sets (slots z)) (labels z) (records z) (any-code z) stamps (any-sectors z) (beyond (slots z) (inMask absent)) (mask (size z) (no-sets (slots z)) (labels z) (records z) (any-code z) stamps (any-sectors z) (beyond (slots z) (inMask absent)) (curOf z img)))
 start-begins z img absent p led e real s room d =
     let g = geometry z in
     let r = survey-grounds g img absent p e in
-    let P : State → Type 0 = λ x. Fair z x img × (memoryOf z x img ≡ asked-start (size z) (no-sets (slots z)) (labels z) (records z) (any-code z) stamps (any-sectors z) (beyond (slots z) (inMask absent)) (mask (size z) (no-sets (slots z)) (labels z) (records z) (any-code z) stamps (any-sectors z) (beyond (slots z) (inMask absent)) (curOf z img))) in
+    let P : State → Type 0 = λ x. Fair z x [] img × (memoryOf z x [] img ≡ asked-start (size z) (no-sets (slots z)) (labels z) (records z) (any-code z) stamps (any-sectors z) (beyond (slots z) (inMask absent)) (mask (size z) (no-sets (slots z)) (labels z) (records z) (any-code z) stamps (any-sectors z) (beyond (slots z) (inMask absent)) (curOf z img))) in
     let by : startOf s g absent img room ≡ cond (eqb room (workBytes (slots z) (z .c))) (accepted (started g absent p img)) (refused s BadBuffer) = ap (λ (x : Survey). bySurvey x s g absent img room) e in
     let q : startOf s g absent img room .state ≡ started g absent p img = ap (λ (x : Begun). x .state) by ∙ goes (eqb room (workBytes (slots z) (z .c))) s (started g absent p img) (sym (ap (λ (x : Begun). x .outcome) by) ∙ d) in
     subst P (sym q)

@@ -2,7 +2,7 @@
 -- all later stages. And of a stage: what is left when a slot, or a sector of it, is done. Assumes nothing.
 use mathlib.Core.Path.{_≡_, refl, sym, ap, ap₂, subst, _∙_, fun-ext}
 use mathlib.Core.Logic.{_⊎_, inl, inr, ⊎-elim}
-use mathlib.Core.Bool.{Bool, true, false, cond}
+use mathlib.Core.Bool.{Bool, true, false, cond, not}
 use mathlib.Core.List.{List, [], _∷_, _++_}
 use Prim.Native.Nat.{ℕ, zero, suc, _+_, _-_, _≤_, _<_, _%_}
 use native.Mathlib.Omega.{arith}
@@ -12,25 +12,29 @@ use Rattle.disk.specs.Limits.{firstLog}
 use Rattle.disk.specs.Image.{lt-or-ge}
 use Rattle.disk.specs.Mask.{inMask}
 use Rattle.label.specs.declared.fields.Label as bytes
+use Rattle.record.specs.declared.stamp.Stamp.{Stamp}
 use Rattle.protocol.specs.World.{Place, label, log, strip, slot, Image, Action}
 use Rattle.protocol.specs.Batch.{puts, flushes}
 use Rattle.protocol.specs.Slots.{from, keep, row, rows}
-use Rattle.protocol.specs.Write.{stored}
+use Rattle.protocol.specs.Write.{logged, stored}
 use Rattle.codecs.specs.Sector.{Sector, zeros}
 use Rattle.codecs.specs.Shelf.{Shelf, slots}
 use Rattle.codecs.specs.Labels.{sideOf, sector-side, labelOf, encodeLabel}
-use Rattle.codecs.specs.Records.{pieceOf, records}
+use Rattle.codecs.specs.Records.{stampNumber, pieceOf, records}
 use Rattle.shelf.specs.Limits.{mostStages}
 use Rattle.shelf.specs.State.{moved}
-use Rattle.shelf.specs.Stage.{again, roundStage, lateStage, startStage, createStage, stageAt, stageOf}
+use Rattle.shelf.specs.Stage.{again, roundStage, lateStage, startStage, createStage, writeStage, lastStage, beginStage, fillStage, stageAt, stageOf}
+use Rattle.shelf.specs.Act.{oddSector}
 use Rattle.shelf.specs.Step.{seek, isEnd, onStage}
 use Rattle.shelf.specs.declared.state.State.{State}
+use Rattle.shelf.specs.declared.state.Marks.{Marks}
 use Rattle.shelf.specs.declared.state.Kind.{Kind}
-use Rattle.shelf.specs.declared.state.Kind.the-variants.{Nothing, Idle, Creating, Starting, Labelling}
+use Rattle.shelf.specs.declared.state.Kind.the-variants.{Nothing, Idle, Creating, Starting, Labelling, Writing, Beginning, Filling}
 use Rattle.shelf.specs.declared.stage.Stage.{Stage}
-use Rattle.shelf.specs.declared.stage.Stage.the-variants.{Flush, Give, Wipe, Restore, End}
+use Rattle.shelf.specs.declared.stage.Stage.the-variants.{Flush, Give, Wipe, Restore, Log, Store, Clear, Erase, Fill, End}
 use Rattle.refine.specs.Places.{copySector, sectorOf}
 use Rattle.refine.specs.Disks.{curOf}
+use Rattle.refine.specs.Keeps.{keptStrip, keptWrite}
 
 -- ---- definitions
 
@@ -59,22 +63,38 @@ given z zeroed l k = cond (inMask zeroed (slot k)) zeros (encodeLabel z (slot k)
 abbrev pub restored : Shelf → Image Sector → Place → Sector
 restored z f = stored (records z) (λ d j. pieceOf z (f (log d (z .c))) (f (log d j)) j)
 
--- what a stage does from slot d, and sector j of it, on; f is what the places hold
-abbrev pub actsOf : Shelf → Image Sector → Stage → ℕ → ℕ → List (Action Sector)
-actsOf z f (Flush mask) d j = flushes (slotsFrom (slots z) mask d)
-actsOf z f (Give mask zeroed l) d j = puts (given z zeroed l) (rows (toldAt l) (0 ∷ []) (slotsFrom (slots z) mask d))
-actsOf z f (Wipe mask) d j = puts (λ k. zeros) (rows (tailAt z) (0 ∷ []) (slotsFrom (slots z) mask d))
-actsOf z f (Restore mask t) d j = puts (restored z f) (rowsFrom (λ e i. strip e t i) (z .c) j (slotsFrom (slots z) mask d))
-actsOf z f End d j = []
+-- a copy of the label
+abbrev pub copyAt : Bool → ℕ → ℕ → Place
+copyAt odd d i = label d odd
+
+-- what a stage does from slot d, and sector j of it, on; a is the stamp of the request, `work` what it keeps in the work area, and
+-- f what the places hold
+abbrev pub actsOf : Shelf → Stamp → List ℕ → Image Sector → Stage → ℕ → ℕ → List (Action Sector)
+actsOf z a work f (Flush mask) d j = flushes (slotsFrom (slots z) mask d)
+actsOf z a work f (Give mask zeroed l) d j = puts (given z zeroed l) (rows (toldAt l) (0 ∷ []) (slotsFrom (slots z) mask d))
+actsOf z a work f (Wipe mask) d j = puts (λ k. zeros) (rows (tailAt z) (0 ∷ []) (slotsFrom (slots z) mask d))
+actsOf z a work f (Restore mask t) d j = puts (restored z f) (rowsFrom (λ e i. strip e t i) (z .c) j (slotsFrom (slots z) mask d))
+actsOf z a work f (Log mask t shards) d j =
+    puts (logged (records z) (stampNumber a) (keptWrite z work t shards)) (rowsFrom log (z .c + 1) j (slotsFrom (slots z) mask d))
+actsOf z a work f (Store mask t) d j = puts (stored (records z) (keptStrip z work t)) (rowsFrom (λ e i. strip e t i) (z .c) j (slotsFrom (slots z) mask d))
+actsOf z a work f (Clear mask) d j = puts (λ k. zeros) (rowsFrom log (z .c + 1) j (slotsFrom (slots z) mask d))
+actsOf z a work f (Erase mask odd) d j = puts (λ k. zeros) (rows (copyAt odd) (0 ∷ []) (slotsFrom (slots z) mask d))
+actsOf z a work f (Fill mask first count) d j = []
+actsOf z a work f End d j = []
+
+-- the stamp of a state's write
+abbrev pub stampIn : State → Stamp
+stampIn s = record { epoch = s .epoch; count = s .count }
 
 -- k stages from the cursor on
-unfoldable pub leftOf : Shelf → Image Sector → ℕ → State → List (Action Sector)
-leftOf z f zero s = []
-leftOf z f (suc k) s = cond (isEnd (stageOf s)) [] (actsOf z f (stageOf s) (s .cursor .slot) (s .cursor .sector) ++ leftOf z f k (onStage s))
+unfoldable pub leftOf : Shelf → List ℕ → Image Sector → ℕ → State → List (Action Sector)
+leftOf z work f zero s = []
+leftOf z work f (suc k) s =
+    cond (isEnd (stageOf s)) [] (actsOf z (stampIn s) work f (stageOf s) (s .cursor .slot) (s .cursor .sector) ++ leftOf z work f k (onStage s))
 
--- WHAT IS LEFT TO DO, on this image
-unfoldable pub toDo : Shelf → State → List ℕ → List (Action Sector)
-toDo z s img = leftOf z (curOf z img) mostStages s
+-- WHAT IS LEFT TO DO, with this work area, on this image
+unfoldable pub toDo : Shelf → State → List ℕ → List ℕ → List (Action Sector)
+toDo z s work img = leftOf z work (curOf z img) mostStages s
 
 -- ---- where things go, and what
 
@@ -82,6 +102,10 @@ module _ (z : Shelf) where
   pub told-sector : (l : bytes.Label) (d i : ℕ) → sectorOf z (toldAt l d i) ≡ l .generation % 2
   unfolding sectorOf copySector
   told-sector l d i = sector-side (l .generation)
+
+  pub copy-sector : (odd : Bool) (d i : ℕ) → sectorOf z (copyAt odd d i) ≡ oddSector odd
+  unfolding sectorOf copySector
+  copy-sector odd d i = refl
 
   pub tail-sector : (d i : ℕ) → sectorOf z (tailAt z d i) ≡ firstLog + z .c
   unfolding sectorOf
@@ -163,12 +187,15 @@ module _ (mk : ℕ → ℕ → Place) (c : ℕ) where
 
 -- a state with another cursor has the same stages
 pub stage-same : (k : Kind) (s : State) (a b c i : ℕ) → stageAt k (moved s a b c) i ≡ stageAt k s i
-unfolding createStage startStage lateStage
+unfolding createStage startStage lateStage beginStage lastStage fillStage
 stage-same Nothing s a b c i = refl
 stage-same Idle s a b c i = refl
 stage-same Creating s a b c i = refl
 stage-same Starting s a b c i = refl
 stage-same Labelling s a b c i = refl
+stage-same Writing s a b c i = refl
+stage-same Beginning s a b c i = refl
+stage-same Filling s a b c i = refl
 
 module _ (P : Stage → Type 0) (end : P End) where
   pick : (b : Bool) (x y : Stage) → P x → P y → P (cond b x y)
@@ -180,7 +207,33 @@ module _ (P : Stage → Type 0) (end : P End) where
   unfolding roundStage
   round-each mask l g f i = pick (eqb i 0) _ _ g (pick (eqb i 1) _ _ f end)
 
+  -- the stages of a write
+  pub write-each : (x : Marks) → P (Log (x .redo) (x .stripe) (x .parts)) → P (Store (x .redo) (x .stripe)) → P (Flush (x .redo)) → (i : ℕ) → P (writeStage x i)
+  unfolding writeStage
+  write-each x l s f i = pick (eqb i 0) _ _ l (pick (eqb i 2) _ _ s (pick (leb i 3) _ _ f end))
+
   module _ (s : State) where
+    -- the stages of begin: what it flushes, erases, clears, and the labels that it gives
+    pub begin-each : P (Flush (s .marks .redo)) → P (Flush (s .marks .parts)) → P (Flush (s .marks .late)) → P (Flush (s .marks .prep)) → P (Flush (s .marks .present))
+        → P (Erase (s .marks .parts) (s .marks .forward)) → P (Erase (s .marks .late) (not (s .marks .forward))) → P (Clear (s .marks .redo))
+        → P (Give (s .marks .prep) (s .marks .zeroed) (s .now)) → P (Give (s .marks .present) 0 (s .next)) → (i : ℕ) → P (beginStage s i)
+    unfolding beginStage lastStage
+    begin-each redone parts late prep present first second clear ready tell i =
+        pick (eqb i 0) _ _ redone
+        (pick (eqb i 1) _ _ first
+        (pick (eqb i 2) _ _ parts
+        (pick (eqb i 3) _ _ second
+        (pick (eqb i 4) _ _ late
+        (pick (eqb (i - 5) 0) _ _ clear
+        (pick (eqb (i - 5) 1) _ _ redone
+        (pick (eqb (i - 5) 2) _ _ ready
+        (pick (eqb (i - 5) 3) _ _ prep (round-each (s .marks .present) (s .next) tell present (i - 5 - 4))))))))))
+
+    -- the stages of a rebuild
+    pub fill-each : P (Fill (s .marks .redo) (s .now .mark) (s .marks .stripe)) → P (Flush (s .marks .redo)) → P (Give (s .marks .present) 0 (s .next)) → P (Flush (s .marks .present)) → (i : ℕ) → P (fillStage s i)
+    unfolding fillStage
+    fill-each fill redone tell present i = pick (eqb i 0) _ _ fill (pick (eqb i 1) _ _ redone (round-each (s .marks .present) (s .next) tell present (i - 2)))
+
     pub create-each : P (Flush (s .marks .present)) → P (Give (s .marks .present) 0 (s .next)) → (i : ℕ) → P (createStage s i)
     unfolding createStage
     create-each f g i = pick (eqb i 0) _ _ f (round-each (s .marks .present) (s .next) g f (i - 1))
@@ -206,20 +259,40 @@ module _ (P : Stage → Type 0) (end : P End) where
         redo true e = restore e
         redo false e = wipe e
 
--- a record is wiped, or its strip restored, as the state says
+-- whether strips are restored from their records: by start-up, where the state says so
+unfoldable pub restores : Kind → Bool → Bool
+restores Nothing forward = false
+restores Idle forward = false
+restores Creating forward = false
+restores Starting forward = forward
+restores Labelling forward = false
+restores Writing forward = false
+restores Beginning forward = false
+restores Filling forward = false
+
+-- then no stage of the request changes a record; and no strip is restored otherwise
 abbrev pub Redoes : Bool → Stage → Type 0
 Redoes b (Flush mask) = Unit {0}
 Redoes b (Give mask zeroed l) = Unit {0}
 Redoes b (Wipe mask) = b ≡ false
 Redoes b (Restore mask t) = b ≡ true
+Redoes b (Log mask t shards) = b ≡ false
+Redoes b (Store mask t) = Unit {0}
+Redoes b (Clear mask) = b ≡ false
+Redoes b (Erase mask odd) = Unit {0}
+Redoes b (Fill mask first count) = Unit {0}
 Redoes b End = Unit {0}
 
-pub redoes : (k : Kind) (s : State) (i : ℕ) → Redoes (s .marks .forward) (stageAt k s i)
+pub redoes : (k : Kind) (s : State) (i : ℕ) → Redoes (restores k (s .marks .forward)) (stageAt k s i)
+unfolding restores
 redoes Nothing s i = tt
 redoes Idle s i = tt
-redoes Creating s i = create-each (Redoes (s .marks .forward)) tt s tt tt i
+redoes Creating s i = create-each (Redoes false) tt s tt tt i
 redoes Starting s i = start-each (Redoes (s .marks .forward)) tt s tt tt tt tt tt tt tt tt tt tt (λ e. e) (λ e. e) i
-redoes Labelling s i = round-each (Redoes (s .marks .forward)) tt (s .marks .present) (s .next) tt tt i
+redoes Labelling s i = round-each (Redoes false) tt (s .marks .present) (s .next) tt tt i
+redoes Writing s i = write-each (Redoes false) tt (s .marks) refl tt tt i
+redoes Beginning s i = begin-each (Redoes false) tt s tt tt tt tt tt tt tt refl tt tt i
+redoes Filling s i = fill-each (Redoes false) tt s tt tt tt tt i
 
 -- no request has a stage from mostStages - 1 on
 round-over : (i mask : ℕ) (l : bytes.Label) → 2 ≤ i → roundStage i mask l ≡ End
@@ -230,65 +303,83 @@ late-over : (s : State) (i : ℕ) → 6 ≤ i → lateStage s i ≡ End
 unfolding lateStage
 late-over s i h = rw (ne-eqb i 0 (λ q. omega arith), ne-eqb i 1 (λ q. omega arith), lt-leb i 3 (omega arith), ne-eqb i 4 (λ q. omega arith), ne-eqb i 5 (λ q. omega arith))
 
+write-over : (x : Marks) (i : ℕ) → 4 ≤ i → writeStage x i ≡ End
+unfolding writeStage
+write-over x i h = rw (ne-eqb i 0 (λ q. omega arith), ne-eqb i 2 (λ q. omega arith), lt-leb i 3 (omega arith))
+
+last-over : (s : State) (i : ℕ) → 6 ≤ i → lastStage s i ≡ End
+unfolding lastStage
+last-over s i h =
+    rw (ne-eqb i 0 (λ q. omega arith), ne-eqb i 1 (λ q. omega arith), ne-eqb i 2 (λ q. omega arith), ne-eqb i 3 (λ q. omega arith), round-over (i - 4) (s .marks .present) (s .next) (omega arith))
+
 pub stage-over : (k : Kind) (s : State) (i : ℕ) → mostStages ≤ suc i → isEnd (stageAt k s i) ≡ true
-unfolding createStage startStage
+unfolding createStage startStage beginStage fillStage
 stage-over Nothing s i h = refl
 stage-over Idle s i h = refl
 stage-over Creating s i h = rw (ne-eqb i 0 (λ q. omega arith), round-over (i - 1) (s .marks .present) (s .next) (omega arith))
 stage-over Starting s i h =
     rw (ne-eqb i 0 (λ q. omega arith), lt-leb i 2 (omega arith), lt-leb i 4 (omega arith), lt-leb i 6 (omega arith), late-over s (i - 7) (omega arith))
 stage-over Labelling s i h = rw (round-over i (s .marks .present) (s .next) (omega arith))
+stage-over Writing s i h = rw (write-over (s .marks) i (omega arith))
+stage-over Beginning s i h =
+    rw (ne-eqb i 0 (λ q. omega arith), ne-eqb i 1 (λ q. omega arith), ne-eqb i 2 (λ q. omega arith), ne-eqb i 3 (λ q. omega arith), ne-eqb i 4 (λ q. omega arith), last-over s (i - 5) (omega arith))
+stage-over Filling s i h = rw (ne-eqb i 0 (λ q. omega arith), ne-eqb i 1 (λ q. omega arith), round-over (i - 2) (s .marks .present) (s .next) (omega arith))
 
 -- ---- what is left
 
 module _ (z : Shelf) where
   -- it goes by the records alone, where a strip is to be restored
   unfoldable pub Alike : State → Image Sector → Image Sector → Type 0
-  Alike s f g = s .marks .forward ≡ true → (d j : ℕ) → g (log d j) ≡ f (log d j)
+  Alike s f g = restores (s .kind) (s .marks .forward) ≡ true → (d j : ℕ) → g (log d j) ≡ f (log d j)
 
-  module _ (f g : Image Sector) where
+  module _ (work : List ℕ) (f g : Image Sector) where
     restored-same : ((d j : ℕ) → g (log d j) ≡ f (log d j)) → (k : Place) → restored z g k ≡ restored z f k
     restored-same h (label d b) = refl
     restored-same h (log d j) = refl
     restored-same h (strip d t j) = ap₂ (λ (x y : Sector). pieceOf z x y j) (h d (z .c)) (h d j)
 
-    pub acts-same : (s : State) → Alike s f g → (x : Stage) → Redoes (s .marks .forward) x → (d j : ℕ) → actsOf z g x d j ≡ actsOf z f x d j
+    pub acts-same : (s : State) (a : Stamp) → Alike s f g → (x : Stage) → Redoes (restores (s .kind) (s .marks .forward)) x → (d j : ℕ) → actsOf z a work g x d j ≡ actsOf z a work f x d j
     unfolding Alike
-    acts-same s h (Flush mask) r d j = refl
-    acts-same s h (Give mask zeroed l) r d j = refl
-    acts-same s h (Wipe mask) r d j = refl
-    acts-same s h (Restore mask t) r d j =
+    acts-same s a h (Flush mask) r d j = refl
+    acts-same s a h (Give mask zeroed l) r d j = refl
+    acts-same s a h (Wipe mask) r d j = refl
+    acts-same s a h (Restore mask t) r d j =
         ap (λ (v : Place → Sector). puts v (rowsFrom (λ e i. strip e t i) (z .c) j (slotsFrom (slots z) mask d))) (fun-ext (restored-same (h r)))
-    acts-same s h End r d j = refl
+    acts-same s a h (Log mask t shards) r d j = refl
+    acts-same s a h (Store mask t) r d j = refl
+    acts-same s a h (Clear mask) r d j = refl
+    acts-same s a h (Erase mask odd) r d j = refl
+    acts-same s a h (Fill mask first count) r d j = refl
+    acts-same s a h End r d j = refl
 
-    pub left-same : (k : ℕ) (s : State) → Alike s f g → leftOf z g k s ≡ leftOf z f k s
+    pub left-same : (k : ℕ) (s : State) → Alike s f g → leftOf z work g k s ≡ leftOf z work f k s
     unfolding leftOf Alike
     left-same zero s h = refl
     left-same (suc k) s h =
         ap₂ (λ (a l : List (Action Sector)). cond (isEnd (stageOf s)) [] (a ++ l))
-        (acts-same s h (stageOf s) (redoes (s .kind) s (s .cursor .stage)) (s .cursor .slot) (s .cursor .sector)) (left-same k (onStage s) h)
+        (acts-same s (stampIn s) h (stageOf s) (redoes (s .kind) s (s .cursor .stage)) (s .cursor .slot) (s .cursor .sector)) (left-same k (onStage s) h)
 
-  module _ (f : Image Sector) where
+  module _ (work : List ℕ) (f : Image Sector) where
     -- where the request is over, nothing
-    pub left-ended : (k : ℕ) (s : State) → isEnd (stageOf s) ≡ true → leftOf z f (suc k) s ≡ []
+    pub left-ended : (k : ℕ) (s : State) → isEnd (stageOf s) ≡ true → leftOf z work f (suc k) s ≡ []
     unfolding leftOf
     left-ended k s e = rw e
 
     -- any number of stages that is enough
-    pub left-any : (k j : ℕ) (s : State) → mostStages ≤ suc (s .cursor .stage + k) → mostStages ≤ suc (s .cursor .stage + j) → leftOf z f k s ≡ leftOf z f j s
+    pub left-any : (k j : ℕ) (s : State) → mostStages ≤ suc (s .cursor .stage + k) → mostStages ≤ suc (s .cursor .stage + j) → leftOf z work f k s ≡ leftOf z work f j s
     unfolding leftOf
     left-any zero zero s a b = refl
     left-any zero (suc j) s a b = sym (left-ended j s (stage-over (s .kind) s (s .cursor .stage) (omega arith)))
     left-any (suc k) zero s a b = left-ended k s (stage-over (s .kind) s (s .cursor .stage) (omega arith))
     left-any (suc k) (suc j) s a b =
-        ap (λ (l : List (Action Sector)). cond (isEnd (stageOf s)) [] (actsOf z f (stageOf s) (s .cursor .slot) (s .cursor .sector) ++ l))
+        ap (λ (l : List (Action Sector)). cond (isEnd (stageOf s)) [] (actsOf z (stampIn s) work f (stageOf s) (s .cursor .slot) (s .cursor .sector) ++ l))
         (left-any k j (onStage s) (omega arith) (omega arith))
 
     -- from slot d, sector j of the stage on: the rest of the stage, and what comes after it
     pub left-at : (k : ℕ) (s : State) (d j : ℕ) → isEnd (stageOf s) ≡ false → mostStages ≤ suc (s .cursor .stage + 1 + k)
-        → leftOf z f mostStages (moved s (s .cursor .stage) d j) ≡ actsOf z f (stageOf s) d j ++ leftOf z f k (onStage s)
+        → leftOf z work f mostStages (moved s (s .cursor .stage) d j) ≡ actsOf z (stampIn s) work f (stageOf s) d j ++ leftOf z work f k (onStage s)
     unfolding leftOf
     left-at k s d j e h =
         let q : stageOf (moved s (s .cursor .stage) d j) ≡ stageOf s = stage-same (s .kind) s (s .cursor .stage) d j (s .cursor .stage) in
-        ap₂ (λ (x : Stage) (l : List (Action Sector)). cond (isEnd x) [] (actsOf z f x d j ++ l)) q (left-any (mostStages - 1) k (onStage s) (omega arith) h)
-        ∙ ap (λ (b : Bool). cond b [] (actsOf z f (stageOf s) d j ++ leftOf z f k (onStage s))) e
+        ap₂ (λ (x : Stage) (l : List (Action Sector)). cond (isEnd x) [] (actsOf z (stampIn s) work f x d j ++ l)) q (left-any (mostStages - 1) k (onStage s) (omega arith) h)
+        ∙ ap (λ (b : Bool). cond b [] (actsOf z (stampIn s) work f (stageOf s) d j ++ leftOf z work f k (onStage s))) e

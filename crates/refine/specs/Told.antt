@@ -31,7 +31,7 @@ low-digit (suc (suc x)) y h g e = absurd (omega arith)
 digit-suc : (m d : ℕ) → m / 2 ^ suc d ≡ m / 2 / 2 ^ d
 digit-suc m d = ap (λ (x : ℕ). m / x) (pow-succ' 2 d) ∙ sym (div-div-eq-div-mul m 2 (2 ^ d))
 
-mask-ext : (n a b : ℕ) → a < 2 ^ n → b < 2 ^ n → ((d : ℕ) → d < n → inMask a d ≡ inMask b d) → a ≡ b
+pub mask-ext : (n a b : ℕ) → a < 2 ^ n → b < 2 ^ n → ((d : ℕ) → d < n → inMask a d ≡ inMask b d) → a ≡ b
 unfolding inMask
 mask-ext zero a b h g e = omega arith
 mask-ext (suc n) a b h g e =

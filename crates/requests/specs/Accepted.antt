@@ -248,11 +248,11 @@ steps-of : (o : Outcome) (s t : State) → (o ≡ Done → Steps t) → begun o 
 steps-of Done s t f e = f refl
 steps-of (Refused why) s t f e = absurd (never why e)
 
-created-steps : (k m c S shelf : ℕ) → fitsOf (firstLabel k m c S shelf) ≡ true → 1 ≤ c → Steps (created k m c S shelf)
+created-steps : (k m c S shelf : ℕ) → fitsOf (firstLabel k m c S shelf) ≡ true → 1 ≤ S → Steps (created k m c S shelf)
 unfolding sound
 created-steps k m c S shelf e some =
     record {
-      taken = both (fitsOf (firstLabel k m c S shelf)) _ e (lt-ltb 0 c some);
+      taken = both (fitsOf (firstLabel k m c S shelf)) _ e (lt-ltb 0 S some);
       now-fits = λ d h. fits-named (firstLabel k m c S shelf) d e h;
       next-fits = λ d h. fits-named (firstLabel k m c S shelf) d e h;
     }
@@ -263,13 +263,13 @@ create-steps s k m c S shelf img room =
     steps-of (createAnswer k m c S img room) s (created k m c S shelf) (λ e.
     let p = create-done k m c S img room e .0 in
     let r = shelf-range k m c S (length img) p in
-    created-steps k m c S shelf (first-fits k m c S shelf (shelf-shards k m c S (length img) p) r) (in-range (record { n = k + m; c = c; sectors = S }) r .some))
+    created-steps k m c S shelf (first-fits k m c S shelf (shelf-shards k m c S (length img) p) r) (omega (arith, in-range (record { n = k + m; c = c; sectors = S }) r .room)))
 
 taken-steps : (s : State) (d : ℕ) → fitsOf (s .now) ≡ true → Goes (s .now) (isIdle (s .kind)) (s .absent) d → Steps (tookOut s d)
 unfolding sound
 taken-steps s d e g =
     record {
-      taken = both (fitsOf (s .now)) _ e (lt-ltb 0 (s .now .c) (fits-says (s .now) e .range .some));
+      taken = both (fitsOf (s .now)) _ e (lt-ltb 0 (s .now .sectors) (omega (arith, fits-says (s .now) e .range .room)));
       now-fits = λ i h. fits-named (s .now) i e h;
       next-fits = λ i h. out-fits (s .now) d i e (g .there) (g .more) h;
     }

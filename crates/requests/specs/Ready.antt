@@ -17,7 +17,7 @@ use Rattle.label.specs.declared.codec.Decoded.{Decoded}
 use Rattle.label.specs.declared.codec.Decoded.the-variants as decoded
 use Rattle.shelf.specs.Act.{named}
 use Rattle.shelf.specs.declared.state.Kind.{Kind}
-use Rattle.shelf.specs.declared.state.Kind.the-variants.{Nothing, Idle, Creating, Starting, Labelling}
+use Rattle.shelf.specs.declared.state.Kind.the-variants.{Nothing, Idle, Creating, Starting, Labelling, Writing, Beginning, Filling}
 
 abbrev pub isNothing : Kind → Bool
 isNothing Nothing = true
@@ -25,6 +25,9 @@ isNothing Idle = false
 isNothing Creating = false
 isNothing Starting = false
 isNothing Labelling = false
+isNothing Writing = false
+isNothing Beginning = false
+isNothing Filling = false
 
 abbrev pub isIdle : Kind → Bool
 isIdle Nothing = false
@@ -32,6 +35,9 @@ isIdle Idle = true
 isIdle Creating = false
 isIdle Starting = false
 isIdle Labelling = false
+isIdle Writing = false
+isIdle Beginning = false
+isIdle Filling = false
 
 -- a shelf is started, or about to be, and its label is in range
 unfoldable pub hasShelf : Label → Kind → Bool

@@ -13,7 +13,7 @@ use Rattle.label.specs.declared.fields.Label.{Label}
 use Rattle.requests.specs.Ready.{hasShelf}
 use Rattle.shelf.specs.declared.state.State.{State}
 use Rattle.shelf.specs.declared.state.Kind.{Kind}
-use Rattle.shelf.specs.declared.state.Kind.the-variants.{Nothing, Idle, Creating, Starting, Labelling}
+use Rattle.shelf.specs.declared.state.Kind.the-variants.{Nothing, Idle, Creating, Starting, Labelling, Writing, Beginning, Filling}
 
 abbrev pub statusCount : ℕ
 statusCount = 11
@@ -25,6 +25,9 @@ readyNumber Idle = 1
 readyNumber Creating = 0
 readyNumber Starting = 0
 readyNumber Labelling = 1
+readyNumber Writing = 1
+readyNumber Beginning = 1
+readyNumber Filling = 1
 
 -- ready, k, m, c, S, shelf, generation, out, absent, rebuilding, mark
 abbrev pub statusFields : ℕ → Label → ℕ → List ℕ

@@ -20,26 +20,26 @@ unfoldable pub otherWork : Label → ℕ → ℕ → Bool
 otherWork l len room = fitsImage (geometryOf l) len && not (eqb room (workBytes (l .k + l .m) (l .c)))
 
 -- the shelf's step, or BAD_BUFFER where that would not be refused for its state or its image, and the work area has another size
-unfoldable pub stepWith : State → List ℕ → ℕ → Move
-stepWith s img room = cond (sound s && otherWork (s .now) (length img) room) (refuses s BadBuffer img) (stepMove s img)
+unfoldable pub stepWith : State → List ℕ → List ℕ → Move
+stepWith s img work = cond (sound s && otherWork (s .now) (length img) (length work)) (refuses s BadBuffer img) (stepMove s work img)
 
 -- a state in range has a label in range
 pub sound-fits : (s : State) → sound s ≡ true → fitsOf (s .now) ≡ true
 unfolding sound
 sound-fits s e = and-left (fitsOf (s .now)) _ e
 
-module _ (s : State) (img : List ℕ) (room : ℕ) where
-  pub step-short : sound s ≡ true → otherWork (s .now) (length img) room ≡ true → stepWith s img room ≡ refuses s BadBuffer img
+module _ (s : State) (img work : List ℕ) where
+  pub step-short : sound s ≡ true → otherWork (s .now) (length img) (length work) ≡ true → stepWith s img work ≡ refuses s BadBuffer img
   unfolding stepWith
-  step-short e f = ap₂ (λ (a b : Bool). cond (a && b) (refuses s BadBuffer img) (stepMove s img)) e f
+  step-short e f = ap₂ (λ (a b : Bool). cond (a && b) (refuses s BadBuffer img) (stepMove s work img)) e f
 
-  pub step-goes : sound s ≡ true → otherWork (s .now) (length img) room ≡ false → stepWith s img room ≡ stepMove s img
+  pub step-goes : sound s ≡ true → otherWork (s .now) (length img) (length work) ≡ false → stepWith s img work ≡ stepMove s work img
   unfolding stepWith
-  step-goes e f = ap₂ (λ (a b : Bool). cond (a && b) (refuses s BadBuffer img) (stepMove s img)) e f
+  step-goes e f = ap₂ (λ (a b : Bool). cond (a && b) (refuses s BadBuffer img) (stepMove s work img)) e f
 
-  pub step-unsound : sound s ≡ false → stepWith s img room ≡ stepMove s img
+  pub step-unsound : sound s ≡ false → stepWith s img work ≡ stepMove s work img
   unfolding stepWith
-  step-unsound e = ap (λ (a : Bool). cond (a && otherWork (s .now) (length img) room) (refuses s BadBuffer img) (stepMove s img)) e
+  step-unsound e = ap (λ (a : Bool). cond (a && otherWork (s .now) (length img) (length work)) (refuses s BadBuffer img) (stepMove s work img)) e
 
 module _ (l : Label) (len room : ℕ) where
   pub other-no : fitsImage (geometryOf l) len ≡ false → false ≡ otherWork l len room

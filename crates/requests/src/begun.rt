@@ -9,7 +9,9 @@ use disk::refusal::Outcome;
 use shelf::state::Marks;
 use shelf::state::State;
 ghost use mathlib.Core.Path.{_≡_};
+ghost use mathlib.Core.Bool.{cond};
 ghost use Prim.Native.Nat.{_≤_, _<_};
+ghost use lib.Dec.{leb};
 ghost use Rattle.disk.specs.Limits.{mostN};
 ghost use Rattle.requests.specs.Begun.{workBytes, slotsBut, joined, marksOf};
 
@@ -59,6 +61,16 @@ pub(crate) fn slots_but(absent: u64, n: usize) -> u64
         d += 1;
     }
     mask
+}
+
+// The same of any n; none where there are not so many slots.
+pub fn present_slots(absent: u64, n: usize) -> u64
+    ensures { λ r. ⌜ r ≡ cond (leb n mostN) (slotsBut absent n) 0 ⌝ }
+{
+    if MOST_N < n {
+        return 0;
+    }
+    slots_but(absent, n)
 }
 
 // What a request goes by that concerns all present slots alike.

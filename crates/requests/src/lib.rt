@@ -3,7 +3,7 @@
 pub mod begun;
 pub mod create;
 mod of_label;
-mod ready;
+pub mod ready;
 pub mod start;
 pub mod status;
 pub mod step;

@@ -26,11 +26,14 @@ fn is_nothing(kind: Kind) -> bool
         Kind::Creating => false,
         Kind::Starting => false,
         Kind::Labelling => false,
+        Kind::Writing => false,
+        Kind::Beginning => false,
+        Kind::Filling => false,
     }
 }
 
 // Whether no request is under way on a shelf that is started.
-pub(crate) fn is_idle(kind: Kind) -> bool
+pub fn is_idle(kind: Kind) -> bool
     ensures { λ r. ⌜ r ≡ isIdle kind ⌝ }
 {
     match kind {
@@ -39,11 +42,14 @@ pub(crate) fn is_idle(kind: Kind) -> bool
         Kind::Creating => false,
         Kind::Starting => false,
         Kind::Labelling => false,
+        Kind::Writing => false,
+        Kind::Beginning => false,
+        Kind::Filling => false,
     }
 }
 
 // Whether a shelf is started, or about to be.
-pub(crate) fn has_shelf(l: Label, kind: Kind) -> bool
+pub fn has_shelf(l: Label, kind: Kind) -> bool
     ensures { λ r. ⌜ r ≡ hasShelf l kind ⌝ }
 {
     if is_nothing(kind) {
@@ -108,7 +114,7 @@ fn all_hold(image: &[u8], g: Geometry, absent: u64, l: Label) -> bool
 }
 
 // The first of these refusals. While a request is under way the labels are on their way too, and are not compared.
-pub(crate) fn ready(l: Label, kind: Kind, absent: u64, image: &[u8]) -> Outcome
+pub fn ready(l: Label, kind: Kind, absent: u64, image: &[u8]) -> Outcome
     ensures { λ r. ⌜ r ≡ readyOf l kind absent (now (image .entry)) ⌝ }
 {
     if !has_shelf(l, kind) {

@@ -22,6 +22,9 @@ fn ready_number(kind: Kind) -> u64
         Kind::Creating => 0,
         Kind::Starting => 0,
         Kind::Labelling => 1,
+        Kind::Writing => 1,
+        Kind::Beginning => 1,
+        Kind::Filling => 1,
     }
 }
 

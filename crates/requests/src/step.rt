@@ -10,7 +10,6 @@ use shelf::state::Stepped;
 use shelf::step::in_range;
 ghost use mathlib.Core.Path.{_≡_};
 ghost use mathlib.Core.Bool.{true};
-ghost use lib.ListN.{length};
 ghost use Rattle.label.specs.Fields.{fitsOf};
 ghost use Rattle.requests.specs.Step.{otherWork, stepWith};
 
@@ -28,18 +27,18 @@ fn other_work(l: Label, len: usize, room: usize) -> bool
 
 // Does the next action of the request under way, or says that it is done. The refusals are those of the shelf's step; then a
 // work area of another size is BAD_BUFFER. A refusal changes nothing.
-pub fn step(s: State, image: &mut [u8], room: usize) -> Stepped
-    ensures { λ r. ⌜ (r ≡ stepWith s (now (image .entry)) room .stepped) × (now (image .exit) ≡ stepWith s (now (image .entry)) room .image) ⌝ }
+pub fn step(s: State, image: &mut [u8], work: &[u8]) -> Stepped
+    ensures { λ r. ⌜ (r ≡ stepWith s (now (image .entry)) (now (work .entry)) .stepped) × (now (image .exit) ≡ stepWith s (now (image .entry)) (now (work .entry)) .image) ⌝ }
 {
     if !in_range(s) {
-        return shelf::step::step(s, image);
+        return shelf::step::step(s, work, image);
     }
     let now = s.now;
-    if other_work(now, image.len(), room) {
+    if other_work(now, image.len(), work.len()) {
         return Stepped {
             state: s,
             answer: Answer::Refused(Refusal::BadBuffer),
         };
     }
-    shelf::step::step(s, image)
+    shelf::step::step(s, work, image)
 }

@@ -1,218 +1,126 @@
--- The shelf's code at real sectors, as the protocol asks for it (document 03, section 1, and document 01, sections 2 to 4). Shard r
--- of stripe t lies in slot (r + t) mod n; byte by byte the shards of a stripe meet the equations. What is believed gives the blocks
--- back; a scrub tells a sound stripe. Both are definitions by search, total in the strips whatever these hold. Assumes nothing.
-use mathlib.Core.Path.{_≡_, refl, sym, ap, _∙_}
-use mathlib.Core.Bool.{Bool, true, false, cond, _&&_, _||_, or-true, true≢false}
-use mathlib.Core.List.{List}
-use mathlib.Core.Logic.{_≢_, ⊎-elim}
-use Prim.Native.Nat.{ℕ, _+_, _≤_, _<_}
+-- The shelf's code at real sectors, as the protocol asks for it: the strips of Strips, and what a scrub and a mended strip are where all shards of a
+-- stripe but one are right. Assumes nothing.
+use mathlib.Core.Path.{_≡_, refl, sym, ap, subst, _∙_}
+use mathlib.Core.Bool.{Bool, true, false, cond, true≢false, false≢true}
+use mathlib.Core.List.{[], _∷_}
+use mathlib.Core.Logic.{_≢_, _⊎_, inl, inr}
+use Prim.Native.Nat.{ℕ, _≤_, _<_}
 use native.Mathlib.Omega.{arith}
-use lib.Dec.{eqb, ltb, leb}
-use lib.ListN.{length}
-use borrow.Author.Tests.{ltb-true, lt-ltb, le-leb, eq-eqb, ne-eqb}
+use native.Mathlib.Decide.{ℕ-discrete}
+use lib.Dec.{eqb, leb}
+use borrow.Author.Tests.{eq-eqb, ne-eqb, eqb-false, leb-true, le-leb}
 use Rattle.disk.specs.Limits.{sectorBytes}
-use Rattle.disk.specs.Tests.{and-left}
-use Rattle.disk.specs.Image.{lt-or-ge}
-use Rattle.disk.specs.Geometry.{slotOf, shardOf, slot-lt, shard-slot, in-range-with}
-use Rattle.codeword.specs.Stripe.{InRange, Holds, Bytes, has}
-use Rattle.codeword.specs.Mend.{put}
-use Rattle.protocol.specs.Count.{count}
-use Rattle.protocol.specs.Host.{Blocks, set-block, Finding, all-sound, accused, several, Code}
+use Rattle.disk.specs.Geometry.{slotOf, shardOf, slot-lt, shard-lt, shard-slot, slot-shard}
+use Rattle.codeword.specs.Stripe.{has}
+use Rattle.codeword.specs.Unique.{unique}
+use Rattle.codeword.specs.Mend.{put, put-at, put-off}
+use Rattle.protocol.specs.Host.{Blocks, Finding, all-sound, accused, several, blames, Code}
 use Rattle.codecs.specs.Sector.{Sector, zeros}
-use Rattle.codecs.specs.Shelf.{Shelf, slots, geometry, some-slots}
-use Rattle.position.specs.Search.{all, all-of, some, first}
-use Rattle.shards.specs.Quorum.{fewOf, few-count, quorum, count-shards, broad-shards}
-use Rattle.shards.specs.Counted.{ascending-length}
-use Rattle.position.specs.Position.{holds, holds-is, holds-same, ascending, ascending-has, filled, filled-bytes, filled-back}
-use Rattle.shards.specs.Parity.{byte, byte-small, sector-ext, sectorOf, byte-of, parityOfSectors, rowOf, shardSector, data-sector, parity-zeros, shard-ext, sectors-hold}
+use Rattle.codecs.specs.Shelf.{Shelf, slots, some-slots}
+use Rattle.shards.specs.Quorum.{fewOf, count-few, count-one, quorum}
+use Rattle.position.specs.Position.{holds-same}
+use Rattle.shards.specs.Parity.{byte, byte-small, sector-ext, shardSector, sectors-hold}
+use Rattle.shards.specs.Strips.{shardIn, touchedIn, position, position-bytes, soundIn, sound-is, blocksFrom, scrubOf, in-range, shard-there, stripe-there, touched-inside, shard-equal, shard-kept, zeros-in, blocks-back, scrub-holds, scrub-right, touched-broad}
+use Rattle.shards.specs.Exact.{Sound, sound-of, Blames, scrub-accuses, scrub-several, blocks-there}
 
--- ---- the definitions
+-- ---- a strip from the others
 
--- the strip of slot d for the blocks b: the shard that lies there. Slots past the shelf have zeros
-unfoldable pub shardIn : Shelf → ℕ → Blocks Sector → ℕ → ℕ → Sector
-shardIn z t b d j = cond (ltb d (slots z)) (shardSector (z .k) (z .m) b (shardOf (slots z) t d) j) zeros
+unfoldable pub mendedIn : Shelf → ℕ → (ℕ → ℕ → Sector) → ℕ → ℕ → Sector
+mendedIn z t g d j = shardIn z t (blocksFrom z t (λ e. eqb e d) g) d j
 
--- block i reaches its own shard and the parity shards
-unfoldable pub reaches : ℕ → ℕ → ℕ → Bool
-reaches k i r = eqb r i || leb k r
-
-pub reaches-own : (k i : ℕ) → reaches k i i ≡ true
-unfolding reaches
-reaches-own k i = rw (eq-eqb i i refl)
-
-pub reaches-parity : (k i r : ℕ) → k ≤ r → reaches k i r ≡ true
-unfolding reaches
-reaches-parity k i r h = ap (λ (b : Bool). eqb r i || b) (le-leb k r h) ∙ or-true (eqb r i)
-
-unfoldable pub touchedIn : Shelf → ℕ → ℕ → ℕ → Bool
-touchedIn z t i d = ltb d (slots z) && reaches (z .k) i (shardOf (slots z) t d)
-
--- the bytes of the shards of stripe t at byte p of sector j of the strips g
-unfoldable pub position : Shelf → ℕ → (ℕ → ℕ → Sector) → ℕ → ℕ → ℕ → ℕ
-position z t g j p r = byte (g (slotOf (slots z) t r) j) p
-
--- the shards of stripe t that lie in bad slots, in ascending order
-unfoldable pub missingOf : Shelf → ℕ → (ℕ → Bool) → List ℕ
-missingOf z t bad = ascending (λ r. bad (slotOf (slots z) t r)) (slots z)
-
-pub position-bytes : (z : Shelf) (t : ℕ) (g : ℕ → ℕ → Sector) (j p : ℕ) → Bytes (position z t g j p)
-unfolding position
-position-bytes z t g j p r = byte-small (g (slotOf (slots z) t r) j) p
-
--- the blocks from the strips of the slots that are not bad
-unfoldable pub blocksFrom : Shelf → ℕ → (ℕ → Bool) → (ℕ → ℕ → Sector) → Blocks Sector
-blocksFrom z t bad g i j =
-    sectorOf (λ p. filled (z .k) (z .m) (missingOf z t bad) (position z t g j p) i)
-    (λ p. filled-bytes (z .k) (z .m) (missingOf z t bad) (position z t g j p) (position-bytes z t g j p) i)
-
--- the equations hold at every byte of a strip
-unfoldable pub soundIn : Shelf → (ℕ → ℕ → ℕ → ℕ) → Bool
-soundIn z x = all (z .c) (λ j. all sectorBytes (λ p. holds (z .k) (z .m) (x j p)))
-
-pub sound-is : (z : Shelf) (x : ℕ → ℕ → ℕ → ℕ) → ((j p : ℕ) → j < z .c → p < sectorBytes → Holds (z .k) (z .m) (x j p)) → soundIn z x ≡ true
-unfolding soundIn
-sound-is z x e =
-    all-of (z .c) (λ j. all sectorBytes (λ p. holds (z .k) (z .m) (x j p)))
-    (λ j hj. all-of sectorBytes (λ p. holds (z .k) (z .m) (x j p)) (λ p hp. holds-is (z .k) (z .m) (x j p) (e j p hj hp)))
-
--- there is a content for shard r with which they do
-unfoldable pub mendedBy : Shelf → (ℕ → ℕ → ℕ → ℕ) → ℕ → Bool
-mendedBy z x r = all (z .c) (λ j. all sectorBytes (λ p. some 256 (λ v. holds (z .k) (z .m) (put r v (x j p)))))
-
--- exactly one shard is such
-unfoldable pub oneMends : Shelf → (ℕ → ℕ → ℕ → ℕ) → Bool
-oneMends z x = leb 2 (z .m) && eqb (count (mendedBy z x) (slots z)) 1
-
--- the finding names a shard, not a slot. With m = 1 nobody is named, and `several` stands for every stripe that is not sound
-unfoldable pub scrubOf : Shelf → ℕ → (ℕ → ℕ → Sector) → Finding
-scrubOf z t g =
-    cond (soundIn z (position z t g)) all-sound
-    (cond (oneMends z (position z t g)) (accused (first (slots z) (mendedBy z (position z t g)))) several)
-
--- ---- their laws
+-- whom a finding names
+abbrev who : Finding → ℕ
+who all-sound = 0
+who (accused r) = r
+who several = 0
 
 module _ (z : Shelf) where
   abbrev n : ℕ
   n = slots z
 
-  pub in-range : InRange (z .k) (z .m)
-  in-range =
-      let s = in-range-with (geometry z) (z .k) (z .range) .1 in
-      record { k-least = s .least; k-most = s .most; m-least = omega (arith, s .parity); m-most = omega (arith, s .few) }
+  -- one slot is few
+  few-one : (d : ℕ) → d < n → fewOf z (λ e. eqb e d) ≡ true
+  few-one d h = count-few z (λ e. eqb e d) (omega (arith, in-range z .m-least, count-one (λ e. eqb e d) n d h (eq-eqb d d refl) (λ i l q. ne-eqb i d q)))
 
-  module _ (t : ℕ) where
-    -- the strip of a slot is the shard that lies there
-    pub shard-there : (b : Blocks Sector) (r j : ℕ) → r < n → shardIn z t b (slotOf n t r) j ≡ shardSector (z .k) (z .m) b r j
-    unfolding shardIn
-    shard-there b r j h =
-        ap (λ (u : Bool). cond u (shardSector (z .k) (z .m) b (shardOf n t (slotOf n t r)) j) zeros) (lt-ltb (slotOf n t r) n (slot-lt n t (some-slots z) r))
-        ∙ ap (λ (q : ℕ). shardSector (z .k) (z .m) b q j) (shard-slot n t (some-slots z) r h)
+  -- block i is shard i
+  pub home : (t : ℕ) (bad : ℕ → Bool) (g : ℕ → ℕ → Sector) (i j : ℕ) → i < z .k → bad (slotOf n t i) ≡ false → blocksFrom z t bad g i j ≡ g (slotOf n t i) j
+  home t bad g i j h e = blocks-there z t bad g i j (omega arith) e
 
-    touched-there : (i r : ℕ) → r < n → reaches (z .k) i r ≡ true → touchedIn z t i (slotOf n t r) ≡ true
-    unfolding touchedIn
-    touched-there i r h e =
-        ap (λ (u : Bool). u && reaches (z .k) i (shardOf n t (slotOf n t r))) (lt-ltb (slotOf n t r) n (slot-lt n t (some-slots z) r))
-        ∙ ap (reaches (z .k) i) (shard-slot n t (some-slots z) r h) ∙ e
+  -- all strips but that of slot d are those of the blocks b
+  module _ (t d : ℕ) (b : Blocks Sector) (g : ℕ → ℕ → Sector) (hd : d < n) (right : (e j : ℕ) → e < n → e ≢ d → j < z .c → g e j ≡ shardIn z t b e j) where
+    pub mended-right : (j : ℕ) → j < z .c → mendedIn z t g d j ≡ shardIn z t b d j
+    unfolding mendedIn
+    mended-right j hj =
+        shard-equal z t (blocksFrom z t (λ e. eqb e d) g) b
+        (λ i l hi hl. blocks-back z t (λ e. eqb e d) b g (few-one d hd) (λ e l he q hl. right e l he (eqb-false e d q) hl) i l hi hl) d j hd hj
 
-    pub touched-inside : (i d : ℕ) → touchedIn z t i d ≡ true → d < n
-    unfolding touchedIn
-    touched-inside i d e = ltb-true d n (and-left (ltb d n) (reaches (z .k) i (shardOf n t d)) e)
+    -- the shard that lies there
+    r : ℕ
+    r = shardOf n t d
 
-    pub shard-equal : (a b : Blocks Sector) → ((i j : ℕ) → i < z .k → j < z .c → a i j ≡ b i j) → (d j : ℕ) → d < n → j < z .c → shardIn z t a d j ≡ shardIn z t b d j
-    unfolding shardIn
-    shard-equal a b e d j h l = go (ltb d n)
-      where
-        go : (u : Bool) → cond u (shardSector (z .k) (z .m) a (shardOf n t d) j) zeros ≡ cond u (shardSector (z .k) (z .m) b (shardOf n t d) j) zeros
-        go true = shard-ext (z .k) (z .m) a b (shardOf n t d) j (λ i g. e i j g l)
-        go false = refl
+    r-lt : r < n
+    unfolding r
+    r-lt = shard-lt n t (some-slots z) d
 
-    -- another block than i, and no parity
-    kept : (i r : ℕ) (b : Blocks Sector) (x : ℕ → Sector) (j : ℕ) → reaches (z .k) i r ≡ false → shardSector (z .k) (z .m) b r j ≡ shardSector (z .k) (z .m) (set-block b i x) r j
-    unfolding set-block
-    kept i r b x j e = ⊎-elim same (λ h. absurd (true≢false (sym (reaches-parity (z .k) i r h) ∙ e))) (lt-or-ge r (z .k))
-      where
-        other : r ≢ i
-        other q = true≢false (sym (reaches-own (z .k) i) ∙ (ap (reaches (z .k) i) (sym q) ∙ e))
+    r-slot : slotOf n t r ≡ d
+    unfolding r
+    r-slot = slot-shard n t (some-slots z) d hd
 
-        same : r < z .k → shardSector (z .k) (z .m) b r j ≡ shardSector (z .k) (z .m) (λ i'. cond (eqb i' i) x (b i')) r j
-        same l =
-            data-sector (z .k) (z .m) b r j l ∙ ap (λ (u : Bool). cond u x (b r) j) (sym (ne-eqb r i other))
-            ∙ sym (data-sector (z .k) (z .m) (λ i'. cond (eqb i' i) x (b i')) r j l)
-
-    pub shard-kept : (i : ℕ) (b : Blocks Sector) (x : ℕ → Sector) (d j : ℕ) → touchedIn z t i d ≡ false → shardIn z t b d j ≡ shardIn z t (set-block b i x) d j
-    unfolding touchedIn shardIn
-    shard-kept i b x d j e = go (ltb d n) e
-      where
-        go : (u : Bool) → (u && reaches (z .k) i (shardOf n t d)) ≡ false
-            → cond u (shardSector (z .k) (z .m) b (shardOf n t d) j) zeros ≡ cond u (shardSector (z .k) (z .m) (set-block b i x) (shardOf n t d) j) zeros
-        go true h = kept i (shardOf n t d) b x j h
-        go false h = refl
-
-    pub zeros-in : (d j : ℕ) → shardIn z t (λ i l. zeros) d j ≡ zeros
-    unfolding shardIn shardSector
-    zeros-in d j = go (ltb d n) (ltb (shardOf n t d) (z .k))
-      where
-        go : (u v : Bool) → cond u (cond v zeros (parityOfSectors (z .k) (z .m) (rowOf (z .k) (shardOf n t d)) (λ i. zeros))) zeros ≡ zeros
-        go true true = refl
-        go true false = parity-zeros (z .k) (z .m) (rowOf (z .k) (shardOf n t d))
-        go false v = refl
-
-    -- the strips of some blocks, as bytes of a position
-    stripe-there : (b : Blocks Sector) (g : ℕ → ℕ → Sector) (j p r : ℕ) → r < n → g (slotOf n t r) j ≡ shardIn z t b (slotOf n t r) j
-        → position z t g j p r ≡ byte (shardSector (z .k) (z .m) b r j) p
+    at-position : (j p : ℕ) → byte (g (slotOf n t r) j) p ≡ position z t g j p r
     unfolding position
-    stripe-there b g j p r h e = ap (λ (x : Sector). byte x p) (e ∙ shard-there b r j h)
+    at-position j p = refl
 
-    -- few bad slots are few missing shards
-    pub missing-few : (bad : ℕ → Bool) → fewOf z bad ≡ true → length (missingOf z t bad) ≤ z .m
-    unfolding missingOf
-    missing-few bad few = omega (arith, ascending-length (λ r. bad (slotOf n t r)) n, count-shards bad n t, few-count z bad few)
-
-    -- those whose slot is bad
-    pub missing-has : (bad : ℕ → Bool) (r : ℕ) → r < n → has (missingOf z t bad) r ≡ bad (slotOf n t r)
-    unfolding missingOf
-    missing-has bad r h = ascending-has (λ r. bad (slotOf n t r)) n r h
-
-    -- a block, byte by byte
-    pub blocks-byte : (bad : ℕ → Bool) (g : ℕ → ℕ → Sector) (i j p : ℕ) → p < sectorBytes
-        → byte (blocksFrom z t bad g i j) p ≡ filled (z .k) (z .m) (missingOf z t bad) (position z t g j p) i
-    unfolding blocksFrom
-    blocks-byte bad g i j p l =
-        byte-of (λ p. filled (z .k) (z .m) (missingOf z t bad) (position z t g j p) i)
-        (λ p. filled-bytes (z .k) (z .m) (missingOf z t bad) (position z t g j p) (position-bytes z t g j p) i) p l
-
-    pub blocks-back : (bad : ℕ → Bool) (b : Blocks Sector) (g : ℕ → ℕ → Sector) → fewOf z bad ≡ true
-        → ((d j : ℕ) → d < n → bad d ≡ false → j < z .c → g d j ≡ shardIn z t b d j) → (i j : ℕ) → i < z .k → j < z .c → blocksFrom z t bad g i j ≡ b i j
-    blocks-back bad b g few e i j hi hj = sector-ext (blocksFrom z t bad g i j) (b i j) same
+    blamed : Blames z (position z t g) r
+    blamed j p hj hp = (byte (shardSector (z .k) (z .m) b r j) p, byte-small (shardSector (z .k) (z .m) b r j) p, holds-same (z .k) (z .m) (put r v (position z t g j p)) (λ q. byte (shardSector (z .k) (z .m) b q j) p) (λ q hq. there q hq (ℕ-discrete q r)) (sectors-hold (z .k) (z .m) b j p hp))
       where
-        there : (p r : ℕ) → r < z .k + z .m → has (missingOf z t bad) r ≡ false → position z t g j p r ≡ byte (shardSector (z .k) (z .m) b r j) p
-        there p r h q = stripe-there b g j p r h (e (slotOf n t r) j (slot-lt n t (some-slots z) r) (sym (missing-has bad r h) ∙ q) hj)
+        v : ℕ
+        v = byte (shardSector (z .k) (z .m) b r j) p
 
-        same : (p : ℕ) → p < sectorBytes → byte (blocksFrom z t bad g i j) p ≡ byte (b i j) p
-        same p l =
-            blocks-byte bad g i j p l
-            ∙ filled-back (z .k) (z .m) in-range (missingOf z t bad) (missing-few bad few) (position z t g j p) (λ r. byte (shardSector (z .k) (z .m) b r j) p)
-            (position-bytes z t g j p) (λ r. byte-small (shardSector (z .k) (z .m) b r j) p) (sectors-hold (z .k) (z .m) b j p l) (there p) i (omega arith)
-            ∙ ap (λ (x : Sector). byte x p) (data-sector (z .k) (z .m) b i j hi)
+        apart : (q : ℕ) → q < n → q ≢ r → slotOf n t q ≢ d
+        apart q hq ne e = ne (sym (shard-slot n t (some-slots z) q hq) ∙ (ap (shardOf n t) (e ∙ sym r-slot) ∙ shard-slot n t (some-slots z) r r-lt))
 
-    -- a stripe whose equations hold at every byte is found sound
-    pub scrub-holds : (g : ℕ → ℕ → Sector) → ((j p : ℕ) → j < z .c → p < sectorBytes → Holds (z .k) (z .m) (position z t g j p)) → scrubOf z t g ≡ all-sound
-    unfolding scrubOf
-    scrub-holds g e = rw (sound-is z (position z t g) e)
+        there : (q : ℕ) → q < n → Dec (q ≡ r) → put r v (position z t g j p) q ≡ byte (shardSector (z .k) (z .m) b q j) p
+        there q hq (yes e) = ap (put r v (position z t g j p)) e ∙ (put-at r v (position z t g j p) ∙ ap (λ (x : ℕ). byte (shardSector (z .k) (z .m) b x j) p) (sym e))
+        there q hq (no ne) = put-off r v q (position z t g j p) ne ∙ stripe-there z t b g j p q hq (right (slotOf n t q) j (slot-lt n t (some-slots z) q) (apart q hq ne) hj)
 
-    pub scrub-right : (b : Blocks Sector) (g : ℕ → ℕ → Sector) → ((d j : ℕ) → d < n → j < z .c → g d j ≡ shardIn z t b d j) → scrubOf z t g ≡ all-sound
-    scrub-right b g e =
-        scrub-holds g
-        (λ j p hj l. holds-same (z .k) (z .m) (position z t g j p) (λ r. byte (shardSector (z .k) (z .m) b r j) p)
-        (λ r h. stripe-there b g j p r h (e (slotOf n t r) j (slot-lt n t (some-slots z) r) hj)) (sectors-hold (z .k) (z .m) b j p l))
+    -- nobody else is accused
+    pub accused-there : (q : ℕ) → scrubOf z t g ≡ accused q → slotOf n t q ≡ d
+    accused-there q e = go (leb 2 (z .m)) refl
+      where
+        not-sound : Sound z (position z t g) → ⊥
+        not-sound h = false≢true (ap blames (sym (scrub-holds z t g h) ∙ e))
 
-    pub touched-broad : (i : ℕ) → i < z .k → (a : ℕ → Bool) → fewOf z a ≡ true → (d : ℕ) × (d < n) × (a d ≡ false) × (touchedIn z t i d ≡ true)
-    touched-broad i h a few =
-        let y = broad-shards (z .k) (z .m) i (λ r. touchedIn z t i (slotOf n t r)) (λ r. a (slotOf n t r)) h
-        (touched-there i i (omega arith) (reaches-own (z .k) i))
-        (λ r k l. touched-there i r l (reaches-parity (z .k) i r k))
-        (omega (arith, count-shards a n t, few-count z a few)) in
-        (slotOf n t (y .0), slot-lt n t (some-slots z) (y .0), y .2, y .3)
+        go : (y : Bool) → leb 2 (z .m) ≡ y → slotOf n t q ≡ d
+        go true two = ap (λ (f : Finding). slotOf n t (who f)) (sym e ∙ scrub-accuses z t g not-sound (leb-true 2 (z .m) two) r r-lt blamed) ∙ r-slot
+        go false two = absurd (false≢true (ap blames (sym (scrub-several z t g not-sound (λ m x hx u. true≢false (sym (le-two m) ∙ two))) ∙ e)))
+          where
+            le-two : 2 ≤ z .m → leb 2 (z .m) ≡ true
+            le-two m = le-leb 2 (z .m) m
+
+    -- a sound stripe: then this strip is right too
+    sound-strip : Sound z (position z t g) → (j : ℕ) → j < z .c → g d j ≡ shardIn z t b d j
+    sound-strip h j hj = subst (λ (x : ℕ). g x j ≡ shardIn z t b x j) r-slot (sector-ext (g (slotOf n t r) j) (shardIn z t b (slotOf n t r) j) (λ p hp. bytes p hp ∙ ap (λ (x : Sector). byte x p) (sym (shard-there z t b r j r-lt))))
+      where
+        apart : (q : ℕ) → q < n → q ≢ r → slotOf n t q ≢ d
+        apart q hq ne e = ne (sym (shard-slot n t (some-slots z) q hq) ∙ (ap (shardOf n t) (e ∙ sym r-slot) ∙ shard-slot n t (some-slots z) r r-lt))
+
+        off : (q : ℕ) → has (r ∷ []) q ≡ false → q ≢ r
+        off q e y = true≢false (sym (ap (λ (x : Bool). cond x true false) (eq-eqb r q (sym y))) ∙ e)
+
+        bytes : (p : ℕ) → p < sectorBytes → byte (g (slotOf n t r) j) p ≡ byte (shardSector (z .k) (z .m) b r j) p
+        bytes p hp =
+            at-position j p
+            ∙ unique (z .k) (z .m) (in-range z) (r ∷ []) (in-range z .m-least) (position z t g j p) (λ q. byte (shardSector (z .k) (z .m) b q j) p) (position-bytes z t g j p) (λ q. byte-small (shardSector (z .k) (z .m) b q j) p)
+            (h j p hj hp) (sectors-hold (z .k) (z .m) b j p hp)
+            (λ q hq e. stripe-there z t b g j p q hq (right (slotOf n t q) j (slot-lt n t (some-slots z) q) (apart q hq (off q e)) hj)) r r-lt
+
+    -- with m >= 2 a rotten strip is told
+    pub told : leb 2 (z .m) ≡ true → ((j : ℕ) → j < z .c → g d j ≡ shardIn z t b d j) ⊎ ((q : ℕ) × (scrubOf z t g ≡ accused q))
+    told two = go (soundIn z (position z t g)) refl
+      where
+        go : (y : Bool) → soundIn z (position z t g) ≡ y → ((j : ℕ) → j < z .c → g d j ≡ shardIn z t b d j) ⊎ ((q : ℕ) × (scrubOf z t g ≡ accused q))
+        go true e = inl (sound-strip (sound-of z (position z t g) e))
+        go false e = inr (r, scrub-accuses z t g (λ h. true≢false (sym (sound-is z (position z t g) h) ∙ e)) (leb-true 2 (z .m) two) r r-lt blamed)
 
 -- ---- the code of a shelf
 
@@ -230,6 +138,13 @@ code z more =
       scrub = scrubOf z;
       scrub-sound = scrub-right z;
       broad = touched-broad z;
+      lies = slotOf (slots z);
+      mended = mendedIn z;
+      at-home = home z;
+      mends = mended-right z;
+      accuses-it = λ t d r b g h e. accused-there z t d b g h e r;
+      sharp = leb 2 (z .m);
+      tells = λ two t d b g h e. told z t d b g h e two;
     }
 
 -- with nothing written, the shards are zeros

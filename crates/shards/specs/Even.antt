@@ -5,13 +5,13 @@ use mathlib.Core.Bool.{Bool, true, false, false≢true}
 use mathlib.Core.List.{List, List·Memᴰ}
 use Prim.Native.Nat.{ℕ, _<_}
 use native.Mathlib.Omega.{arith}
-use lib.Dec.{lit<}
-use Rattle.disk.specs.Geometry.{stripLength, inRange, splits, inRangeWith}
+use lib.Dec.{leb, lit<}
+use Rattle.disk.specs.Geometry.{slotOf, stripLength, inRange, splits, inRangeWith}
 use Rattle.protocol.specs.World.{Image, World, Sane, Always}
 use Rattle.protocol.specs.Label.{Quorum}
-use Rattle.protocol.specs.Host.{Code, read, read-through, writeOf, rebuilt}
+use Rattle.protocol.specs.Host.{Code, read, read-through, writeOf, whole-change, repairOf, rebuilt}
 use Rattle.protocol.specs.Count.{count-part}
-use Rattle.protocol.specs.Program.{Medium, Memory, nothing, idle, doing, Input, create, start, read-block, write, take-out, begin, rebuild-on, scrub-stripe, step, Reply, mask, left-out, flushed-first, told-to, program}
+use Rattle.protocol.specs.Program.{Medium, Memory, nothing, idle, doing, Input, create, start, read-block, write, take-out, begin, rebuild-on, scrub-stripe, repair, step, Reply, mask, change-made, left-out, flushed-first, told-to, program}
 use Rattle.protocol.specs.Machine.{Machine, at, Event, View, sure, Views}
 use Rattle.protocol.specs.Promise.{Zeros}
 use Rattle.protocol.specs.Even.{Shared, program-by, RunsBy, left-by, all-passed}
@@ -26,7 +26,8 @@ use Rattle.codecs.specs.Labels.{labels}
 use Rattle.codecs.specs.Records.{records}
 use Rattle.codecs.specs.Media.{stamps, medium}
 use Rattle.shards.specs.Quorum.{fewOf, few-count, count-few, few-none, quorum}
-use Rattle.shards.specs.Code.{shardIn, blocksFrom, touchedIn, scrubOf, touched-inside, blocks-back, shard-equal, shard-kept, scrub-right, touched-broad, zeros-in, code}
+use Rattle.shards.specs.Strips.{shardIn, blocksFrom, touchedIn, scrubOf, touched-inside, blocks-back, shard-equal, shard-kept, scrub-right, touched-broad, zeros-in}
+use Rattle.shards.specs.Code.{mendedIn, home, mended-right, accused-there, told, code}
 use Rattle.shards.specs.Promise.{sectors}
 
 -- there are shelves with k <= m: two data disks and two for parity
@@ -50,6 +51,13 @@ module _ (z : Shelf) where
         scrub = scrubOf z;
         scrub-sound = scrub-right z;
         broad = λ t i h a few. absurd (false≢true few);
+        lies = slotOf (slots z);
+        mended = mendedIn z;
+        at-home = home z;
+        mends = mended-right z;
+        accuses-it = λ t d r b g h e. accused-there z t d b g h e r;
+        sharp = leb 2 (z .m);
+        tells = λ two t d b g h e. told z t d b g h e two;
       }
 
   pub mends : Mends (fewOf z) any-code
@@ -103,7 +111,7 @@ module _ (z : Shelf) where
 
   -- and it is the program that Promise is about
   pub same-program : (more : z .m < z .k) (m : Memory Sector) (f : Image Sector) (i : Input Sector) → shelf-program m f i ≡ program (size z) (quorum z more) (labels z) (records z) (code z more) stamps (sectors z more) m f i
-  unfolding program-by program mask left-out flushed-first told-to read read-through writeOf rebuilt sectors any-sectors medium
+  unfolding program-by program mask left-out flushed-first told-to read read-through writeOf change-made whole-change repairOf rebuilt sectors any-sectors medium
   same-program more nothing f create = refl
   same-program more nothing f (start A) = refl
   same-program more nothing f (read-block t i) = refl
@@ -112,6 +120,7 @@ module _ (z : Shelf) where
   same-program more nothing f (begin d) = refl
   same-program more nothing f (rebuild-on b) = refl
   same-program more nothing f (scrub-stripe t) = refl
+  same-program more nothing f (repair t) = refl
   same-program more nothing f step = refl
   same-program more (idle o) f create = refl
   same-program more (idle o) f (start A) = refl
@@ -121,6 +130,7 @@ module _ (z : Shelf) where
   same-program more (idle o) f (begin d) = refl
   same-program more (idle o) f (rebuild-on b) = refl
   same-program more (idle o) f (scrub-stripe t) = refl
+  same-program more (idle o) f (repair t) = refl
   same-program more (idle o) f step = refl
   same-program more (doing k l o o') f create = refl
   same-program more (doing k l o o') f (start A) = refl
@@ -130,4 +140,5 @@ module _ (z : Shelf) where
   same-program more (doing k l o o') f (begin d) = refl
   same-program more (doing k l o o') f (rebuild-on b) = refl
   same-program more (doing k l o o') f (scrub-stripe t) = refl
+  same-program more (doing k l o o') f (repair t) = refl
   same-program more (doing k l o o') f step = refl

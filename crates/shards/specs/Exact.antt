@@ -21,7 +21,7 @@ use Rattle.position.specs.Search.{all, all-at, all-of, some, some-of, first, fi
 use Rattle.shards.specs.Quorum.{fewOf, count-none, count-one}
 use Rattle.position.specs.Position.{holds, holds-true, holds-is, holds-same, padded, filled-off, filled-is, filled-blind}
 use Rattle.shards.specs.Parity.{byte, sector-ext}
-use Rattle.shards.specs.Code.{position, position-bytes, missingOf, missing-few, missing-has, in-range, blocksFrom, blocks-byte, soundIn, mendedBy, oneMends, scrubOf}
+use Rattle.shards.specs.Strips.{position, position-bytes, missingOf, missing-few, missing-has, in-range, blocksFrom, blocks-byte, soundIn, mendedBy, oneMends, scrubOf}
 
 -- ---- where two shards can be blamed for a position, none is to be
 
@@ -60,7 +60,7 @@ module _ (z : Shelf) (x : ℕ → ℕ → ℕ → ℕ) where
   abbrev pub Blames : ℕ → Type 0
   Blames r = (j p : ℕ) → j < z .c → p < sectorBytes → Mended (z .k) (z .m) (x j p) r
 
-  sound-of : soundIn z x ≡ true → Sound
+  pub sound-of : soundIn z x ≡ true → Sound
   unfolding soundIn
   sound-of e j p hj hp =
       holds-true (z .k) (z .m) (x j p)

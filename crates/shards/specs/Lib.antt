@@ -2,7 +2,8 @@
 pub mod Quorum
 pub mod Counted
 pub mod Parity
-pub mod Code
+pub mod Strips
 pub mod Exact
+pub mod Code
 pub mod Promise
 pub mod Even

@@ -3,12 +3,19 @@
 -- disks than parity disks (k > m). No law of these is left to be assumed; what is assumed of the world stands in the protocol's
 -- `Outside`. Not said here: that code that runs is this program, or computes these blocks and findings. Assumes nothing.
 use mathlib.Core.Path.{_≡_, refl}
-use mathlib.Core.Bool.{true, false}
+use mathlib.Core.Bool.{Bool, true, false}
+use mathlib.Core.Logic.{_⊎_, _≢_}
 use mathlib.Core.List.{List}
 use Prim.Native.Nat.{ℕ, _<_}
 use lib.Dec.{lit<}
-use Rattle.protocol.specs.World.{Image, World, Action, strip, after, Sane, Always, sane-after, always-after}
-use Rattle.protocol.specs.Label.{believed}
+use Rattle.protocol.specs.World.{Image, World, Action, label, strip, after, Sane, Always, During, sane-after, always-after}
+use Rattle.protocol.specs.Label.{Label, believed}
+use Rattle.protocol.specs.Rebuild.{begun, beginning}
+use Rattle.protocol.specs.Strangers.{Fate}
+use Rattle.protocol.specs.Strangers as Strangers
+use Rattle.protocol.specs.Veil.{Rot}
+use Rattle.protocol.specs.Rot.{RotRuns, RottenAt, Promised}
+use Rattle.protocol.specs.Rot as Rot
 use Rattle.protocol.specs.Host.{Host, table}
 use Rattle.protocol.specs.Program.{Medium, Own, Memory, nothing, idle, Input, did, program}
 use Rattle.protocol.specs.Machine.{Machine, at, Event, Happens, Runs, View, sure, Goes, Views}
@@ -20,8 +27,8 @@ use Rattle.protocol.specs.Kept as Kept
 use Rattle.protocol.specs.Order.{Ordered}
 use Rattle.protocol.specs.Order as Order
 use Rattle.codecs.specs.Sector.{Sector, zeros}
-use Rattle.codecs.specs.Shelf.{Shelf, size, least}
-use Rattle.codecs.specs.Labels.{labels}
+use Rattle.codecs.specs.Shelf.{Shelf, slots, size, least}
+use Rattle.codecs.specs.Labels.{labels, strangers}
 use Rattle.codecs.specs.Records.{records}
 use Rattle.codecs.specs.Media.{stamps, medium}
 use Rattle.shards.specs.Quorum.{quorum, few-none}
@@ -83,6 +90,18 @@ module _ (z : Shelf) (more : z .m < z .k) where
   pub untouched : (w : World Sector) (a : Memory Sector) (p : View Sector) (i : Input Sector) (x : Action Sector) → Keeps (at w a) p
       → program (size z) (quorum z more) (labels z) (records z) (code z more) stamps sectors a (w .cur) i .1 ≡ did x → away (size z) (quorum z more) (labels z) (records z) (code z more) stamps sectors a (slot-of x) ≡ false
   untouched = Kept.untouched (size z) (quorum z more) (labels z) (records z) (code z more) stamps sectors
+
+  -- WHILE STRIPS ROT, at most one of a stripe: see the protocol's Rot for what is promised of each answer
+  abbrev pub RotRunsOf : Rot → Machine Sector → Rot → Machine Sector → Type 1
+  RotRunsOf = RotRuns (size z) (quorum z more) (labels z) (records z) (code z more) stamps sectors
+
+  pub rot-promise : {rot rot' : Rot} {a b : Machine Sector} (r : RotRunsOf rot a rot' b) (p : View Sector) → RottenAt (size z) (quorum z more) (labels z) (records z) (code z more) stamps sectors rot a p → Promised (size z) (quorum z more) (labels z) (records z) (code z more) stamps sectors r p
+  rot-promise = Rot.rot-promise (size z) (quorum z more) (labels z) (records z) (code z more) stamps sectors
+
+-- A DISK OF ANOTHER SHELF, or of another slot, that begins to be rebuilt in slot d: for its old shelf it is as it was, or has no label
+pub old-shelf : (z z' : Shelf) (d d' : ℕ) → (z .number ≢ z' .number) ⊎ (d ≢ d') → d < slots z → (f : Image Sector) (w : World Sector) → Sane w → ((b : Bool) → f (label d b) ≡ w .cur (label d b)) → (Q : Label) (ds : List ℕ) → labels z .Fits Q → labels z .Fits (begun Q d)
+    → During w (beginning (records z) (labels z) f Q d ds) (Fate (labels z) (labels z') d d' w)
+old-shelf z z' d d' apart i f w sane agree Q ds fits fit = Strangers.old-shelf (labels z) (labels z') d d' (strangers z z' d d' apart) f w sane agree (records z) Q ds i fits fit
 
 -- there is such a shelf
 pub enough : least .m < least .k

@@ -1,10 +1,10 @@
 -- One action of a stage, on one slot: the answer, the state and the image that it leaves. Assumes nothing.
-use mathlib.Core.Bool.{cond}
+use mathlib.Core.Bool.{Bool, cond, _&&_}
 use mathlib.Core.List.{List}
-use Prim.Native.Nat.{ℕ, _+_, _%_}
-use lib.Dec.{ltb}
+use Prim.Native.Nat.{ℕ, _+_, _*_, _/_, _%_}
+use lib.Dec.{leb, ltb}
 use lib.ListN.{length, replicate}
-use Rattle.disk.specs.Limits.{sectorBytes, firstLog}
+use Rattle.disk.specs.Limits.{sectorBytes, mostSectors, firstLog, firstStrip}
 use Rattle.disk.specs.Geometry.{inRange, stripesOf, stripOf, found}
 use Rattle.disk.specs.Image.{putSector, putAnswer}
 use Rattle.disk.specs.Mask.{inMask}
@@ -19,6 +19,9 @@ use Rattle.label.specs.Fields.{fitsOf}
 use Rattle.label.specs.Bytes.{sealed}
 use Rattle.label.specs.declared.fields.Label.{Label}
 use Rattle.record.specs.Log.{areaOf, restoreAnswer, afterRestore}
+use Rattle.record.specs.declared.tail.Tail.{Tail}
+use Rattle.shelf.specs.Fill.{rebuildAnswer, rebuiltSector}
+use Rattle.shelf.specs.Kept.{keptOf, partOf, recordSector, loggedAnswer}
 use Rattle.shelf.specs.State.{moved}
 use Rattle.shelf.specs.declared.state.State.{State}
 use Rattle.shelf.specs.declared.state.Stepped.{Stepped}
@@ -96,9 +99,66 @@ unfoldable pub restoreMove : State → Geometry → ℕ → ℕ → List ℕ →
 restoreMove s g d t img =
     byRestored (restoreAnswer (g .c) (s .cursor .sector) (length (areaOf g img d)) sectorBytes) s g d t img
 
-abbrev pub actMove : State → Geometry → Stage → ℕ → List ℕ → Move
-actMove s g (stage.Flush slots) d img = record { stepped = flushMove s d; image = img }
-actMove s g (stage.Give slots zeroed l) d img = giveMove s g d zeroed l img
-actMove s g (stage.Wipe slots) d img = wipeMove s g d img
-actMove s g (stage.Restore slots t) d img = restoreMove s g d t img
-actMove s g stage.End d img = refuses s NotNow img
+-- the tail of the write's record
+abbrev pub tailOf : State → ℕ → ℕ → Tail
+tailOf s t shards = record { stamp = record { epoch = s .epoch; count = s .count }; stripe = t; shards = shards }
+
+-- the next sector of the record of the shard v
+abbrev pub byLogged : Outcome → State → Geometry → ℕ → ℕ → ℕ → List ℕ → List ℕ → Move
+byLogged outcome.Done s g d t shards v img =
+    putMove s g d (firstLog + s .cursor .sector) (g .c + 1) (recordSector (tailOf s t shards) (g .c) (s .cursor .sector) v) img
+byLogged (outcome.Refused why) s g d t shards v img = refuses s NotNow img
+
+unfoldable pub logMove : State → Geometry → ℕ → ℕ → ℕ → List ℕ → List ℕ → Move
+logMove s g d t shards work img =
+    byLogged (loggedAnswer (g .c) (s .cursor .sector) (keptOf g t d work) (replicate sectorBytes 0)) s g d t shards (keptOf g t d work) img
+
+-- the next sector of the strip that begins there, of the shard v
+abbrev pub byStored : Found → State → Geometry → ℕ → List ℕ → List ℕ → Move
+byStored (spot.At p) s g d v img = putMove s g d (p + s .cursor .sector) (g .c) (partOf v (s .cursor .sector)) img
+byStored (spot.Refused why) s g d v img = refuses s NotNow img
+
+unfoldable pub storeMove : State → Geometry → ℕ → ℕ → List ℕ → List ℕ → Move
+storeMove s g d t work img = byStored (found (inRange g) (ltb t (stripesOf g)) (stripOf g t)) s g d (keptOf g t d work) img
+
+-- zeros over the next sector of the record
+unfoldable pub clearMove : State → Geometry → ℕ → List ℕ → Move
+clearMove s g d img =
+    cond (ltb (g .c) (s .cursor .sector)) (refuses s NotNow img) (putMove s g d (firstLog + s .cursor .sector) (g .c + 1) (replicate sectorBytes 0) img)
+
+-- the label's sector of odd generations, or of even ones
+abbrev pub oddSector : Bool → ℕ
+oddSector odd = cond odd 1 0
+
+-- zeros over it
+unfoldable pub eraseMove : State → Geometry → ℕ → Bool → List ℕ → Move
+eraseMove s g d odd img = putMove s g d (oddSector odd) 1 (replicate sectorBytes 0) img
+
+-- sector x is one of `count` strips of c sectors, from strip `first` on
+unfoldable pub inStrips : ℕ → ℕ → ℕ → ℕ → Bool
+inStrips first count c x = leb first mostSectors && (leb count mostSectors && ltb x (count * c))
+
+-- the next sector of these strips, computed from what is believed of the others
+abbrev pub byRebuilt : Outcome → State → Geometry → ℕ → ℕ → ℕ → List ℕ → List ℕ → Move
+byRebuilt outcome.Done s g d first count work img =
+    putMove s g d (firstStrip + first * g .c + s .cursor .sector) (count * g .c)
+    (rebuiltSector (s .now) (s .absent) g d (first + s .cursor .sector / g .c) (s .cursor .sector % g .c) work img) img
+byRebuilt (outcome.Refused why) s g d first count work img = refuses s NotNow img
+
+unfoldable pub fillMove : State → Geometry → ℕ → ℕ → ℕ → List ℕ → List ℕ → Move
+fillMove s g d first count work img =
+    cond (inStrips first count (g .c) (s .cursor .sector))
+    (byRebuilt (rebuildAnswer (s .now) (s .absent) g d (first + s .cursor .sector / g .c) (s .cursor .sector % g .c) work img) s g d first count work img)
+    (refuses s NotNow img)
+
+abbrev pub actMove : State → Geometry → Stage → ℕ → List ℕ → List ℕ → Move
+actMove s g (stage.Flush slots) d work img = record { stepped = flushMove s d; image = img }
+actMove s g (stage.Give slots zeroed l) d work img = giveMove s g d zeroed l img
+actMove s g (stage.Wipe slots) d work img = wipeMove s g d img
+actMove s g (stage.Restore slots t) d work img = restoreMove s g d t img
+actMove s g (stage.Log slots t shards) d work img = logMove s g d t shards work img
+actMove s g (stage.Store slots t) d work img = storeMove s g d t work img
+actMove s g (stage.Clear slots) d work img = clearMove s g d img
+actMove s g (stage.Erase slots odd) d work img = eraseMove s g d odd img
+actMove s g (stage.Fill slots first count) d work img = fillMove s g d first count work img
+actMove s g stage.End d work img = refuses s NotNow img

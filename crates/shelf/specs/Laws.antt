@@ -3,17 +3,19 @@
 -- one. Assumes nothing.
 use mathlib.Core.Path.{_≡_, refl, sym, ap, ap₂, _∙_, subst}
 use mathlib.Core.Logic.{_⊎_}
-use mathlib.Core.Bool.{Bool, true, false, cond, _&&_}
-use mathlib.Core.List.{List, []}
-use Prim.Native.Nat.{ℕ, zero, suc, _+_, _*_, _≤_, _<_, _%_}
+use mathlib.Core.Bool.{Bool, true, false, cond, not, _&&_, true≢false}
+use mathlib.Core.List.{List, [], _∷_}
+use Prim.Native.Nat.{ℕ, zero, suc, _+_, _*_, _≤_, _<_, _/_, _%_}
 use native.Mathlib.Omega.{arith}
 use lib.Dec.{ltb, eqb}
 use lib.ListN.{length, replicate, getD, take, drop, length-take, length-drop, length-append}
+use lib.Seq.{getD-take, getD-drop}
 use borrow.Author.Tests.{ltb-true, eqb-true, eqb-false}
-use Rattle.disk.specs.Limits.{sectorBytes, firstLog}
-use Rattle.disk.specs.Mask.{inMask}
+use Rattle.disk.specs.Limits.{sectorBytes, firstLog, firstStrip}
+use Rattle.disk.specs.Tests.{and-right}
+use Rattle.disk.specs.Mask.{inMask, mask-below}
 use Rattle.disk.specs.Image.{place, sector, putSector, Shape, fitsImage, onShelf, putAnswer, fits-image, on-shelf, place-fits, length-put, sector-put, sector-put-other, byte-put-other}
-use Rattle.disk.specs.Geometry.{inRange, stripesOf, stripOf, found}
+use Rattle.disk.specs.Geometry.{inRange, stripLength, stripesOf, stripOf, shardOf, found, strip-inside}
 use Rattle.disk.specs.declared.geometry.Geometry.{Geometry}
 use Rattle.disk.specs.declared.geometry.Found.{Found}
 use Rattle.disk.specs.declared.geometry.Found.the-variants as spot
@@ -25,11 +27,17 @@ use Rattle.label.specs.Fields.{geometryOf, fitsOf}
 use Rattle.label.specs.Bytes.{sealed}
 use Rattle.label.specs.declared.fields.Label.{Label}
 use Rattle.record.specs.Log.{part, areaOf, restoreOf, restoreAnswer, area-part}
+use Rattle.position.specs.Row.{listed, listed-length}
+use Rattle.strips.specs.Seen.{shownByte, shardShown}
+use Rattle.strips.specs.Answers.{shownAnswer, shown-done}
+use Rattle.strips.specs.Laws.{shown-blind}
 use Rattle.shelf.specs.Limits.{mostStages}
+use Rattle.shelf.specs.Fill.{present, believedSlots, seenSlots, stripeIn, shownFrom, rebuildAnswer, rebuiltSector}
+use Rattle.shelf.specs.Kept.{keptOf, partOf, recordSector, loggedAnswer}
 use Rattle.shelf.specs.Stage.{stageOf}
-use Rattle.shelf.specs.Act.{Move, refusal, refuses, onward, byOutcome, putMove, flushMove, named, giveMove, wipeMove, byStrip, byRestored, restoreMove, actMove}
+use Rattle.shelf.specs.Act.{Move, refusal, refuses, onward, byOutcome, putMove, flushMove, named, giveMove, wipeMove, byStrip, byRestored, restoreMove, tailOf, byLogged, logMove, byStored, storeMove, clearMove, oddSector, eraseMove, inStrips, byRebuilt, fillMove, actMove}
 use Rattle.shelf.specs.Step.{isEnd, finished, onStage, nextSlot, walk, byAnswer, kept, keeps, sound, stepMove}
-use Rattle.shelf.specs.Says.{when, sound-says}
+use Rattle.shelf.specs.Says.{when}
 use Rattle.shelf.specs.declared.state.State.{State}
 use Rattle.shelf.specs.declared.state.Stepped.{Stepped}
 use Rattle.shelf.specs.declared.state.Answer.{Answer}
@@ -117,23 +125,67 @@ restore-legal s g d t img = by (restoreAnswer (g .c) (s .cursor .sector) (length
     by outcome.Done = on (found (inRange g) (ltb t (stripesOf g)) (stripOf g t))
     by (outcome.Refused why) = refl
 
-act-legal : (s : State) (g : Geometry) (x : Stage) (d : ℕ) (img : List ℕ) → d < g .n → LegalMove s g img (actMove s g x d img)
-unfolding wipeMove
-act-legal s g (stage.Flush slots) d img l = flush-legal s g d img l
-act-legal s g (stage.Give slots zeroed a) d img l = give-legal s g d zeroed a img
-act-legal s g (stage.Wipe slots) d img l = put-legal s g d (firstLog + g .c) 1 (replicate sectorBytes 0) img
-act-legal s g (stage.Restore slots t) d img l = restore-legal s g d t img
-act-legal s g stage.End d img l = refl
-
-walk-legal : (k : ℕ) (s : State) (g : Geometry) (img : List ℕ) → LegalMove s g img (walk k s g img)
-unfolding walk
-walk-legal zero s g img = refl
-walk-legal (suc k) s g img = by (isEnd (stageOf s)) (ltb (nextSlot s g) (g .n)) refl (walk-legal k (onStage s) g img)
+log-legal : (s : State) (g : Geometry) (d t shards : ℕ) (work img : List ℕ) → LegalMove s g img (logMove s g d t shards work img)
+unfolding logMove
+log-legal s g d t shards work img = by (loggedAnswer (g .c) (s .cursor .sector) (keptOf g t d work) (replicate sectorBytes 0))
   where
-    by : (e b : Bool) → ltb (nextSlot s g) (g .n) ≡ b → LegalMove s g img (walk k (onStage s) g img)
-        → LegalMove s g img (cond {A = Move} e (finished s img) (cond {A = Move} b (actMove s g (stageOf s) (nextSlot s g) img) (walk k (onStage s) g img)))
+    by : (o : Outcome) → LegalMove s g img (byLogged o s g d t shards (keptOf g t d work) img)
+    by outcome.Done =
+        put-legal s g d (firstLog + s .cursor .sector) (g .c + 1) (recordSector (tailOf s t shards) (g .c) (s .cursor .sector) (keptOf g t d work)) img
+    by (outcome.Refused why) = refl
+
+store-legal : (s : State) (g : Geometry) (d t : ℕ) (work img : List ℕ) → LegalMove s g img (storeMove s g d t work img)
+unfolding storeMove
+store-legal s g d t work img = by (found (inRange g) (ltb t (stripesOf g)) (stripOf g t))
+  where
+    by : (f : Found) → LegalMove s g img (byStored f s g d (keptOf g t d work) img)
+    by (spot.At p) = put-legal s g d (p + s .cursor .sector) (g .c) (partOf (keptOf g t d work) (s .cursor .sector)) img
+    by (spot.Refused why) = refl
+
+clear-legal : (s : State) (g : Geometry) (d : ℕ) (img : List ℕ) → LegalMove s g img (clearMove s g d img)
+unfolding clearMove
+clear-legal s g d img = by (ltb (g .c) (s .cursor .sector))
+  where
+    by : (b : Bool)
+        → LegalMove s g img (cond {A = Move} b (refuses s NotNow img) (putMove s g d (firstLog + s .cursor .sector) (g .c + 1) (replicate sectorBytes 0) img))
+    by true = refl
+    by false = put-legal s g d (firstLog + s .cursor .sector) (g .c + 1) (replicate sectorBytes 0) img
+
+fill-legal : (s : State) (g : Geometry) (d first count : ℕ) (work img : List ℕ) → LegalMove s g img (fillMove s g d first count work img)
+unfolding fillMove
+fill-legal s g d first count work img =
+    by (inStrips first count (g .c) (s .cursor .sector))
+    (rebuildAnswer (s .now) (s .absent) g d (first + s .cursor .sector / g .c) (s .cursor .sector % g .c) work img)
+  where
+    by : (b : Bool) (o : Outcome) → LegalMove s g img (cond {A = Move} b (byRebuilt o s g d first count work img) (refuses s NotNow img))
+    by true outcome.Done =
+        put-legal s g d (firstStrip + first * g .c + s .cursor .sector) (count * g .c)
+        (rebuiltSector (s .now) (s .absent) g d (first + s .cursor .sector / g .c) (s .cursor .sector % g .c) work img) img
+    by true (outcome.Refused why) = refl
+    by false o = refl
+
+act-legal : (s : State) (g : Geometry) (x : Stage) (d : ℕ) (work img : List ℕ) → d < g .n → LegalMove s g img (actMove s g x d work img)
+unfolding wipeMove eraseMove
+act-legal s g (stage.Flush slots) d work img l = flush-legal s g d img l
+act-legal s g (stage.Give slots zeroed a) d work img l = give-legal s g d zeroed a img
+act-legal s g (stage.Wipe slots) d work img l = put-legal s g d (firstLog + g .c) 1 (replicate sectorBytes 0) img
+act-legal s g (stage.Restore slots t) d work img l = restore-legal s g d t img
+act-legal s g (stage.Log slots t shards) d work img l = log-legal s g d t shards work img
+act-legal s g (stage.Store slots t) d work img l = store-legal s g d t work img
+act-legal s g (stage.Clear slots) d work img l = clear-legal s g d img
+act-legal s g (stage.Erase slots odd) d work img l = put-legal s g d (oddSector odd) 1 (replicate sectorBytes 0) img
+act-legal s g (stage.Fill slots first count) d work img l = fill-legal s g d first count work img
+act-legal s g stage.End d work img l = refl
+
+walk-legal : (k : ℕ) (s : State) (g : Geometry) (work img : List ℕ) → LegalMove s g img (walk k s g work img)
+unfolding walk
+walk-legal zero s g work img = refl
+walk-legal (suc k) s g work img = by (isEnd (stageOf s)) (ltb (nextSlot s g) (g .n)) refl (walk-legal k (onStage s) g work img)
+  where
+    by : (e b : Bool) → ltb (nextSlot s g) (g .n) ≡ b → LegalMove s g img (walk k (onStage s) g work img)
+        → LegalMove s g img (cond {A = Move} e (finished s img) (cond {A = Move} b (actMove s g (stageOf s) (nextSlot s g) work img) (walk k (onStage s) g work img)))
     by true b h r = refl
-    by false true h r = act-legal s g (stageOf s) (nextSlot s g) img (ltb-true (nextSlot s g) (g .n) h)
+    by false true h r = act-legal s g (stageOf s) (nextSlot s g) work img (ltb-true (nextSlot s g) (g .n) h)
     by false false h r = r
 
 -- the state of a refusal is kept; the answer is the same
@@ -152,16 +204,16 @@ kept-state s r why e = ap (λ (a : Answer). byAnswer a s r .state) e
 -- ---- the laws
 
 -- a step changes at most one sector of a present slot: each answer says what
-pub step-one : (s : State) (img : List ℕ)
-    → Legal (stepMove s img .stepped .answer) (s .absent) (geometryOf (s .now)) img (stepMove s img .image)
+pub step-one : (s : State) (work img : List ℕ)
+    → Legal (stepMove s work img .stepped .answer) (s .absent) (geometryOf (s .now)) img (stepMove s work img .image)
 unfolding stepMove
-step-one s img = by (sound s) (fitsImage (geometryOf (s .now)) (length img))
+step-one s work img = by (sound s) (fitsImage (geometryOf (s .now)) (length img))
   where
     by : (b f : Bool)
-        → LegalMove s (geometryOf (s .now)) img (cond {A = Move} b (cond {A = Move} f (keeps s (walk mostStages s (geometryOf (s .now)) img)) (refuses s BadImage img)) (refuses s NotNow img))
+        → LegalMove s (geometryOf (s .now)) img (cond {A = Move} b (cond {A = Move} f (keeps s (walk mostStages s (geometryOf (s .now)) work img)) (refuses s BadImage img)) (refuses s NotNow img))
     by true true =
-        subst (λ (a : Answer). Legal a (s .absent) (geometryOf (s .now)) img (walk mostStages s (geometryOf (s .now)) img .image))
-        (sym (kept-answer s (walk mostStages s (geometryOf (s .now)) img .stepped))) (walk-legal mostStages s (geometryOf (s .now)) img)
+        subst (λ (a : Answer). Legal a (s .absent) (geometryOf (s .now)) img (walk mostStages s (geometryOf (s .now)) work img .image))
+        (sym (kept-answer s (walk mostStages s (geometryOf (s .now)) work img .stepped))) (walk-legal mostStages s (geometryOf (s .now)) work img)
     by true false = refl
     by false f = refl
 
@@ -173,20 +225,20 @@ legal-length Done absent g img after p = ap length p
 legal-length (Refused why) absent g img after p = ap length p
 
 -- the image keeps its length
-pub step-length : (s : State) (img : List ℕ) → length (stepMove s img .image) ≡ length img
-step-length s img = legal-length (stepMove s img .stepped .answer) (s .absent) (geometryOf (s .now)) img (stepMove s img .image) (step-one s img)
+pub step-length : (s : State) (work img : List ℕ) → length (stepMove s work img .image) ≡ length img
+step-length s work img = legal-length (stepMove s work img .stepped .answer) (s .absent) (geometryOf (s .now)) img (stepMove s work img .image) (step-one s work img)
 
-said : (s : State) (img : List ℕ) (a : Answer) → stepMove s img .stepped .answer ≡ a
-    → Legal a (s .absent) (geometryOf (s .now)) img (stepMove s img .image)
-said s img a e = subst (λ (x : Answer). Legal x (s .absent) (geometryOf (s .now)) img (stepMove s img .image)) e (step-one s img)
+said : (s : State) (work img : List ℕ) (a : Answer) → stepMove s work img .stepped .answer ≡ a
+    → Legal a (s .absent) (geometryOf (s .now)) img (stepMove s work img .image)
+said s work img a e = subst (λ (x : Answer). Legal x (s .absent) (geometryOf (s .now)) img (stepMove s work img .image)) e (step-one s work img)
 
-module _ (s : State) (img : List ℕ) (d to : ℕ) (put : stepMove s img .stepped .answer ≡ Put d to) where
-  pub step-put : Puts (s .absent) (geometryOf (s .now)) img (stepMove s img .image) d to
-  step-put = said s img (Put d to) put
+module _ (s : State) (work img : List ℕ) (d to : ℕ) (put : stepMove s work img .stepped .answer ≡ Put d to) where
+  pub step-put : Puts (s .absent) (geometryOf (s .now)) img (stepMove s work img .image) d to
+  step-put = said s work img (Put d to) put
 
   -- every other sector of the shelf reads as before
   pub step-others : (e u : ℕ) → e < s .now .k + s .now .m → u < s .now .sectors → ((e ≡ d) × (u ≡ to) → ⊥)
-      → sector (s .now .sectors) (stepMove s img .image) e u ≡ sector (s .now .sectors) img e u
+      → sector (s .now .sectors) (stepMove s work img .image) e u ≡ sector (s .now .sectors) img e u
   step-others e u he hu ne =
       let g = geometryOf (s .now) in
       let p = step-put in
@@ -195,7 +247,7 @@ module _ (s : State) (img : List ℕ) (d to : ℕ) (put : stepMove s img .steppe
 
   -- and no byte outside the sector changes
   pub step-bytes : (i : ℕ) → (i < place (s .now .sectors) d to) ⊎ (place (s .now .sectors) d to + sectorBytes ≤ i)
-      → getD (stepMove s img .image) i 0 ≡ getD img i 0
+      → getD (stepMove s work img .image) i 0 ≡ getD img i 0
   step-bytes i h =
       let g = geometryOf (s .now) in
       let p = step-put in
@@ -203,29 +255,29 @@ module _ (s : State) (img : List ℕ) (d to : ℕ) (put : stepMove s img .steppe
       ∙ byte-put-other (g .n) (g .sectors) img (p .bytes) (p .shape) (p .whole) d to (p .slot) (p .low) i h
 
 -- a flush names a present slot of the shelf
-pub step-flush : (s : State) (img : List ℕ) (d : ℕ) → stepMove s img .stepped .answer ≡ Flush d
-    → Flushes (s .absent) (geometryOf (s .now)) img (stepMove s img .image) d
-step-flush s img d e = said s img (Flush d) e
+pub step-flush : (s : State) (work img : List ℕ) (d : ℕ) → stepMove s work img .stepped .answer ≡ Flush d
+    → Flushes (s .absent) (geometryOf (s .now)) img (stepMove s work img .image) d
+step-flush s work img d e = said s work img (Flush d) e
 
 -- a step that is done leaves the image as it was
-pub step-done : (s : State) (img : List ℕ) → stepMove s img .stepped .answer ≡ Done → stepMove s img .image ≡ img
-step-done s img e = said s img Done e
+pub step-done : (s : State) (work img : List ℕ) → stepMove s work img .stepped .answer ≡ Done → stepMove s work img .image ≡ img
+step-done s work img e = said s work img Done e
 
-refused-state : (s : State) (img : List ℕ) (why : Refusal) → stepMove s img .stepped .answer ≡ Refused why → stepMove s img .stepped .state ≡ s
+refused-state : (s : State) (work img : List ℕ) (why : Refusal) → stepMove s work img .stepped .answer ≡ Refused why → stepMove s work img .stepped .state ≡ s
 unfolding stepMove
-refused-state s img why = by (sound s) (fitsImage (geometryOf (s .now)) (length img))
+refused-state s work img why = by (sound s) (fitsImage (geometryOf (s .now)) (length img))
   where
     by : (b f : Bool)
-        → cond {A = Move} b (cond {A = Move} f (keeps s (walk mostStages s (geometryOf (s .now)) img)) (refuses s BadImage img)) (refuses s NotNow img) .stepped .answer ≡ Refused why
-        → cond {A = Move} b (cond {A = Move} f (keeps s (walk mostStages s (geometryOf (s .now)) img)) (refuses s BadImage img)) (refuses s NotNow img) .stepped .state ≡ s
-    by true true e = kept-state s (walk mostStages s (geometryOf (s .now)) img .stepped) why (sym (kept-answer s (walk mostStages s (geometryOf (s .now)) img .stepped)) ∙ e)
+        → cond {A = Move} b (cond {A = Move} f (keeps s (walk mostStages s (geometryOf (s .now)) work img)) (refuses s BadImage img)) (refuses s NotNow img) .stepped .answer ≡ Refused why
+        → cond {A = Move} b (cond {A = Move} f (keeps s (walk mostStages s (geometryOf (s .now)) work img)) (refuses s BadImage img)) (refuses s NotNow img) .stepped .state ≡ s
+    by true true e = kept-state s (walk mostStages s (geometryOf (s .now)) work img .stepped) why (sym (kept-answer s (walk mostStages s (geometryOf (s .now)) work img .stepped)) ∙ e)
     by true false e = refl
     by false f e = refl
 
 -- a refusal leaves state and image as they were
-pub step-refused : (s : State) (img : List ℕ) (why : Refusal) → stepMove s img .stepped .answer ≡ Refused why
-    → (stepMove s img .stepped .state ≡ s) × (stepMove s img .image ≡ img)
-step-refused s img why e = (refused-state s img why e, said s img (Refused why) e)
+pub step-refused : (s : State) (work img : List ℕ) (why : Refusal) → stepMove s work img .stepped .answer ≡ Refused why
+    → (stepMove s work img .stepped .state ≡ s) × (stepMove s work img .image ≡ img)
+step-refused s work img why e = (refused-state s work img why e, said s work img (Refused why) e)
 
 -- ---- no byte of any disk decides the answer
 
@@ -300,41 +352,122 @@ restore-blind s g d t img jmg e =
     by outcome.Done = on (found (inRange g) (ltb t (stripesOf g)) (stripOf g t))
     by (outcome.Refused why) = refl
 
-act-blind : (s : State) (g : Geometry) (x : Stage) (d : ℕ) (img jmg : List ℕ) → length img ≡ length jmg
-    → actMove s g x d img .stepped ≡ actMove s g x d jmg .stepped
-unfolding wipeMove
-act-blind s g (stage.Flush slots) d img jmg e = refl
-act-blind s g (stage.Give slots zeroed a) d img jmg e = give-blind s g d zeroed a img jmg e
-act-blind s g (stage.Wipe slots) d img jmg e = put-blind s g d (firstLog + g .c) 1 (replicate sectorBytes 0) (replicate sectorBytes 0) img jmg refl e
-act-blind s g (stage.Restore slots t) d img jmg e = restore-blind s g d t img jmg e
-act-blind s g stage.End d img jmg e = refl
+log-blind : (s : State) (g : Geometry) (d t shards : ℕ) (work img jmg : List ℕ) → length img ≡ length jmg
+    → logMove s g d t shards work img .stepped ≡ logMove s g d t shards work jmg .stepped
+unfolding logMove
+log-blind s g d t shards work img jmg e = by (loggedAnswer (g .c) (s .cursor .sector) (keptOf g t d work) (replicate sectorBytes 0))
+  where
+    v : List ℕ
+    v = recordSector (tailOf s t shards) (g .c) (s .cursor .sector) (keptOf g t d work)
 
-walk-blind : (k : ℕ) (s : State) (g : Geometry) (img jmg : List ℕ) → length img ≡ length jmg → walk k s g img .stepped ≡ walk k s g jmg .stepped
+    by : (o : Outcome) → byLogged o s g d t shards (keptOf g t d work) img .stepped ≡ byLogged o s g d t shards (keptOf g t d work) jmg .stepped
+    by outcome.Done = put-blind s g d (firstLog + s .cursor .sector) (g .c + 1) v v img jmg refl e
+    by (outcome.Refused why) = refl
+
+store-blind : (s : State) (g : Geometry) (d t : ℕ) (work img jmg : List ℕ) → length img ≡ length jmg
+    → storeMove s g d t work img .stepped ≡ storeMove s g d t work jmg .stepped
+unfolding storeMove
+store-blind s g d t work img jmg e = by (found (inRange g) (ltb t (stripesOf g)) (stripOf g t))
+  where
+    v : List ℕ
+    v = partOf (keptOf g t d work) (s .cursor .sector)
+
+    by : (f : Found) → byStored f s g d (keptOf g t d work) img .stepped ≡ byStored f s g d (keptOf g t d work) jmg .stepped
+    by (spot.At p) = put-blind s g d (p + s .cursor .sector) (g .c) v v img jmg refl e
+    by (spot.Refused why) = refl
+
+clear-blind : (s : State) (g : Geometry) (d : ℕ) (img jmg : List ℕ) → length img ≡ length jmg → clearMove s g d img .stepped ≡ clearMove s g d jmg .stepped
+unfolding clearMove
+clear-blind s g d img jmg e = by (ltb (g .c) (s .cursor .sector))
+  where
+    move : Bool → List ℕ → Move
+    move b x = cond {A = Move} b (refuses s NotNow x) (putMove s g d (firstLog + s .cursor .sector) (g .c + 1) (replicate sectorBytes 0) x)
+
+    by : (b : Bool) → move b img .stepped ≡ move b jmg .stepped
+    by true = refl
+    by false = put-blind s g d (firstLog + s .cursor .sector) (g .c + 1) (replicate sectorBytes 0) (replicate sectorBytes 0) img jmg refl e
+
+-- whether a sector can be rebuilt is no matter of what the disks hold, and its length is a sector's
+rebuild-blind : (l : Label) (absent : ℕ) (g : Geometry) (d t j : ℕ) (work img jmg : List ℕ) → length img ≡ length jmg
+    → rebuildAnswer l absent g d t j work img ≡ rebuildAnswer l absent g d t j work jmg
+unfolding rebuildAnswer
+rebuild-blind l absent g d t j work img jmg e = by (found (inRange g) (ltb t (stripesOf g) && ltb d (g .n)) (shardOf (g .n) t d))
+  where
+    by : (f : Found) → shownFrom f l absent g t j work img ≡ shownFrom f l absent g t j work jmg
+    by (spot.At r) =
+        ap (λ (k : ℕ). shownAnswer g (l .k) k t r j 1 (seenSlots g l absent t) (length (stripeIn g work)) (g .n * sectorBytes) sectorBytes) e
+    by (spot.Refused why) = refl
+
+rebuilt-length : (l : Label) (absent : ℕ) (g : Geometry) (d t j : ℕ) (work img : List ℕ) → length (rebuiltSector l absent g d t j work img) ≡ sectorBytes
+unfolding rebuiltSector shardShown
+rebuilt-length l absent g d t j work img = listed-length (1 * sectorBytes) _
+
+fill-blind : (s : State) (g : Geometry) (d first count : ℕ) (work img jmg : List ℕ) → length img ≡ length jmg
+    → fillMove s g d first count work img .stepped ≡ fillMove s g d first count work jmg .stepped
+unfolding fillMove
+fill-blind s g d first count work img jmg e =
+    by (inStrips first count (g .c) (s .cursor .sector)) (rebuildAnswer (s .now) (s .absent) g d t j work img)
+    ∙ ap (λ (o : Outcome). move (inStrips first count (g .c) (s .cursor .sector)) o jmg .stepped) (rebuild-blind (s .now) (s .absent) g d t j work img jmg e)
+  where
+    t : ℕ
+    t = first + s .cursor .sector / g .c
+
+    j : ℕ
+    j = s .cursor .sector % g .c
+
+    v : List ℕ → List ℕ
+    v x = rebuiltSector (s .now) (s .absent) g d t j work x
+
+    move : Bool → Outcome → List ℕ → Move
+    move b o x = cond {A = Move} b (byRebuilt o s g d first count work x) (refuses s NotNow x)
+
+    by : (b : Bool) (o : Outcome) → move b o img .stepped ≡ move b o jmg .stepped
+    by true outcome.Done =
+        put-blind s g d (firstStrip + first * g .c + s .cursor .sector) (count * g .c) (v img) (v jmg) img jmg
+        (rebuilt-length (s .now) (s .absent) g d t j work img ∙ sym (rebuilt-length (s .now) (s .absent) g d t j work jmg)) e
+    by true (outcome.Refused why) = refl
+    by false o = refl
+
+act-blind : (s : State) (g : Geometry) (x : Stage) (d : ℕ) (work img jmg : List ℕ) → length img ≡ length jmg
+    → actMove s g x d work img .stepped ≡ actMove s g x d work jmg .stepped
+unfolding wipeMove eraseMove
+act-blind s g (stage.Flush slots) d work img jmg e = refl
+act-blind s g (stage.Give slots zeroed a) d work img jmg e = give-blind s g d zeroed a img jmg e
+act-blind s g (stage.Wipe slots) d work img jmg e = put-blind s g d (firstLog + g .c) 1 (replicate sectorBytes 0) (replicate sectorBytes 0) img jmg refl e
+act-blind s g (stage.Restore slots t) d work img jmg e = restore-blind s g d t img jmg e
+act-blind s g (stage.Log slots t shards) d work img jmg e = log-blind s g d t shards work img jmg e
+act-blind s g (stage.Store slots t) d work img jmg e = store-blind s g d t work img jmg e
+act-blind s g (stage.Clear slots) d work img jmg e = clear-blind s g d img jmg e
+act-blind s g (stage.Erase slots odd) d work img jmg e = put-blind s g d (oddSector odd) 1 (replicate sectorBytes 0) (replicate sectorBytes 0) img jmg refl e
+act-blind s g (stage.Fill slots first count) d work img jmg e = fill-blind s g d first count work img jmg e
+act-blind s g stage.End d work img jmg e = refl
+
+walk-blind : (k : ℕ) (s : State) (g : Geometry) (work img jmg : List ℕ) → length img ≡ length jmg → walk k s g work img .stepped ≡ walk k s g work jmg .stepped
 unfolding walk
-walk-blind zero s g img jmg e = refl
-walk-blind (suc k) s g img jmg e = by (isEnd (stageOf s)) (ltb (nextSlot s g) (g .n)) (walk-blind k (onStage s) g img jmg e)
+walk-blind zero s g work img jmg e = refl
+walk-blind (suc k) s g work img jmg e = by (isEnd (stageOf s)) (ltb (nextSlot s g) (g .n)) (walk-blind k (onStage s) g work img jmg e)
   where
     move : Bool → Bool → List ℕ → Move
-    move a b x = cond {A = Move} a (finished s x) (cond {A = Move} b (actMove s g (stageOf s) (nextSlot s g) x) (walk k (onStage s) g x))
+    move a b x = cond {A = Move} a (finished s x) (cond {A = Move} b (actMove s g (stageOf s) (nextSlot s g) work x) (walk k (onStage s) g work x))
 
-    by : (a b : Bool) → walk k (onStage s) g img .stepped ≡ walk k (onStage s) g jmg .stepped → move a b img .stepped ≡ move a b jmg .stepped
+    by : (a b : Bool) → walk k (onStage s) g work img .stepped ≡ walk k (onStage s) g work jmg .stepped → move a b img .stepped ≡ move a b jmg .stepped
     by true b r = refl
-    by false true r = act-blind s g (stageOf s) (nextSlot s g) img jmg e
+    by false true r = act-blind s g (stageOf s) (nextSlot s g) work img jmg e
     by false false r = r
 
 -- two images of one length get the same answer and the same state, whatever the disks hold, absent or present
-pub step-blind : (s : State) (img jmg : List ℕ) → length img ≡ length jmg → stepMove s img .stepped ≡ stepMove s jmg .stepped
+pub step-blind : (s : State) (work img jmg : List ℕ) → length img ≡ length jmg → stepMove s work img .stepped ≡ stepMove s work jmg .stepped
 unfolding stepMove
-step-blind s img jmg e =
+step-blind s work img jmg e =
     by (sound s) (fitsImage (geometryOf (s .now)) (length img))
     ∙ ap (λ (k : ℕ). move (sound s) (fitsImage (geometryOf (s .now)) k) jmg .stepped) e
   where
     move : Bool → Bool → List ℕ → Move
     move b f x =
-        cond {A = Move} b (cond {A = Move} f (keeps s (walk mostStages s (geometryOf (s .now)) x)) (refuses s BadImage x)) (refuses s NotNow x)
+        cond {A = Move} b (cond {A = Move} f (keeps s (walk mostStages s (geometryOf (s .now)) work x)) (refuses s BadImage x)) (refuses s NotNow x)
 
     by : (b f : Bool) → move b f img .stepped ≡ move b f jmg .stepped
-    by true true = ap (kept s) (walk-blind mostStages s (geometryOf (s .now)) img jmg e)
+    by true true = ap (kept s) (walk-blind mostStages s (geometryOf (s .now)) work img jmg e)
     by true false = refl
     by false f = refl
 
@@ -365,6 +498,40 @@ put-agree absent g d to v img jmg hd ht lv si sj a e u he hu p = by (eqb e d) (e
         ∙ sym (ap₂ (λ (i j : ℕ). sector (g .sectors) (putSector (g .sectors) jmg d to v) i j) (eqb-true e d q) (eqb-true u to r))
     by true false q r = other (λ h. eqb-false u to r (h .1))
     by false c q r = other (λ h. eqb-false e d q (h .0))
+
+-- a record gives back sectors of its strip alone
+restored-inside : (c j la : ℕ) → restoreAnswer c j la sectorBytes ≡ outcome.Done → j < c
+unfolding restoreAnswer
+restored-inside c j la = by (stripLength c) (ltb j c) (eqb la ((c + 1) * sectorBytes) && eqb sectorBytes sectorBytes) refl
+  where
+    by : (x y z : Bool) → ltb j c ≡ y
+        → cond {A = Outcome} x (cond {A = Outcome} y (cond {A = Outcome} z outcome.Done (outcome.Refused BadBuffer)) (outcome.Refused BadBlock)) (outcome.Refused BadImage) ≡ outcome.Done
+        → j < c
+    by true true z h e = ltb-true j c h
+    by true false z h e = absurd (let w : _≡_ {A = ℕ} 0 1 = cc in omega arith)
+    by false y z h e = absurd (let w : _≡_ {A = ℕ} 0 1 = cc in omega arith)
+
+listed-same : (n : ℕ) (f h : ℕ → ℕ) → ((i : ℕ) → i < n → f i ≡ h i) → listed n f ≡ listed n h
+unfolding listed
+listed-same zero f h e = refl
+listed-same (suc n) f h e =
+    ap₂ (λ (x : ℕ) (y : List ℕ). x ∷ y) (e 0 (omega arith)) (listed-same n (λ i. f (suc i)) (λ i. h (suc i)) (λ i l. e (suc i) (omega arith)))
+
+-- a byte of a sector
+sector-byte : (S : ℕ) (img : List ℕ) (d u p : ℕ) → p < sectorBytes → getD (sector S img d u) p 0 ≡ getD img (place S d u + p) 0
+unfolding sector
+sector-byte S img d u p h = getD-take sectorBytes (drop (place S d u) img) p 0 h ∙ getD-drop (place S d u) img p 0
+
+-- a slot that is seen is present
+seen-present : (g : Geometry) (l : Label) (absent t e : ℕ) → e < g .n → inMask (seenSlots g l absent t) e ≡ true → inMask absent e ≡ false
+unfolding seenSlots present
+seen-present g l absent t e h q =
+    let p = sym (mask-below (λ d. inMask (believedSlots g l t) d && not (inMask absent d)) (g .n) e h) ∙ q in
+    by (inMask absent e) refl (and-right (inMask (believedSlots g l t) e) _ p)
+  where
+    by : (b : Bool) → inMask absent e ≡ b → not b ≡ true → inMask absent e ≡ false
+    by true x y = absurd (true≢false (sym y))
+    by false x y = x
 
 put-absent : (s : State) (g : Geometry) (d to count : ℕ) (v img : List ℕ) → inMask (s .absent) d ≡ true → putMove s g d to count v img .image ≡ img
 unfolding putMove
@@ -436,12 +603,12 @@ module _ (g : Geometry) (img jmg : List ℕ) (same : length img ≡ length jmg) 
       by true false q l = refl
       by false b q l = refl
 
-  restore-agree : (s : State) (d t : ℕ) → s .cursor .sector ≤ g .c → Agree (s .absent) g img jmg
+  restore-agree : (s : State) (d t : ℕ) → Agree (s .absent) g img jmg
       → Agree (s .absent) g (restoreMove s g d t img .image) (restoreMove s g d t jmg .image)
   unfolding restoreMove
-  restore-agree s d t h a =
+  restore-agree s d t a =
       subst (λ (k : ℕ). Agree (s .absent) g (byRestored (answer (length (areaOf g img d))) s g d t img .image) (byRestored (answer k) s g d t jmg .image))
-      (area-length g d img jmg same) (by (answer (length (areaOf g img d))))
+      (area-length g d img jmg same) (by (answer (length (areaOf g img d))) refl)
     where
       answer : ℕ → Outcome
       answer k = restoreAnswer (g .c) (s .cursor .sector) k sectorBytes
@@ -449,66 +616,171 @@ module _ (g : Geometry) (img jmg : List ℕ) (same : length img ≡ length jmg) 
       v : List ℕ → List ℕ
       v x = restoreOf (part (areaOf g x d) (s .cursor .sector)) (part (areaOf g x d) (g .c)) (s .cursor .sector)
 
-      put : (to : ℕ) (b : Bool) → inMask (s .absent) d ≡ b
+      put : (to : ℕ) (b : Bool) → s .cursor .sector < g .c → inMask (s .absent) d ≡ b
           → Agree (s .absent) g (putMove s g d to (g .c) (v img) img .image) (putMove s g d to (g .c) (v jmg) jmg .image)
-      put to true p =
+      put to true h p =
           let still : (x : List ℕ) → x ≡ putMove s g d to (g .c) (v x) x .image = λ x. sym (put-absent s g d to (g .c) (v x) x p) in
           subst (λ (x : List ℕ). Agree (s .absent) g x (putMove s g d to (g .c) (v jmg) jmg .image)) (still img)
           (subst (λ (x : List ℕ). Agree (s .absent) g img x) (still jmg) a)
-      put to false p =
+      put to false h p =
           let e : v img ≡ v jmg =
-          ap₂ (λ (x y : List ℕ). restoreOf x y (s .cursor .sector)) (area-agree (s .absent) d (s .cursor .sector) p h a) (area-agree (s .absent) d (g .c) p (omega arith) a) in
+          ap₂ (λ (x y : List ℕ). restoreOf x y (s .cursor .sector)) (area-agree (s .absent) d (s .cursor .sector) p (omega arith) a) (area-agree (s .absent) d (g .c) p (omega arith) a) in
           subst (λ (x : List ℕ). Agree (s .absent) g (putMove s g d to (g .c) (v img) img .image) (putMove s g d to (g .c) x jmg .image)) e
           (move-agree s d to (g .c) (v img) a)
 
-      on : (f : Found) → Agree (s .absent) g (byStrip f s g d img .image) (byStrip f s g d jmg .image)
-      on (spot.At p) = put (p + s .cursor .sector) (inMask (s .absent) d) refl
-      on (spot.Refused why) = a
+      on : (f : Found) → s .cursor .sector < g .c → Agree (s .absent) g (byStrip f s g d img .image) (byStrip f s g d jmg .image)
+      on (spot.At p) h = put (p + s .cursor .sector) (inMask (s .absent) d) h refl
+      on (spot.Refused why) h = a
 
-      by : (o : Outcome) → Agree (s .absent) g (byRestored o s g d t img .image) (byRestored o s g d t jmg .image)
-      by outcome.Done = on (found (inRange g) (ltb t (stripesOf g)) (stripOf g t))
+      by : (o : Outcome) → answer (length (areaOf g img d)) ≡ o → Agree (s .absent) g (byRestored o s g d t img .image) (byRestored o s g d t jmg .image)
+      by outcome.Done e = on (found (inRange g) (ltb t (stripesOf g)) (stripOf g t)) (restored-inside (g .c) (s .cursor .sector) (length (areaOf g img d)) e)
+      by (outcome.Refused why) e = a
+
+  log-agree : (s : State) (d t shards : ℕ) (work : List ℕ) → Agree (s .absent) g img jmg
+      → Agree (s .absent) g (logMove s g d t shards work img .image) (logMove s g d t shards work jmg .image)
+  unfolding logMove
+  log-agree s d t shards work a = by (loggedAnswer (g .c) (s .cursor .sector) (keptOf g t d work) (replicate sectorBytes 0))
+    where
+      by : (o : Outcome)
+          → Agree (s .absent) g (byLogged o s g d t shards (keptOf g t d work) img .image) (byLogged o s g d t shards (keptOf g t d work) jmg .image)
+      by outcome.Done =
+          move-agree s d (firstLog + s .cursor .sector) (g .c + 1) (recordSector (tailOf s t shards) (g .c) (s .cursor .sector) (keptOf g t d work)) a
       by (outcome.Refused why) = a
 
-  act-agree : (s : State) (x : Stage) (d : ℕ) → s .cursor .sector ≤ g .c → Agree (s .absent) g img jmg
-      → Agree (s .absent) g (actMove s g x d img .image) (actMove s g x d jmg .image)
-  unfolding wipeMove
-  act-agree s (stage.Flush slots) d h a = a
-  act-agree s (stage.Give slots zeroed l) d h a = give-agree s d zeroed l a
-  act-agree s (stage.Wipe slots) d h a = move-agree s d (firstLog + g .c) 1 (replicate sectorBytes 0) a
-  act-agree s (stage.Restore slots t) d h a = restore-agree s d t h a
-  act-agree s stage.End d h a = a
+  store-agree : (s : State) (d t : ℕ) (work : List ℕ) → Agree (s .absent) g img jmg
+      → Agree (s .absent) g (storeMove s g d t work img .image) (storeMove s g d t work jmg .image)
+  unfolding storeMove
+  store-agree s d t work a = by (found (inRange g) (ltb t (stripesOf g)) (stripOf g t))
+    where
+      by : (f : Found) → Agree (s .absent) g (byStored f s g d (keptOf g t d work) img .image) (byStored f s g d (keptOf g t d work) jmg .image)
+      by (spot.At p) = move-agree s d (p + s .cursor .sector) (g .c) (partOf (keptOf g t d work) (s .cursor .sector)) a
+      by (spot.Refused why) = a
 
-walk-agree : (k : ℕ) (s : State) (g : Geometry) (img jmg : List ℕ) → length img ≡ length jmg → s .cursor .sector ≤ g .c → Agree (s .absent) g img jmg
-    → Agree (s .absent) g (walk k s g img .image) (walk k s g jmg .image)
+  clear-agree : (s : State) (d : ℕ) → Agree (s .absent) g img jmg → Agree (s .absent) g (clearMove s g d img .image) (clearMove s g d jmg .image)
+  unfolding clearMove
+  clear-agree s d a = by (ltb (g .c) (s .cursor .sector))
+    where
+      move : Bool → List ℕ → Move
+      move b x = cond {A = Move} b (refuses s NotNow x) (putMove s g d (firstLog + s .cursor .sector) (g .c + 1) (replicate sectorBytes 0) x)
+
+      by : (b : Bool) → Agree (s .absent) g (move b img .image) (move b jmg .image)
+      by true = a
+      by false = move-agree s d (firstLog + s .cursor .sector) (g .c + 1) (replicate sectorBytes 0) a
+
+  rebuilt-agree : (l : Label) (absent d t j : ℕ) (work : List ℕ) → rebuildAnswer l absent g d t j work img ≡ outcome.Done → Agree absent g img jmg
+      → rebuiltSector l absent g d t j work img ≡ rebuiltSector l absent g d t j work jmg
+  unfolding rebuildAnswer rebuiltSector shardShown
+  rebuilt-agree l absent d t j work told a = by (inRange g) (ltb t (stripesOf g) && ltb d (g .n)) told
+    where
+      r : ℕ
+      r = shardOf (g .n) t d
+
+      there : ℕ
+      there = seenSlots g l absent t
+
+      shown : shownAnswer g (l .k) (length img) t r j 1 there (length (stripeIn g work)) (g .n * sectorBytes) sectorBytes ≡ outcome.Done
+          → listed (1 * sectorBytes) (λ p. shownByte g (l .k) img there 0 (stripeIn g work) t r (j * sectorBytes + p))
+          ≡ listed (1 * sectorBytes) (λ p. shownByte g (l .k) jmg there 0 (stripeIn g work) t r (j * sectorBytes + p))
+      shown e =
+          let h = shown-done g (l .k) img (stripeIn g work) t r j 1 there (g .n * sectorBytes) sectorBytes e in
+          let b = h .0 in
+          let u : ℕ = stripOf g t in
+          listed-same (1 * sectorBytes) _ _ (λ p lp.
+          shown-blind g (l .k) img jmg there 0 (stripeIn g work) t r (j * sectorBytes + p) (omega (arith, h .1 .parity)) (h .3)
+          (λ e he q.
+          let lp' : p < sectorBytes = lp in
+          let z : place (g .sectors) e u + (j * sectorBytes + p) ≡ place (g .sectors) e (u + j) + p = omega arith in
+          ap (λ (x : ℕ). getD img x 0) z ∙ sym (sector-byte (g .sectors) img e (u + j) p lp')
+          ∙ ap (λ (x : List ℕ). getD x p 0) (a e (u + j) he (omega (arith, strip-inside g (b .range) t (b .stripe), b .within)) (seen-present g l absent t e he q))
+          ∙ sector-byte (g .sectors) jmg e (u + j) p lp' ∙ ap (λ (x : ℕ). getD jmg x 0) (sym z)))
+
+      by : (x y : Bool) → shownFrom (found x y r) l absent g t j work img ≡ outcome.Done
+          → listed (1 * sectorBytes) (λ p. shownByte g (l .k) img there 0 (stripeIn g work) t r (j * sectorBytes + p))
+          ≡ listed (1 * sectorBytes) (λ p. shownByte g (l .k) jmg there 0 (stripeIn g work) t r (j * sectorBytes + p))
+      by true true e = shown e
+      by true false e = absurd (let w : _≡_ {A = ℕ} 0 1 = cc in omega arith)
+      by false y e = absurd (let w : _≡_ {A = ℕ} 0 1 = cc in omega arith)
+
+  fill-agree : (s : State) (d first count : ℕ) (work : List ℕ) → Agree (s .absent) g img jmg
+      → Agree (s .absent) g (fillMove s g d first count work img .image) (fillMove s g d first count work jmg .image)
+  unfolding fillMove
+  fill-agree s d first count work a =
+      subst (λ (o : Outcome). Agree (s .absent) g (move b (answer img) img .image) (move b o jmg .image)) (rebuild-blind (s .now) (s .absent) g d t j work img jmg same)
+      (by b (answer img) refl)
+    where
+      t : ℕ
+      t = first + s .cursor .sector / g .c
+
+      j : ℕ
+      j = s .cursor .sector % g .c
+
+      b : Bool
+      b = inStrips first count (g .c) (s .cursor .sector)
+
+      answer : List ℕ → Outcome
+      answer x = rebuildAnswer (s .now) (s .absent) g d t j work x
+
+      v : List ℕ → List ℕ
+      v x = rebuiltSector (s .now) (s .absent) g d t j work x
+
+      to : ℕ
+      to = firstStrip + first * g .c + s .cursor .sector
+
+      move : Bool → Outcome → List ℕ → Move
+      move y o x = cond {A = Move} y (byRebuilt o s g d first count work x) (refuses s NotNow x)
+
+      by : (y : Bool) (o : Outcome) → answer img ≡ o → Agree (s .absent) g (move y o img .image) (move y o jmg .image)
+      by true outcome.Done e =
+          subst (λ (x : List ℕ). Agree (s .absent) g (putMove s g d to (count * g .c) (v img) img .image) (putMove s g d to (count * g .c) x jmg .image))
+          (rebuilt-agree (s .now) (s .absent) d t j work e a) (move-agree s d to (count * g .c) (v img) a)
+      by true (outcome.Refused why) e = a
+      by false o e = a
+
+  act-agree : (s : State) (x : Stage) (d : ℕ) (work : List ℕ) → Agree (s .absent) g img jmg
+      → Agree (s .absent) g (actMove s g x d work img .image) (actMove s g x d work jmg .image)
+  unfolding wipeMove eraseMove
+  act-agree s (stage.Flush slots) d work a = a
+  act-agree s (stage.Give slots zeroed l) d work a = give-agree s d zeroed l a
+  act-agree s (stage.Wipe slots) d work a = move-agree s d (firstLog + g .c) 1 (replicate sectorBytes 0) a
+  act-agree s (stage.Restore slots t) d work a = restore-agree s d t a
+  act-agree s (stage.Log slots t shards) d work a = log-agree s d t shards work a
+  act-agree s (stage.Store slots t) d work a = store-agree s d t work a
+  act-agree s (stage.Clear slots) d work a = clear-agree s d a
+  act-agree s (stage.Erase slots odd) d work a = move-agree s d (oddSector odd) 1 (replicate sectorBytes 0) a
+  act-agree s (stage.Fill slots first count) d work a = fill-agree s d first count work a
+  act-agree s stage.End d work a = a
+
+walk-agree : (k : ℕ) (s : State) (g : Geometry) (work img jmg : List ℕ) → length img ≡ length jmg → Agree (s .absent) g img jmg
+    → Agree (s .absent) g (walk k s g work img .image) (walk k s g work jmg .image)
 unfolding walk
-walk-agree zero s g img jmg e h a = a
-walk-agree (suc k) s g img jmg e h a =
-    by (isEnd (stageOf s)) (ltb (nextSlot s g) (g .n)) (walk-agree k (onStage s) g img jmg e (omega arith) a)
+walk-agree zero s g work img jmg e a = a
+walk-agree (suc k) s g work img jmg e a =
+    by (isEnd (stageOf s)) (ltb (nextSlot s g) (g .n)) (walk-agree k (onStage s) g work img jmg e a)
   where
     move : Bool → Bool → List ℕ → Move
-    move c b x = cond {A = Move} c (finished s x) (cond {A = Move} b (actMove s g (stageOf s) (nextSlot s g) x) (walk k (onStage s) g x))
+    move c b x = cond {A = Move} c (finished s x) (cond {A = Move} b (actMove s g (stageOf s) (nextSlot s g) work x) (walk k (onStage s) g work x))
 
-    by : (c b : Bool) → Agree (s .absent) g (walk k (onStage s) g img .image) (walk k (onStage s) g jmg .image)
+    by : (c b : Bool) → Agree (s .absent) g (walk k (onStage s) g work img .image) (walk k (onStage s) g work jmg .image)
         → Agree (s .absent) g (move c b img .image) (move c b jmg .image)
     by true b r = a
-    by false true r = act-agree g img jmg e s (stageOf s) (nextSlot s g) h a
+    by false true r = act-agree g img jmg e s (stageOf s) (nextSlot s g) work a
     by false false r = r
 
 -- images that agree on the present slots before a step agree on them after it: what is put is the same
-pub step-agrees : (s : State) (img jmg : List ℕ) → length img ≡ length jmg → Agree (s .absent) (geometryOf (s .now)) img jmg
-    → Agree (s .absent) (geometryOf (s .now)) (stepMove s img .image) (stepMove s jmg .image)
+pub step-agrees : (s : State) (work img jmg : List ℕ) → length img ≡ length jmg → Agree (s .absent) (geometryOf (s .now)) img jmg
+    → Agree (s .absent) (geometryOf (s .now)) (stepMove s work img .image) (stepMove s work jmg .image)
 unfolding stepMove
-step-agrees s img jmg e a =
+step-agrees s work img jmg e a =
     subst (λ (k : ℕ). Agree (s .absent) g (move (sound s) (fitsImage g (length img)) img .image) (move (sound s) (fitsImage g k) jmg .image)) e
-    (by (sound s) (fitsImage g (length img)) refl)
+    (by (sound s) (fitsImage g (length img)))
   where
     g : Geometry
     g = geometryOf (s .now)
 
     move : Bool → Bool → List ℕ → Move
-    move b f x = cond {A = Move} b (cond {A = Move} f (keeps s (walk mostStages s g x)) (refuses s BadImage x)) (refuses s NotNow x)
+    move b f x = cond {A = Move} b (cond {A = Move} f (keeps s (walk mostStages s g work x)) (refuses s BadImage x)) (refuses s NotNow x)
 
-    by : (b f : Bool) → sound s ≡ b → Agree (s .absent) g (move b f img .image) (move b f jmg .image)
-    by true true q = walk-agree mostStages s g img jmg e (omega (arith, sound-says s q .within)) a
-    by true false q = a
-    by false f q = a
+    by : (b f : Bool) → Agree (s .absent) g (move b f img .image) (move b f jmg .image)
+    by true true = walk-agree mostStages s g work img jmg e a
+    by true false = a
+    by false f = a

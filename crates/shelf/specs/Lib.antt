@@ -1,6 +1,8 @@
 pub mod Limits
 pub mod State
 pub mod Stage
+pub mod Kept
+pub mod Fill
 pub mod Act
 pub mod Step
 pub mod Says

@@ -1,13 +1,14 @@
 -- The stages of each request. Assumes nothing.
-use mathlib.Core.Bool.{cond}
+use mathlib.Core.Bool.{cond, not}
 use Prim.Native.Nat.{ℕ, _+_, _-_}
 use lib.Dec.{eqb, leb}
 use Rattle.label.specs.declared.fields.Label.{Label}
 use Rattle.shelf.specs.declared.state.State.{State}
+use Rattle.shelf.specs.declared.state.Marks.{Marks}
 use Rattle.shelf.specs.declared.state.Kind.{Kind}
-use Rattle.shelf.specs.declared.state.Kind.the-variants.{Nothing, Idle, Creating, Starting, Labelling}
+use Rattle.shelf.specs.declared.state.Kind.the-variants.{Nothing, Idle, Creating, Starting, Labelling, Writing, Beginning, Filling}
 use Rattle.shelf.specs.declared.stage.Stage.{Stage}
-use Rattle.shelf.specs.declared.stage.Stage.the-variants.{Flush, Give, Wipe, Restore, End}
+use Rattle.shelf.specs.declared.stage.Stage.the-variants.{Flush, Give, Wipe, Restore, Log, Store, Clear, Erase, Fill, End}
 
 -- the label with another generation
 abbrev pub again : Label → ℕ → Label
@@ -31,6 +32,11 @@ slotsOf (Flush slots) = slots
 slotsOf (Give slots zeroed l) = slots
 slotsOf (Wipe slots) = slots
 slotsOf (Restore slots stripe) = slots
+slotsOf (Log slots stripe shards) = slots
+slotsOf (Store slots stripe) = slots
+slotsOf (Clear slots) = slots
+slotsOf (Erase slots odd) = slots
+slotsOf (Fill slots first count) = slots
 slotsOf End = 0
 
 -- a round: the label to each slot, then a flush of each
@@ -59,6 +65,34 @@ startStage s i =
 unfoldable pub createStage : State → ℕ → Stage
 createStage s i = cond (eqb i 0) (Flush (s .marks .present)) (roundStage (i - 1) (s .marks .present) (s .next))
 
+-- a write: the records, flushed, and then the strips, flushed
+unfoldable pub writeStage : Marks → ℕ → Stage
+writeStage x i =
+    cond (eqb i 0) (Log (x .redo) (x .stripe) (x .parts)) (cond (eqb i 2) (Store (x .redo) (x .stripe)) (cond (leb i 3) (Flush (x .redo)) End))
+
+-- begin from its record on: the record is cleared, the disk prepared, and the label told to all
+unfoldable pub lastStage : State → ℕ → Stage
+lastStage s i =
+    cond (eqb i 0) (Clear (s .marks .redo))
+    (cond (eqb i 1) (Flush (s .marks .redo))
+    (cond (eqb i 2) (Give (s .marks .prep) (s .marks .zeroed) (s .now))
+    (cond (eqb i 3) (Flush (s .marks .prep)) (roundStage (i - 4) (s .marks .present) (s .next)))))
+
+-- begin: a flush of the slot, then zeros over labels of another shelf, one at a time, each flushed
+unfoldable pub beginStage : State → ℕ → Stage
+beginStage s i =
+    cond (eqb i 0) (Flush (s .marks .redo))
+    (cond (eqb i 1) (Erase (s .marks .parts) (s .marks .forward))
+    (cond (eqb i 2) (Flush (s .marks .parts))
+    (cond (eqb i 3) (Erase (s .marks .late) (not (s .marks .forward)))
+    (cond (eqb i 4) (Flush (s .marks .late)) (lastStage s (i - 5))))))
+
+-- a rebuild: the strips from the mark on, flushed, and then the label with the mark behind them, told to all
+unfoldable pub fillStage : State → ℕ → Stage
+fillStage s i =
+    cond (eqb i 0) (Fill (s .marks .redo) (s .now .mark) (s .marks .stripe))
+    (cond (eqb i 1) (Flush (s .marks .redo)) (roundStage (i - 2) (s .marks .present) (s .next)))
+
 -- stage i of a request
 abbrev pub stageAt : Kind → State → ℕ → Stage
 stageAt Nothing s i = End
@@ -66,6 +100,9 @@ stageAt Idle s i = End
 stageAt Creating s i = createStage s i
 stageAt Starting s i = startStage s i
 stageAt Labelling s i = roundStage i (s .marks .present) (s .next)
+stageAt Writing s i = writeStage (s .marks) i
+stageAt Beginning s i = beginStage s i
+stageAt Filling s i = fillStage s i
 
 -- the stage at which the request is
 abbrev pub stageOf : State → Stage

@@ -16,7 +16,7 @@ use Rattle.shelf.specs.Act.{Move, refusal, refuses, actMove}
 use Rattle.shelf.specs.declared.state.State.{State}
 use Rattle.shelf.specs.declared.state.Stepped.{Stepped}
 use Rattle.shelf.specs.declared.state.Kind.{Kind}
-use Rattle.shelf.specs.declared.state.Kind.the-variants.{Nothing, Idle, Creating, Starting, Labelling}
+use Rattle.shelf.specs.declared.state.Kind.the-variants.{Nothing, Idle, Creating, Starting, Labelling, Writing, Beginning, Filling}
 use Rattle.shelf.specs.declared.state.Answer.{Answer}
 use Rattle.shelf.specs.declared.state.Answer.the-variants.{Put, Flush, Done, Refused}
 use Rattle.shelf.specs.declared.stage.Stage.{Stage}
@@ -32,6 +32,11 @@ isEnd (stage.Flush slots) = false
 isEnd (stage.Give slots zeroed l) = false
 isEnd (stage.Wipe slots) = false
 isEnd (stage.Restore slots t) = false
+isEnd (stage.Log slots t shards) = false
+isEnd (stage.Store slots t) = false
+isEnd (stage.Clear slots) = false
+isEnd (stage.Erase slots odd) = false
+isEnd (stage.Fill slots first count) = false
 isEnd stage.End = true
 
 -- the request has succeeded
@@ -50,11 +55,11 @@ abbrev pub nextSlot : State → Geometry → ℕ
 nextSlot s g = seek (slotsOf (stageOf s)) (g .n - s .cursor .slot) (s .cursor .slot)
 
 -- the first stage that has an action left does it; or the request is done. (Fewer than `left` stages have none.)
-unfoldable pub walk : ℕ → State → Geometry → List ℕ → Move
-walk zero s g img = finished s img
-walk (suc left) s g img =
+unfoldable pub walk : ℕ → State → Geometry → List ℕ → List ℕ → Move
+walk zero s g work img = finished s img
+walk (suc left) s g work img =
     cond (isEnd (stageOf s)) (finished s img)
-    (cond (ltb (nextSlot s g) (g .n)) (actMove s g (stageOf s) (nextSlot s g) img) (walk left (onStage s) g img))
+    (cond (ltb (nextSlot s g) (g .n)) (actMove s g (stageOf s) (nextSlot s g) work img) (walk left (onStage s) g work img))
 
 -- where the step was refused, the state is as it was
 abbrev pub byAnswer : Answer → State → Stepped → Stepped
@@ -75,13 +80,16 @@ underWay Idle = false
 underWay Creating = true
 underWay Starting = true
 underWay Labelling = true
+underWay Writing = true
+underWay Beginning = true
+underWay Filling = true
 
 -- a state with a request under way, its fields in range
 unfoldable pub sound : State → Bool
-sound s = fitsOf (s .now) && (underWay (s .kind) && (leb (s .cursor .stage) mostStages && ltb (s .cursor .sector) (s .now .c)))
+sound s = fitsOf (s .now) && (underWay (s .kind) && (leb (s .cursor .stage) mostStages && ltb (s .cursor .sector) (s .now .sectors)))
 
-unfoldable pub stepMove : State → List ℕ → Move
-stepMove s img =
+unfoldable pub stepMove : State → List ℕ → List ℕ → Move
+stepMove s work img =
     cond (sound s)
-    (cond (fitsImage (geometryOf (s .now)) (length img)) (keeps s (walk mostStages s (geometryOf (s .now)) img)) (refuses s BadImage img))
+    (cond (fitsImage (geometryOf (s .now)) (length img)) (keeps s (walk mostStages s (geometryOf (s .now)) work img)) (refuses s BadImage img))
     (refuses s NotNow img)

@@ -2,6 +2,8 @@
 // action, a put of one sector or a flush of one slot, and hands the state back. Nothing is kept between calls but that
 // value, and any value is taken.
 mod act;
+mod fill;
+mod kept;
 pub mod limits;
 mod stage;
 pub mod state;

@@ -1,14 +1,16 @@
 // The stages of each request, one after the other: a stage goes over its slots in order.
 use crate::state::Kind;
+use crate::state::Marks;
 use crate::state::State;
 use label::fields::Label;
 ghost use mathlib.Core.Path.{_≡_};
 ghost use Prim.Native.Nat.{_≤_};
 ghost use Rattle.label.specs.Fields.{mostGeneration};
-ghost use Rattle.shelf.specs.Stage.{again, roundStage, slotsOf, lateStage, startStage, createStage, stageOf};
+ghost use Rattle.shelf.specs.Stage.{again, roundStage, slotsOf, lateStage, startStage, createStage, writeStage, lastStage, beginStage, fillStage, stageOf};
 
 // What is done to each of its slots: a flush; the label, or zeros over its sector; zeros over the record's tail; the strip
-// from the record.
+// from the record; the record of the shard that is kept in the work area, and that shard itself; zeros over the whole record;
+// zeros over one sector of the label; strips that are computed from those of the other slots.
 pub enum Stage {
     Flush {
         slots: u64,
@@ -24,6 +26,27 @@ pub enum Stage {
     Restore {
         slots: u64,
         stripe: usize,
+    },
+    Log {
+        slots: u64,
+        stripe: usize,
+        shards: u64,
+    },
+    Store {
+        slots: u64,
+        stripe: usize,
+    },
+    Clear {
+        slots: u64,
+    },
+    Erase {
+        slots: u64,
+        odd: bool,
+    },
+    Fill {
+        slots: u64,
+        first: usize,
+        count: usize,
     },
     End,
 }
@@ -59,6 +82,19 @@ pub(crate) fn slots_of(stage: Stage) -> u64
         } => slots,
         Stage::Wipe { slots } => slots,
         Stage::Restore { slots, stripe: _ } => slots,
+        Stage::Log {
+            slots,
+            stripe: _,
+            shards: _,
+        } => slots,
+        Stage::Store { slots, stripe: _ } => slots,
+        Stage::Clear { slots } => slots,
+        Stage::Erase { slots, odd: _ } => slots,
+        Stage::Fill {
+            slots,
+            first: _,
+            count: _,
+        } => slots,
         Stage::End => 0,
     }
 }
@@ -156,6 +192,104 @@ fn create_stage(s: State, i: usize) -> Stage
     round_stage(i - 1, marks.present, next)
 }
 
+// A write: the records, flushed, and then the strips, flushed.
+fn write_stage(marks: Marks, i: usize) -> Stage
+    ensures { λ r. ⌜ r ≡ writeStage marks i ⌝ }
+{
+    if i == 0 {
+        return Stage::Log {
+            slots: marks.redo,
+            stripe: marks.stripe,
+            shards: marks.parts,
+        };
+    }
+    if i == 2 {
+        return Stage::Store {
+            slots: marks.redo,
+            stripe: marks.stripe,
+        };
+    }
+    if i <= 3 {
+        return Stage::Flush { slots: marks.redo };
+    }
+    Stage::End
+}
+
+// Begin from its record on: the record is cleared, the disk prepared, and the label told to all.
+fn last_stage(s: State, i: usize) -> Stage
+    ensures { λ r. ⌜ r ≡ lastStage s i ⌝ }
+{
+    let marks = s.marks;
+    let now = s.now;
+    let next = s.next;
+    if i == 0 {
+        return Stage::Clear { slots: marks.redo };
+    }
+    if i == 1 {
+        return Stage::Flush { slots: marks.redo };
+    }
+    if i == 2 {
+        return Stage::Give {
+            slots: marks.prep,
+            zeroed: marks.zeroed,
+            label: now,
+        };
+    }
+    if i == 3 {
+        return Stage::Flush { slots: marks.prep };
+    }
+    round_stage(i - 4, marks.present, next)
+}
+
+// Begin: a flush of the slot, then zeros over labels of another shelf, one at a time, each flushed.
+fn begin_stage(s: State, i: usize) -> Stage
+    ensures { λ r. ⌜ r ≡ beginStage s i ⌝ }
+{
+    let marks = s.marks;
+    if i == 0 {
+        return Stage::Flush { slots: marks.redo };
+    }
+    if i == 1 {
+        return Stage::Erase {
+            slots: marks.parts,
+            odd: marks.forward,
+        };
+    }
+    if i == 2 {
+        return Stage::Flush { slots: marks.parts };
+    }
+    if i == 3 {
+        return Stage::Erase {
+            slots: marks.late,
+            odd: !marks.forward,
+        };
+    }
+    if i == 4 {
+        return Stage::Flush { slots: marks.late };
+    }
+    last_stage(s, i - 5)
+}
+
+// A rebuild: the strips from the mark on, flushed, and then the label with the mark behind them, told to all.
+fn fill_stage(s: State, i: usize) -> Stage
+    ensures { λ r. ⌜ r ≡ fillStage s i ⌝ }
+{
+    let marks = s.marks;
+    let now = s.now;
+    let next = s.next;
+    if i == 0 {
+        return Stage::Fill {
+            slots: marks.redo,
+            first: now.mark,
+            count: marks.stripe,
+        };
+    }
+    if i == 1 {
+        return Stage::Flush { slots: marks.redo };
+    }
+    round_stage(i - 2, marks.present, next)
+}
+
 // The stage at which the request is.
 pub(crate) fn stage_of(s: State) -> Stage
     requires { ⌜ s .now .generation ≤ mostGeneration ⌝ }
@@ -171,5 +305,8 @@ pub(crate) fn stage_of(s: State) -> Stage
         Kind::Creating => create_stage(s, cursor.stage),
         Kind::Starting => start_stage(s, cursor.stage),
         Kind::Labelling => round_stage(cursor.stage, marks.present, next),
+        Kind::Writing => write_stage(marks, cursor.stage),
+        Kind::Beginning => begin_stage(s, cursor.stage),
+        Kind::Filling => fill_stage(s, cursor.stage),
     }
 }

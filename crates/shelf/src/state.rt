@@ -4,13 +4,17 @@ use label::fields::Label;
 ghost use mathlib.Core.Path.{_≡_};
 ghost use Rattle.shelf.specs.State.{moved, rested};
 
-// What is under way. Nothing: no shelf is started.
+// What is under way. Nothing: no shelf is started. Labelling: one label change. Writing: the log, then the strips. Beginning: a
+// disk is readied for its rebuild. Filling: strips of it are rebuilt.
 pub enum Kind {
     Nothing,
     Idle,
     Creating,
     Starting,
     Labelling,
+    Writing,
+    Beginning,
+    Filling,
 }
 
 // Where a request is: its stage, and slot and sector in it.
@@ -22,7 +26,10 @@ pub struct Cursor {
 
 // What the request under way goes by, each a mask of slots. present: the present ones. Of start-up: parts take part in its
 // rounds; late adopt the settled label; prep and zeroed of these are prepared, with zeros; redo are redone from their
-// records of this stripe (forward), or their records are wiped.
+// records of this stripe (forward), or their records are wiped. Of a write: redo are logged and then written, and parts are the
+// shards of this stripe that it changes. Of begin: redo is the slot; parts and then late have a label of another shelf in sector 1
+// and then 0 (forward), or in 0 and then 1; prep and zeroed as for start-up. Of a rebuild: redo is the slot, stripe the number of
+// strips, forward whether survivors contradicted each other.
 pub struct Marks {
     pub present: u64,
     pub parts: u64,

@@ -20,7 +20,7 @@ use label::fields::fits;
 ghost use mathlib.Core.Path.{_≡_};
 ghost use mathlib.Core.Bool.{true};
 ghost use Prim.Native.Nat.{_+_, _-_, _≤_, _<_};
-ghost use Rattle.disk.specs.Limits.{mostN, mostC};
+ghost use Rattle.disk.specs.Limits.{mostN, mostC, mostSectors};
 ghost use Rattle.label.specs.Fields.{mostGeneration, geometryOf, fitsOf};
 ghost use Rattle.shelf.specs.Limits.{mostStages};
 ghost use Rattle.shelf.specs.Step.{seek, isEnd, onStage, done, walk, kept, underWay, sound, stepMove};
@@ -56,6 +56,22 @@ fn is_end(stage: Stage) -> bool
             slots: _,
             stripe: _,
         } => false,
+        Stage::Log {
+            slots: _,
+            stripe: _,
+            shards: _,
+        } => false,
+        Stage::Store {
+            slots: _,
+            stripe: _,
+        } => false,
+        Stage::Clear { slots: _ } => false,
+        Stage::Erase { slots: _, odd: _ } => false,
+        Stage::Fill {
+            slots: _,
+            first: _,
+            count: _,
+        } => false,
     }
 }
 
@@ -80,9 +96,9 @@ fn next_stage(s: State) -> State
 }
 
 // Goes on to the first stage that has an action left, and does that; or the request is done.
-fn go(s: State, g: Geometry, image: &mut [u8]) -> Stepped
-    requires { ⌜ (s .cursor .stage ≤ mostStages) × (s .cursor .sector < mostC) × (s .now .generation ≤ mostGeneration) × (g .n ≤ mostN) × (g .c ≤ mostC) ⌝ }
-    ensures { λ r. ⌜ (r ≡ walk mostStages s g (now (image .entry)) .stepped) × (now (image .exit) ≡ walk mostStages s g (now (image .entry)) .image) ⌝ }
+fn go(s: State, g: Geometry, work: &[u8], image: &mut [u8]) -> Stepped
+    requires { ⌜ (s .cursor .stage ≤ mostStages) × (s .cursor .sector < mostSectors) × (s .now .generation ≤ mostGeneration) × (g .n ≤ mostN) × (g .c ≤ mostC) ⌝ }
+    ensures { λ r. ⌜ (r ≡ walk mostStages s g (now (work .entry)) (now (image .entry)) .stepped) × (now (image .exit) ≡ walk mostStages s g (now (work .entry)) (now (image .entry)) .image) ⌝ }
 {
     let mut t = s;
     let mut i = 0;
@@ -94,7 +110,7 @@ fn go(s: State, g: Geometry, image: &mut [u8]) -> Stepped
         let cursor = t.cursor;
         let d = find(slots_of(stage), g.n, cursor.slot);
         if d < g.n {
-            return act(t, g, stage, d, image);
+            return act(t, g, stage, d, work, image);
         }
         t = next_stage(t);
         i += 1;
@@ -112,6 +128,9 @@ fn under_way(kind: Kind) -> bool
         Kind::Creating => true,
         Kind::Starting => true,
         Kind::Labelling => true,
+        Kind::Writing => true,
+        Kind::Beginning => true,
+        Kind::Filling => true,
     }
 }
 
@@ -156,13 +175,14 @@ pub fn in_range(s: State) -> bool
     if MOST_STAGES < cursor.stage {
         return false;
     }
-    cursor.sector < now.c
+    cursor.sector < now.sectors
 }
 
 // Does the next action of the request under way, or says that it is done. Any state is taken: one whose fields are out of
-// range, or with nothing under way, is NOT_NOW, and a slice that is not this shelf's image BAD_IMAGE.
-pub fn step(s: State, image: &mut [u8]) -> Stepped
-    ensures { λ r. ⌜ (r ≡ stepMove s (now (image .entry)) .stepped) × (now (image .exit) ≡ stepMove s (now (image .entry)) .image) ⌝ }
+// range, or with nothing under way, is NOT_NOW, and a slice that is not this shelf's image BAD_IMAGE. The work area is what the
+// request left there.
+pub fn step(s: State, work: &[u8], image: &mut [u8]) -> Stepped
+    ensures { λ r. ⌜ (r ≡ stepMove s (now (work .entry)) (now (image .entry)) .stepped) × (now (image .exit) ≡ stepMove s (now (work .entry)) (now (image .entry)) .image) ⌝ }
 {
     if !in_range(s) {
         return refuse(s, Refusal::NotNow);
@@ -171,6 +191,6 @@ pub fn step(s: State, image: &mut [u8]) -> Stepped
     if !fits_image(g, image.len()) {
         return refuse(s, Refusal::BadImage);
     }
-    let r = go(s, g, image);
+    let r = go(s, g, work, image);
     keep(s, r)
 }

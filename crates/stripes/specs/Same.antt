@@ -34,7 +34,8 @@ use Rattle.position.specs.Search.{some, some-of, first, first-is, first-lt}
 use Rattle.position.specs.Position.{holds, holds-true, holds-is, padded-off, parity-ext}
 use Rattle.position.specs.Rebuild.{same-padding}
 use Rattle.shards.specs.Parity.{byte, shardSector, data-sector, sectors-hold}
-use Rattle.shards.specs.Code.{position, missingOf, missing-few, missing-has, blocksFrom, shard-there, scrub-holds, code}
+use Rattle.shards.specs.Strips.{position, missingOf, missing-few, missing-has, blocksFrom, shard-there, scrub-holds}
+use Rattle.shards.specs.Even.{any-code}
 use Rattle.shards.specs.Exact as Exact
 use Rattle.shards.specs.Exact.{Blames, scrub-accuses, scrub-several, blocks-there, blocks-found}
 use Rattle.stripes.specs.Slice.{shardBytes, laidOut, each-byte, within, laid-length, laid-position, laid-sector, laid-only, slice-shape, sector-byte, sector-is, missing-shards}
@@ -64,9 +65,9 @@ module _ (z : Shelf) (t : ℕ) (bad : ℕ → Bool) (g : ℕ → ℕ → Sector)
       there-at j p r hj hp hr e = sym (sector-byte z before r j p hp) ∙ ap (λ (l : List ℕ). getD l p 0) (there r j hr hj e)
 
       -- EVERY SECTOR OF EVERY SHARD is then what the code says
-      pub rebuilt : (more : z .m < z .k) (i j : ℕ) → i < slots z → j < z .c → sector (z .c) after i j ≡ code z more .blocks t bad g i j .bytes
+      pub rebuilt : (i j : ℕ) → i < slots z → j < z .c → sector (z .c) after i j ≡ any-code z .blocks t bad g i j .bytes
       unfolding position
-      rebuilt more i j hi hj =
+      rebuilt i j hi hj =
           sector-is z after i j (w .same ∙ whole) hi hj (blocksFrom z t bad g i j) (λ p hp. at p hp (bad (slotOf (slots z) t i)) refl)
         where
           at : (p : ℕ) → p < sectorBytes → (b : Bool) → bad (slotOf (slots z) t i) ≡ b
@@ -85,11 +86,11 @@ module _ (z : Shelf) (t : ℕ) (bad : ℕ → Bool) (g : ℕ → ℕ → Sector)
               ∙ y .agrees r hr (ap (λ (l : List ℕ). has l r) (same-padding (z .k) (z .m) missing) ∙ n) q hq))
 
 -- A READ: a rebuild of the stripe as it lies on the disks has the blocks (i < k), and for a parity shard what the code fills in
-pub read : (z : Shelf) (more : z .m < z .k) (t : ℕ) (bad : ℕ → Bool) (g : ℕ → ℕ → Sector) → fewOf z bad ≡ true → (a : Answer) (after : List ℕ)
+pub read : (z : Shelf) (t : ℕ) (bad : ℕ → Bool) (g : ℕ → ℕ → Sector) → fewOf z bad ≡ true → (a : Answer) (after : List ℕ)
     → Rebuilt (z .k) (z .m) (shardBytes z) (missingOf z t bad) a (laidOut z t g) after
-    → (i j : ℕ) → i < slots z → j < z .c → sector (z .c) after i j ≡ code z more .blocks t bad g i j .bytes
-read z more t bad g few a after w =
-    rebuilt z t bad g few (laidOut z t g) (laid-length z t g) a after w (λ r j hr hj e. laid-sector z t g r j hr hj) more
+    → (i j : ℕ) → i < slots z → j < z .c → sector (z .c) after i j ≡ any-code z .blocks t bad g i j .bytes
+read z t bad g few a after w =
+    rebuilt z t bad g few (laidOut z t g) (laid-length z t g) a after w (λ r j hr hj e. laid-sector z t g r j hr hj)
 
 -- ---- WRITE
 
@@ -116,8 +117,8 @@ module _ (z : Shelf) (t : ℕ) (b : Blocks Sector) (before after : List ℕ) (wh
           ∙ sym (sectors-hold (z .k) (z .m) b j p hp i hi)
 
       -- EVERY SECTOR OF EVERY SHARD is what the code puts into its slot
-      pub written : (more : z .m < z .k) (r j : ℕ) → r < slots z → j < z .c → sector (z .c) after r j ≡ code z more .shard t b (slotOf (slots z) t r) j .bytes
-      written more r j hr hj =
+      pub written : (r j : ℕ) → r < slots z → j < z .c → sector (z .c) after r j ≡ any-code z .shard t b (slotOf (slots z) t r) j .bytes
+      written r j hr hj =
           sector-is z after r j (w .same ∙ whole) hr hj (shardSector (z .k) (z .m) b r j) (λ p hp. at p hp (below-or-not r (z .k)))
           ∙ ap (λ (x : Sector). x .bytes) (sym (shard-there z t b r j hr))
         where
@@ -129,8 +130,8 @@ module _ (z : Shelf) (t : ℕ) (b : Blocks Sector) (before after : List ℕ) (wh
               (parity-at j p (r - z .k) hj hp (omega arith))
 
       -- so the slice is the stripe that the code says
-      pub written-all : (more : z .m < z .k) → after ≡ laidOut z t (code z more .shard t b)
-      written-all more = laid-only z t (code z more .shard t b) after (w .same ∙ whole) (written more)
+      pub written-all : after ≡ laidOut z t (any-code z .shard t b)
+      written-all = laid-only z t (any-code z .shard t b) after (w .same ∙ whole) written
 
 -- ---- SCRUB
 
@@ -215,14 +216,14 @@ module _ (z : Shelf) (t : ℕ) (g : ℕ → ℕ → Sector) where
           (first-lt 256 (mends q) (lit< tt), holds-true (z .k) (z .m) (put r (v q) (byteAt (shardBytes z) s q)) (first-is 256 (mends q) there))
 
   -- THE VERDICT is what the code finds, so a scrub of a stripe is never refused
-  pub scrubbed : (more : z .m < z .k) (v : Verdict) → Says (z .k) (z .m) (shardBytes z) s v → v ≡ verdictOf (code z more .scrub t g)
-  scrubbed more verdict.Sound h = sym (ap verdictOf (scrub-holds z t g (sound-strips (h .1))))
-  scrubbed more (verdict.Accused r) h =
+  pub scrubbed : (v : Verdict) → Says (z .k) (z .m) (shardBytes z) s v → v ≡ verdictOf (any-code z .scrub t g)
+  scrubbed verdict.Sound h = sym (ap verdictOf (scrub-holds z t g (sound-strips (h .1))))
+  scrubbed (verdict.Accused r) h =
       sym (ap verdictOf (scrub-accuses z t g (λ e. h .1 (sound-slice e)) (h .2) r (h .3 .0) (blames r (h .3))))
-  scrubbed more verdict.Unsound h =
+  scrubbed verdict.Unsound h =
       sym (ap verdictOf (scrub-several z t g (λ e. h .1 (sound-slice e)) (λ two r hr u. h .2 two r (accuses r hr u))))
-  scrubbed more (verdict.Refused x) h = absurd (true≢false (sym (slice-shape z s (laid-length z t g)) ∙ h .0))
+  scrubbed (verdict.Refused x) h = absurd (true≢false (sym (slice-shape z s (laid-length z t g)) ∙ h .0))
 
   -- and back: what is found is what the verdict says
-  pub found : (more : z .m < z .k) (v : Verdict) → Says (z .k) (z .m) (shardBytes z) s v → (f : Finding) → v ≡ verdictOf f → code z more .scrub t g ≡ f
-  found more v h f e = verdict-one (code z more .scrub t g) f (sym (scrubbed more v h) ∙ e)
+  pub found : (v : Verdict) → Says (z .k) (z .m) (shardBytes z) s v → (f : Finding) → v ≡ verdictOf f → any-code z .scrub t g ≡ f
+  found v h f e = verdict-one (any-code z .scrub t g) f (sym (scrubbed v h) ∙ e)

@@ -24,7 +24,7 @@ use Rattle.shards.specs.Quorum.{fewOf}
 use Rattle.position.specs.Row.{inRow, row-length, row-at}
 use Rattle.position.specs.Lists.{ascending-shards}
 use Rattle.shards.specs.Parity.{byte}
-use Rattle.shards.specs.Code.{position, missingOf, missing-few, in-range}
+use Rattle.shards.specs.Strips.{position, missingOf, missing-few, in-range}
 
 -- ---- the slice
 

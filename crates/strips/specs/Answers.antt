@@ -92,7 +92,7 @@ isDone Done = true
 isDone (Refused why) = false
 
 -- what is not refused has passed the test
-gate : (x : Bool) (o : Outcome) (why : Refusal) → cond x o (Refused why) ≡ Done → (x ≡ true) × (o ≡ Done)
+pub gate : (x : Bool) (o : Outcome) (why : Refusal) → cond x o (Refused why) ≡ Done → (x ≡ true) × (o ≡ Done)
 unfolding isDone
 gate true o why e = (refl, e)
 gate false o why e = absurd (true≢false (sym (ap isDone e)))

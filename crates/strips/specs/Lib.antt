@@ -3,3 +3,5 @@ pub mod Seen
 pub mod Answers
 pub mod Laws
 pub mod Turns
+pub mod Whole
+pub mod Prepared

@@ -5,3 +5,4 @@ pub mod believed;
 pub mod lost;
 pub mod seen;
 pub mod shown;
+pub mod whole;

@@ -23,9 +23,21 @@ returns-4 c = sym (ap kindOf (c .match .keys4))
 
 returns-5 : tie.Need-returns-5
 unfolding kindOf
-returns-5 c =
+returns-5 c = sym (ap kindOf (c .match .keys5))
+
+returns-6 : tie.Need-returns-6
+unfolding kindOf
+returns-6 c = sym (ap kindOf (c .match .keys6))
+
+returns-7 : tie.Need-returns-7
+unfolding kindOf
+returns-7 c = sym (ap kindOf (c .match .keys7))
+
+returns-8 : tie.Need-returns-8
+unfolding kindOf
+returns-8 c =
     let n = c .match .rest in
-    rw (ne-eqb _ _ (n .0 .0 .0 .1), ne-eqb _ _ (n .0 .0 .1), ne-eqb _ _ (n .0 .1), ne-eqb _ _ (n .1))
+    rw (ne-eqb _ _ (n .0 .0 .0 .0 .0 .0 .1), ne-eqb _ _ (n .0 .0 .0 .0 .0 .1), ne-eqb _ _ (n .0 .0 .0 .0 .1), ne-eqb _ _ (n .0 .0 .0 .1), ne-eqb _ _ (n .0 .0 .1), ne-eqb _ _ (n .0 .1), ne-eqb _ _ (n .1))
 
 pub kind-of-spec : {M : Type 1} → statement M
-kind-of-spec = tie.close (tie.spec returns returns-2 returns-3 returns-4 returns-5)
+kind-of-spec = tie.close (tie.spec returns returns-2 returns-3 returns-4 returns-5 returns-6 returns-7 returns-8)

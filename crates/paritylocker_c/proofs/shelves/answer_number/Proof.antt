@@ -46,16 +46,16 @@ mul-result-4 : tie.Need-mul-result-4
 mul-result-4 c = search needs
 
 returns : tie.Need-returns
-returns c = sym (ap answerNumber (c .before .answer .given .1))
+returns c = sym (ap (answerNumber (c .before .before .before .args .done)) (c .before .answer .given .1))
 
 returns-2 : tie.Need-returns-2
-returns-2 c = sym (ap answerNumber (c .before .answer2 .given .1))
+returns-2 c = sym (ap (answerNumber (c .before .before .before .args .done)) (c .before .answer2 .given .1))
 
 returns-3 : tie.Need-returns-3
-returns-3 c = sym (ap answerNumber (c .enum-told .given .1))
+returns-3 c = sym (ap (answerNumber (c .before .before .args .done)) (c .enum-told .given .1))
 
 returns-4 : tie.Need-returns-4
-returns-4 c = ap (λ (x : ℕ). 256 * x) (c .number .ensures) ∙ sym (ap answerNumber (c .before .before .answer3 .given .1))
+returns-4 c = ap (λ (x : ℕ). 256 * x) (c .number .ensures) ∙ sym (ap (answerNumber (c .before .before .before .before .args .done)) (c .before .before .answer3 .given .1))
 
 pub answer-number-spec : {M : Type 1} → statement M
 answer-number-spec =

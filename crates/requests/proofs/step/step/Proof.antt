@@ -18,19 +18,19 @@ same-length c = search needs
 
 returns : tie.Need-returns
 returns c =
-    let a = c .before .before .before .before .before .before .before .args in
-    let q = step-unsound (a .s) (a .image .now) (a .room) (sym (c .before .before .before .before .before .in-range .ensures) ∙ not-true _ (c .before .before .before .before .if1 .taken)) in
+    let a = c .before .before .before .before .before .before .before .before .args in
+    let q = step-unsound (a .s) (a .image .now) (a .work .now) (sym (c .before .before .before .before .before .in-range .ensures) ∙ not-true _ (c .before .before .before .before .if1 .taken)) in
     (c .before .before .step .ensures .0 ∙ sym (ap (λ (m : Move). m .stepped) q), c .before .before .step .ensures .1 ∙ sym (ap (λ (m : Move). m .image) q))
 
 other-work-requires : tie.Need-other-work-requires
 other-work-requires c κs =
-    let a = c .before .before .before .before .args in
+    let a = c .before .before .before .before .before .args in
     sound-fits (a .s) (sym (c .before .before .in-range .ensures) ∙ not-false _ (c .before .if1 .left))
 
 returns-2 : tie.Need-returns-2
 returns-2 c =
-    let a = c .before .before .before .before .before .before .args in
-    let q = sym (step-short (a .s) (a .image .now) (a .room) (sym (c .before .before .before .before .in-range .ensures) ∙ not-false _ (c .before .before .before .if1 .left)) (sym (c .before .other-work .ensures) ∙ c .if2 .taken)) in
+    let a = c .before .before .before .before .before .before .before .args in
+    let q = sym (step-short (a .s) (a .image .now) (a .work .now) (sym (c .before .before .before .before .in-range .ensures) ∙ not-false _ (c .before .before .before .if1 .left)) (sym (c .before .other-work .ensures) ∙ c .if2 .taken)) in
     (ap (λ (m : Move). m .stepped) q, ap (λ (m : Move). m .image) q)
 
 step-requires-2 : tie.Need-step-requires-2
@@ -41,9 +41,9 @@ same-length-2 c = search needs
 
 returns-3 : tie.Need-returns-3
 returns-3 c =
-    let a = c .before .before .before .before .before .before .before .before .before .before .args in
+    let a = c .before .before .before .before .before .before .before .before .before .before .before .args in
     let e = sym (c .before .before .before .before .before .before .before .before .in-range .ensures) ∙ not-false _ (c .before .before .before .before .before .before .before .if1 .left) in
-    let q = step-goes (a .s) (a .image .now) (a .room) e (sym (c .before .before .before .before .before .other-work .ensures) ∙ c .before .before .before .before .if2 .left) in
+    let q = step-goes (a .s) (a .image .now) (a .work .now) e (sym (c .before .before .before .before .before .other-work .ensures) ∙ c .before .before .before .before .if2 .left) in
     (c .before .before .step2 .ensures .0 ∙ sym (ap (λ (m : Move). m .stepped) q), c .before .before .step2 .ensures .1 ∙ sym (ap (λ (m : Move). m .image) q))
 
 pub step-spec : {M : Type 1} → statement M

@@ -14,10 +14,10 @@ use Rattle.shelf.proofs.step.go.Statement.{statement}
 use Rattle.shelf.proofs.step.go.Tie as tie
 
 abbrev Inv-loop : tie.InvT-loop
-Inv-loop g image₀ t₀ i₀ image t i = Walking g image₀ t₀ image t i
+Inv-loop g work image₀ t₀ i₀ image t i = Walking g work image₀ t₀ image t i
 
 abbrev μ-loop : tie.MeasureT-loop
-μ-loop g image₀ t₀ i₀ image t i = mostStages - i
+μ-loop g work image₀ t₀ i₀ image t i = mostStages - i
 
 loop-holds : tie.Need-loop-holds Inv-loop μ-loop
 loop-holds c =
@@ -38,9 +38,9 @@ same-length c = ap length (c .before .before .before .before .before .loop .inv 
 returns : tie.Need-returns Inv-loop μ-loop
 returns c =
     let l = c .before .before .before .before .before .loop in
-    let a = c .before .before .before .before .before .before .before .args in
+    let a = c .before .before .before .before .before .before .before .before .args in
     let m =
-    walk-end (a .s) (l .t) (a .g) (a .image .now) (l .i) (l .inv .so-far) (omega arith) (c .before .before .before .stage-of .result) (c .before .before .before .stage-of .ensures)
+    walk-end (a .s) (l .t) (a .g) (a .work .now) (a .image .now) (l .i) (l .inv .so-far) (omega arith) (c .before .before .before .stage-of .result) (c .before .before .before .stage-of .ensures)
     (sym (c .before .before .is-end .ensures) ∙ c .before .if1 .taken) in
     (c .finish .ensures ∙ sym (ap (λ (x : Move). x .stepped) m), l .inv .same ∙ sym (ap (λ (x : Move). x .image) m))
 
@@ -59,13 +59,13 @@ same-length-2 c = omega (arith, ap length (c .before .before .before .before .be
 returns-2 : tie.Need-returns-2 Inv-loop μ-loop
 returns-2 c =
     let l = c .before .before .before .before .before .before .before .before .before .before .before .before .before .loop in
-    let a = c .before .before .before .before .before .before .before .before .before .before .before .before .before .before .before .args in
+    let a = c .before .before .before .before .before .before .before .before .before .before .before .before .before .before .before .before .args in
     let x = c .before .before .before .before .before .before .before .before .before .before .before .stage-of .result in
     let d = c .before .before .before .before .before .before .find .result in
     let m =
-    walk-act (a .s) (l .t) (a .g) (a .image .now) (l .i) (l .inv .so-far) (omega arith) x (c .before .before .before .before .before .before .before .before .before .before .before .stage-of .ensures)
+    walk-act (a .s) (l .t) (a .g) (a .work .now) (a .image .now) (l .i) (l .inv .so-far) (omega arith) x (c .before .before .before .before .before .before .before .before .before .before .before .stage-of .ensures)
     (sym (c .before .before .before .before .before .before .before .before .before .before .is-end .ensures) ∙ c .before .before .before .before .before .before .before .before .before .if1 .left) d (c .before .before .before .before .before .before .find .ensures ∙ ap (λ (k : ℕ). seek k (a .g .n - l .t .cursor .slot) (l .t .cursor .slot)) (c .before .before .before .before .before .before .before .slots-of .ensures)) (omega arith) in
-    let q = sym (m ∙ ap (λ (v : List ℕ). actMove (l .t) (a .g) x d v) (sym (l .inv .same))) in
+    let q = sym (m ∙ ap (λ (v : List ℕ). actMove (l .t) (a .g) x d (a .work .now) v) (sym (l .inv .same))) in
     (c .before .before .act .ensures .0 ∙ ap (λ (x : Move). x .stepped) q, c .before .before .act .ensures .1 ∙ ap (λ (x : Move). x .image) q)
 
 next-stage-requires : tie.Need-next-stage-requires Inv-loop μ-loop
@@ -80,15 +80,15 @@ loop-less c = search needs
 loop-again : tie.Need-loop-again Inv-loop μ-loop
 loop-again c =
     let l = c .before .before .before .before .before .before .before .before .before .before .loop in
-    let a = c .before .before .before .before .before .before .before .before .before .before .before .before .args in
+    let a = c .before .before .before .before .before .before .before .before .before .before .before .before .before .args in
     let e = c .next-stage .ensures in
     let m =
-    walk-on (a .s) (l .t) (a .g) (a .image .now) (l .i) (l .inv .so-far) (omega arith) (c .before .before .before .before .before .before .before .before .stage-of .result) (c .before .before .before .before .before .before .before .before .stage-of .ensures)
+    walk-on (a .s) (l .t) (a .g) (a .work .now) (a .image .now) (l .i) (l .inv .so-far) (omega arith) (c .before .before .before .before .before .before .before .before .stage-of .result) (c .before .before .before .before .before .before .before .before .stage-of .ensures)
     (sym (c .before .before .before .before .before .before .before .is-end .ensures) ∙ c .before .before .before .before .before .before .if1 .left) (c .before .before .before .find .result)
     (c .before .before .before .find .ensures ∙ ap (λ (k : ℕ). seek k (a .g .n - l .t .cursor .slot) (l .t .cursor .slot)) (c .before .before .before .before .slots-of .ensures)) (omega arith) in
     record {
       same = l .inv .same;
-      so-far = ap (λ (x : State). walk (mostStages - (l .i + 1)) x (a .g) (a .image .now)) e ∙ m;
+      so-far = ap (λ (x : State). walk (mostStages - (l .i + 1)) x (a .g) (a .work .now) (a .image .now)) e ∙ m;
       few = omega arith;
       staged = omega (arith, l .inv .staged, ap (λ (x : State). x .cursor .stage) e);
       within = omega (arith, ap (λ (x : State). x .cursor .sector) e);
@@ -104,8 +104,8 @@ same-length-3 c = ap length (c .before .before .loop .inv .same)
 returns-3 : tie.Need-returns-3 Inv-loop μ-loop
 returns-3 c =
     let l = c .before .before .loop in
-    let a = c .before .before .before .before .args in
-    let m = walk-out (a .s) (l .t) (a .g) (a .image .now) (l .i) (l .inv .so-far) (omega arith) in
+    let a = c .before .before .before .before .before .args in
+    let m = walk-out (a .s) (l .t) (a .g) (a .work .now) (a .image .now) (l .i) (l .inv .so-far) (omega arith) in
     (c .finish2 .ensures ∙ sym (ap (λ (x : Move). x .stepped) m), l .inv .same ∙ sym (ap (λ (x : Move). x .image) m))
 
 pub go-spec : {M : Type 1} → statement M

@@ -19,11 +19,11 @@ refuse-requires c κs = search needs
 
 returns : tie.Need-returns
 returns c =
-    let a = c .before .before .before .before .args in
-    let m = step-unsound (a .s) (a .image .now) (sym (c .before .before .in-range .ensures) ∙ not-true _ (c .before .if1 .taken)) in
+    let a = c .before .before .before .before .before .args in
+    let m = step-unsound (a .s) (a .work .now) (a .image .now) (sym (c .before .before .in-range .ensures) ∙ not-true _ (c .before .if1 .taken)) in
     (c .refuse .ensures ∙ sym (ap (λ (x : Move). x .stepped) m), sym (ap (λ (x : Move). x .image) m))
 
-ok : (c : tie.Else1) → sound (c .before .before .before .args .s) ≡ true
+ok : (c : tie.Else1) → sound (c .before .before .before .before .args .s) ≡ true
 ok c = sym (c .before .in-range .ensures) ∙ not-false _ (c .if1 .left)
 
 geometry-requires : tie.Need-geometry-requires
@@ -37,9 +37,9 @@ refuse-requires-2 c κs = search needs
 
 returns-2 : tie.Need-returns-2
 returns-2 c =
-    let a = c .before .before .before .before .before .before .before .args in
+    let a = c .before .before .before .before .before .before .before .before .args in
     let g = c .before .before .before .geometry in
-    let m = step-other (a .s) (a .image .now) (ok (c .before .before .before .before)) (g .result) (g .ensures) (sym (c .before .before .fits-image .ensures) ∙ not-true _ (c .before .if2 .taken)) in
+    let m = step-other (a .s) (a .work .now) (a .image .now) (ok (c .before .before .before .before)) (g .result) (g .ensures) (sym (c .before .before .fits-image .ensures) ∙ not-true _ (c .before .if2 .taken)) in
     (c .refuse2 .ensures ∙ sym (ap (λ (x : Move). x .stepped) m), sym (ap (λ (x : Move). x .image) m))
 
 go-requires : tie.Need-go-requires
@@ -57,9 +57,9 @@ same-length c = search needs
 
 returns-3 : tie.Need-returns-3
 returns-3 c =
-    let a = c .before .before .before .before .before .before .before .before .before .before .before .args in
+    let a = c .before .before .before .before .before .before .before .before .before .before .before .before .args in
     let g = c .before .before .before .before .before .before .before .geometry in
-    let m = step-goes (a .s) (a .image .now) (ok (c .before .before .before .before .before .before .before .before)) (g .result) (g .ensures) (sym (c .before .before .before .before .before .before .fits-image .ensures) ∙ not-false _ (c .before .before .before .before .before .if2 .left)) in
+    let m = step-goes (a .s) (a .work .now) (a .image .now) (ok (c .before .before .before .before .before .before .before .before)) (g .result) (g .ensures) (sym (c .before .before .before .before .before .before .fits-image .ensures) ∙ not-false _ (c .before .before .before .before .before .if2 .left)) in
     (c .keep .ensures ∙ ap (kept (a .s)) (c .before .before .before .go .ensures .0) ∙ sym (ap (λ (x : Move). x .stepped) m), c .before .before .before .go .ensures .1 ∙ sym (ap (λ (x : Move). x .image) m))
 
 pub step-spec : {M : Type 1} → statement M

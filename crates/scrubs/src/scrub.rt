@@ -1,0 +1,104 @@
+// Scrub: what the code says of a stripe, with the write under way laid over.
+use crate::answers::is_served;
+use crate::answers::look_answer;
+use crate::answers::stripe_answer;
+use crate::laid::laid_over;
+use crate::of_label::geometry;
+use crate::slots::all_slots;
+use crate::slots::none_missing;
+use disk::limits::MOST_N;
+use disk::limits::SECTOR;
+use disk::refusal::Outcome;
+use label::fields::Label;
+use requests::begun::work_bytes;
+use shelf::state::Kind;
+use shelf::state::State;
+use strips::whole::Scrubbed;
+use strips::whole::scrub;
+ghost use mathlib.Core.Path.{_≡_};
+ghost use mathlib.Core.Bool.{true, _&&_};
+ghost use Prim.Native.Nat.{_+_, _*_};
+ghost use lib.ListN.{length};
+ghost use Rattle.disk.specs.declared.refusal.Outcome.the-variants.{Done};
+ghost use Rattle.label.specs.Fields.{fitsOf};
+ghost use Rattle.requests.specs.Begun.{workBytes};
+ghost use Rattle.scrubs.specs.Slots.{noneMissing};
+ghost use Rattle.scrubs.specs.Answers.{serves};
+ghost use Rattle.scrubs.specs.Laid.{laidOver};
+ghost use Rattle.scrubs.specs.Scrub.{sizedOf, scrubAnswer, Lies, ScrubbedBy, SaysOf};
+
+// The bytes of the largest stripe.
+pub const MOST_STRIPE: usize = MOST_N * 8 * SECTOR;
+
+// Whether scrubs are served, and nothing is missing.
+fn is_whole(l: Label, kind: Kind, absent: u64) -> bool
+    requires { ⌜ fitsOf l ≡ true ⌝ }
+    ensures { λ r. ⌜ r ≡ (serves kind && noneMissing l absent) ⌝ }
+{
+    if !is_served(kind) {
+        return false;
+    }
+    none_missing(l, absent)
+}
+
+// Whether the work area has its size.
+pub(crate) fn is_sized(l: Label, room: usize) -> bool
+    requires { ⌜ fitsOf l ≡ true ⌝ }
+    ensures { λ r. ⌜ r ≡ sizedOf l room ⌝ }
+{
+    room == work_bytes(l.k + l.m, l.c)
+}
+
+// The first refusal that applies to a scrub.
+fn scrub_answer(l: Label, kind: Kind, absent: u64, t: usize, len: usize, room: usize) -> Outcome
+    ensures { λ r. ⌜ r ≡ scrubAnswer l kind absent t len room ⌝ }
+{
+    let answer = look_answer(l, kind, len);
+    match answer {
+        Outcome::Refused(why) => Outcome::Refused(why),
+        Outcome::Done => {
+            let whole = is_whole(l, kind, absent);
+            let sized = is_sized(l, room);
+            stripe_answer(l, absent, true, whole, sized, t)
+        }
+    }
+}
+
+// Scrubs stripe t of a shelf with this label.
+fn scrub_of(image: &[u8], l: Label, over: u64, work: &[u8], t: usize) -> Scrubbed
+    requires { ⌜ Lies l (now image) t × (length (now work) ≡ workBytes (l .k + l .m) (l .c)) ⌝ }
+    ensures { λ r. ⌜ ScrubbedBy Done (SaysOf l over (now (image .entry)) (now (work .entry)) t) r ⌝ }
+{
+    let g = geometry(l);
+    let there = all_slots(g.n);
+    let half = g.n * (g.c * SECTOR);
+    let mut room = [0u8; MOST_STRIPE];
+    scrub(
+        image,
+        g,
+        l.k,
+        there,
+        over,
+        &work[..half],
+        t,
+        &mut room[..half],
+    )
+}
+
+// Scrubs stripe t. Refused, in this order: no shelf is started NOT_NOW; another image BAD_IMAGE; more than m slots missing TOO_FEW; no
+// such stripe BAD_BLOCK; create or start-up has not answered, or a slot is out or absent, NOT_NOW; another work area BAD_BUFFER. While a
+// write is under way the stripe is as it was before it until its log is flushed, and as it will be from then on.
+pub fn scrub_stripe(s: State, t: usize, image: &[u8], work: &[u8]) -> Scrubbed
+    ensures { λ r. ⌜ ScrubbedBy (scrubAnswer (s .now) (s .kind) (s .absent) t (length (now (image .entry))) (length (now (work .entry)))) (SaysOf (s .now) (laidOver s t) (now (image .entry)) (now (work .entry)) t) r ⌝ }
+{
+    let l = s.now;
+    let kind = s.kind;
+    let answer = scrub_answer(l, kind, s.absent, t, image.len(), work.len());
+    match answer {
+        Outcome::Refused(why) => Scrubbed::Refused(why),
+        Outcome::Done => {
+            let over = laid_over(s, t);
+            scrub_of(image, l, over, work, t)
+        }
+    }
+}
