@@ -123,7 +123,8 @@ uint32_t pl_read(uint64_t block, uint8_t *data, size_t data_len, const uint8_t *
 /* Scrubs a stripe, at once: PL_SOUND, PL_ACCUSED + r (shard r of the stripe, the parity shards from k on), PL_UNSOUND; PL_NOT_NOW where no
  * shelf is started; PL_BAD_IMAGE; PL_TOO_FEW; PL_BAD_BLOCK where there is no such stripe; PL_NOT_NOW where create or start-up has not
  * answered, or a slot is out or absent; PL_BAD_BUFFER. A write under way counts as for pl_read. Writes nothing. */
-uint32_t pl_scrub_stripe(uint64_t stripe, uint8_t *image, size_t image_len, uint8_t *state, size_t state_len, uint8_t *work, size_t work_len);
+uint32_t pl_scrub_stripe(uint64_t stripe, uint8_t *image, size_t image_len, uint8_t *state, size_t state_len, uint8_t *work,
+                         size_t work_len);
 
 /* Begins to write the shard that a scrub of the stripe accuses, mended. 0; PL_NOT_NOW where no shelf is started; PL_BAD_IMAGE; PL_NO_LABEL
  * where a present disk's label isn't the state's; PL_TOO_FEW; PL_BAD_BLOCK where there is no such stripe; PL_BUSY; PL_NOT_NOW where a slot
