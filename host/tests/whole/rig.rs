@@ -367,7 +367,7 @@ impl Rig {
                     goal.request
                 );
                 goal.put += 1;
-                if sector < 2 {
+                if sector < 2 && matches!(goal.request, Request::RebuildOn { .. }) {
                     self.check_told(slot, sector);
                 }
                 if goal.request == Request::Start && sector >= 2 {
@@ -386,7 +386,7 @@ impl Rig {
         false
     }
 
-    /// A label is put: whichever slot was out and isn't according to it, or has a higher mark, has its strips, flushed.
+    /// A rebuild puts a label: whichever slot was out and isn't according to it, or has a higher mark, has its strips, flushed.
     fn check_told(&mut self, slot: usize, place: usize) {
         let shape = self.shape();
         let bytes = self.disks.sector(slot, place);
