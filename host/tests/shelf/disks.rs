@@ -89,6 +89,11 @@ impl Disks {
         (slot * self.shape.sectors as usize + sector) * SECTOR
     }
 
+    /// The bytes of a content.
+    pub fn content(&self, value: u32) -> &Sector {
+        &self.contents[value as usize]
+    }
+
     pub fn sector(&self, slot: usize, sector: usize) -> Sector {
         let at = self.at(slot, sector);
         self.image[at..at + SECTOR].try_into().unwrap()
@@ -233,7 +238,7 @@ impl Disks {
     pub fn copy(&self, slot: usize, place: usize, value: u32) -> Parsed {
         let mut parsed = self.parsed.borrow_mut();
         let known = parsed.entry((value, slot, place));
-        *known.or_insert_with(|| parse(&self.contents[value as usize], slot, place))
+        *known.or_insert_with(|| parse(self.content(value), slot, place))
     }
 
     /// The newest valid label of a slot, as it is seen.

@@ -190,6 +190,7 @@ pub fn foreign(rig: &mut Rig, slot: usize, generation: u64, own: usize) {
         rig.disks.put(slot, 2 + i, bytes);
     }
     rig.disks.flush(slot);
+    rig.foreign = Some((slot, other.shelf, rig.disks.world().clone()));
 }
 
 fn begin_with_a_foreign_disk(rig: &mut Rig) {
@@ -349,4 +350,21 @@ fn every_set_of_lost_slots() {
         }
     }
     println!("{tried} sets of lost slots");
+}
+
+/// Begin without its zeros over a foreign disk's labels would be noticed.
+#[test]
+fn foreign_labels_left_are_noticed() {
+    let noticed = std::panic::catch_unwind(|| {
+        let all = Level {
+            every: 1,
+            outcomes: 5,
+            sets: 1,
+        };
+        let mut explorer = Explorer::new(SHAPES[0], 1, &[all]);
+        explorer.rig.disks.left_out = Some((6, &[1, 2, 3, 4]));
+        begin_with_a_foreign_disk(&mut explorer.rig);
+        explorer.run(0);
+    });
+    assert!(noticed.is_err());
 }

@@ -103,6 +103,7 @@ impl Explorer {
         let saved = self.rig.save();
         for left in self.outcomes(&saved.world, level.outcomes) {
             self.rig.assert_two_in_a_row(&left);
+            self.rig.assert_foreign(&left);
             self.cuts += 1;
             if !self.seen.insert(hash(&left, &saved.facts, depth)) {
                 continue;

@@ -117,6 +117,7 @@ impl Run {
                 let generation = 1 + self.rig.random.next() % 60;
                 let own = self.any_slot();
                 foreign(&mut self.rig, slot, generation, own);
+                self.rig.foreign = None;
             }
             _ => {}
         }
@@ -355,11 +356,14 @@ histories! {
 }
 
 /// What is tested here can fail: with a stage of a request left out, some history goes wrong. The pairs are the kind of a request and
-/// its stages, as in the state.
+/// its stages, as in the state: of a write the flush of the records and that of the strips; of begin the zeros over the record, the
+/// preparation of the labels and the last flush; of a rebuild the flush of the strips and that of the labels.
 #[test]
 fn stages_left_out_are_noticed() {
-    let faults: [(u8, &'static [u8]); 2] = [(5, &[1]), (5, &[3])];
-    for fault in faults {
+    let writes: [(u8, &'static [u8]); 2] = [(5, &[1]), (5, &[3])];
+    let begins: [(u8, &'static [u8]); 3] = [(6, &[5, 6]), (6, &[7, 8]), (6, &[10])];
+    let rebuilds: [(u8, &'static [u8]); 2] = [(7, &[1]), (7, &[3])];
+    for fault in writes.into_iter().chain(begins).chain(rebuilds) {
         let noticed =
             std::panic::catch_unwind(|| run(shape(2, 1, 1, 2), 400, 60, false, Some(fault)));
         assert!(noticed.is_err(), "{fault:?} was not noticed");

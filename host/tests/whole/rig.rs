@@ -91,6 +91,8 @@ pub struct Rig {
     pub random: Random,
     /// Between two steps all blocks are read once in so many times; 0: never.
     pub peeks: usize,
+    /// A disk of another shelf, with what it held: its slot, that shelf, and its sectors.
+    pub foreign: Option<(usize, u64, World)>,
     goal: Option<Goal>,
     shards: Shards,
     /// Start-ups that were carried to the end.
@@ -119,6 +121,7 @@ impl Rig {
             absent: 0,
             random: Random(seed.wrapping_mul(0x9e37_79b9_7f4a_7c15) | 1),
             peeks: 1,
+            foreign: None,
             goal: None,
             shards: Shards::default(),
             started: 0,
@@ -364,7 +367,7 @@ impl Rig {
                     goal.request
                 );
                 goal.put += 1;
-                if sector < 2 {
+                if sector < 2 && matches!(goal.request, Request::RebuildOn { .. }) {
                     self.check_told(slot, sector);
                 }
                 if goal.request == Request::Start && sector >= 2 {
@@ -383,7 +386,7 @@ impl Rig {
         false
     }
 
-    /// A label is put: whichever slot was out and isn't according to it, or has a higher mark, has its strips, flushed.
+    /// A rebuild puts a label: whichever slot was out and isn't according to it, or has a higher mark, has its strips, flushed.
     fn check_told(&mut self, slot: usize, place: usize) {
         let shape = self.shape();
         let bytes = self.disks.sector(slot, place);
@@ -699,6 +702,30 @@ impl Rig {
             self.disks.put(slot, sector, bytes);
         }
         self.disks.flush(slot);
+    }
+
+    /// In a world that a cut left: for its old shelf a foreign disk has no label any more, or its log and strips are as they were.
+    pub fn assert_foreign(&self, left: &World) {
+        let Some((slot, shelf, held)) = &self.foreign else {
+            return;
+        };
+        let theirs = |place: usize| {
+            let Some(cell) = left.get(&(*slot, place)) else {
+                return false;
+            };
+            // The label may be that of another slot.
+            let own = self.disks.content(cell[cell.len() - 1])[12];
+            let found = self.disks.copy(own.into(), place, cell[cell.len() - 1]);
+            found.is_some_and(|(s, _)| s.shelf == *shelf)
+        };
+        if theirs(0) || theirs(1) {
+            let behind = (*slot, 2)..(*slot + 1, 0);
+            let same = left.range(behind.clone()).eq(held.range(behind));
+            assert!(
+                same,
+                "slot {slot}: a disk of another shelf was changed and has its label"
+            );
+        }
     }
 
     /// In a world that a cut left: where a sector is a label of this shelf, the other one is zeros or the generation before or after.
