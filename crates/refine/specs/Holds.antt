@@ -160,7 +160,7 @@ module _ (z : Shelf) (F : Family z) where
                 (ap (λ (y : Label). Label.believed (size z) y x t) q ∙ believe-is z a x t ∙ b) c);
           }
 
-      shape-of : (d : ℕ) → d < slots z → Shape (labels z) (curOf z img) d → Follows z img d
+      pub shape-of : (d : ℕ) → d < slots z → Shape (labels z) (curOf z img) d → Follows z img d
       unfolding places.sectorOf places.copySector
       shape-of d i h = record { calm = calm; follow = follow }
         where

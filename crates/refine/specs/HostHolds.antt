@@ -1,5 +1,5 @@
 -- WHAT EVERY CHAIN OF CALLS WITH WRITES KEEPS beside the host's view: a step can be followed; a write under way is carried out by its steps;
--- at rest the view is a list, and every believed strip is what it asks for, whatever a cut leaves; no disk names another shelf. Assumes nothing.
+-- at rest the view is a list, and every believed strip is what it asks for, whatever a cut leaves; no disk names another shelf, and every label has its shape. Assumes nothing.
 use mathlib.Core.Path.{_≡_, refl, sym, ap, subst, _∙_}
 use mathlib.Core.Logic.{_⊎_, ⊎-elim, inl, inr}
 use mathlib.Core.Bool.{Bool, true, false, false≢true}
@@ -13,12 +13,15 @@ use Rattle.label.specs.declared.codec.Decoded.the-variants.{Valid}
 use Rattle.redo.specs.Decide.{believed}
 use Rattle.protocol.specs.World.{strip, World, Possible, Always}
 use Rattle.protocol.specs.Host.{Host}
-use Rattle.protocol.specs.Program.{Memory, idle}
+use Rattle.protocol.specs.Shaped.{shaped-off}
+use Rattle.protocol.specs.Program.{Memory, nothing, idle}
 use Rattle.protocol.specs.Machine.{Machine, View, sure, open-write, kept-write}
 use Rattle.protocol.specs.Machine as machine
 use Rattle.codecs.specs.Sector.{Sector}
-use Rattle.codecs.specs.Shelf.{Shelf, slots, geometry}
-use Rattle.codecs.specs.Labels.{ours}
+use Rattle.codecs.specs.Shelf.{Shelf, slots, geometry, size}
+use Rattle.codecs.specs.Labels.{ours, labels}
+use Rattle.codecs.specs.Records.{records}
+use Rattle.codecs.specs.Media.{stamps}
 use Rattle.shards.specs.Even.{any-code}
 use Rattle.shelf.specs.Act.{Move, refuses}
 use Rattle.shelf.specs.Step.{stepMove}
@@ -27,7 +30,7 @@ use Rattle.shelf.specs.declared.state.Kind.{Kind}
 use Rattle.shelf.specs.declared.state.Kind.the-variants.{Idle, Writing}
 use Rattle.requests.specs.Step.{otherWork, stepWith, step-short, step-goes}
 use Rattle.requests.specs.Ready.{isIdle}
-use Rattle.refine.specs.Family.{Family, KeepsIn, sound-in}
+use Rattle.refine.specs.Family.{Family, codeIn, sectorsIn, KeepsIn, sound-in}
 use Rattle.refine.specs.Disks.{Disks, curOf}
 use Rattle.refine.specs.Redo.{believe-is}
 use Rattle.refine.specs.ToDo.{toDo}
@@ -37,6 +40,7 @@ use Rattle.refine.specs.Ends.{EndsAfter, request-ends}
 use Rattle.refine.specs.Named.{copy-ours}
 use Rattle.refine.specs.Chain.{Heard, Tie, rests, step-is, heard-by}
 use Rattle.refine.specs.Chain as chain
+use Rattle.refine.specs.Holds.{Follows, shape-of}
 use Rattle.refine.specs.Hosts.{Held, has, Laying, Bound, loose}
 
 module _ (z : Shelf) (F : Family z) (first : Machine Sector) (p : View Sector) (w : World Sector) (img : List ℕ) where
@@ -45,6 +49,14 @@ module _ (z : Shelf) (F : Family z) (first : Machine Sector) (p : View Sector) (
       → (d s : ℕ) (a : bytes.Label) → d < slots z → s < 2 → copyOf (geometry z) left d s ≡ Valid a → ours z a ≡ true
   unfolding Always
   bound-labels h t left here possible = copy-ours z left here (loose z F first p w img h t .named (curOf z left) possible)
+
+  -- EVERY DISK'S LABEL HAS ITS SHAPE
+  pub bound-shaped : (h : Held) → Bound z F first p w img h → (left : List ℕ) → Disks z left → Possible w (curOf z left) → (d : ℕ) → d < slots z → Follows z left d
+  unfolding Always
+  bound-shaped h t left here possible d i =
+      let n = loose z F first p w img h t in
+      shape-of z F left here (n .named (curOf z left) possible) d i
+      (shaped-off (size z) (F .sets) (labels z) (records z) (codeIn z F) stamps (sectorsIn z F) w nothing (n .reached .tidy) (curOf z left) possible d i)
 
   module _ (s : State) (work : List ℕ) where
     -- A STEP CAN BE FOLLOWED

@@ -35,5 +35,5 @@ pub mod Sees
 pub mod WriteAsked
 pub mod Hosts
 pub mod Reads
-pub mod Serves
 pub mod HostHolds
+pub mod Serves

@@ -14,19 +14,22 @@ use borrow.Author.Tests.{eq-eqb, eqb-true}
 use Rattle.disk.specs.Limits.{sectorBytes}
 use Rattle.disk.specs.declared.refusal.Outcome.the-variants.{Done}
 use Rattle.label.specs.Bytes.{allZero}
-use Rattle.protocol.specs.World.{after}
+use Rattle.protocol.specs.World.{World, after}
 use Rattle.protocol.specs.Host.{Host, one-block, set-block, replace}
 use Rattle.protocol.specs.Machine.{Machine, View, sure, list-of}
 use Rattle.protocol.specs.Pairs.{AnyTwo}
 use Rattle.codecs.specs.Sector.{Sector, Bytes}
 use Rattle.codecs.specs.Shelf.{Shelf, slots}
 use Rattle.codecs.specs.Records.{stripBytes}
+use Rattle.shelf.specs.declared.state.State.{State}
+use Rattle.shelf.specs.declared.state.Kind.the-variants.{Idle}
 use Rattle.blocks.specs.Read.{readAnswer, afterRead}
 use Rattle.refine.specs.Family.{Family, every-few, parts-few, in-parts}
 use Rattle.refine.specs.Disks.{Disks, curOf}
 use Rattle.refine.specs.Sees.{sectorsOf, sectors-strip}
 use Rattle.refine.specs.Chain.{Allowed, blocks, fresh, fresh-tie}
 use Rattle.refine.specs.Hosts.{none, has, Time, at, HostChain, stays, goes-on, sets-call, sets, Saw, BoundAt, call-bound}
+use Rattle.refine.specs.HostHolds.{bound-rests}
 use Rattle.refine.specs.Reads.{read-right}
 
 -- at this moment every read that answers Done shows the entry of the view p
@@ -58,6 +61,14 @@ module _ (z : Shelf) (img : List ℕ) (disks : Disks z img) (blank : allZero img
   -- the view, and the tie with the protocol's machine (HostHolds says what else follows from it)
   pub served-bound : (F : Family z) {b : Time} (c : HostChain z (at (after (curOf z img)) img none) b) → Allowed z F (sets c) → (p : View Sector) × Served c (sure blocks) p × BoundAt z F (fresh z img disks blank) p b
   served-bound F c ok = served-in z F (fresh z img disks blank) c ok (sure blocks) (fresh-tie z img disks blank F)
+
+  -- at rest it is a list
+  pub served-rests : (F : Family z) {w : World Sector} {left : List ℕ} {s : State} {work : List ℕ} (c : HostChain z (at (after (curOf z img)) img none) (at w left (has s work))) → Allowed z F (sets c) → s .kind ≡ Idle
+      → (v : Host Sector) × Served c (sure blocks) (sure v)
+  served-rests F {w} {left} {s} {work} c ok e =
+      let y = served-bound F c ok in
+      let r = bound-rests z F (fresh z img disks blank) (y .0) w left s work e (y .2) in
+      (r .0, subst (λ (p : View Sector). Served c (sure blocks) p) (r .1) (y .1))
 
   -- FOR EVERY SHELF
   pub any-reads-right : {b : Time} (c : HostChain z (at (after (curOf z img)) img none) b) → AnyTwo (slots z) (sets c) → (p : View Sector) × Served c (sure blocks) p
