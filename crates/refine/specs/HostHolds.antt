@@ -1,7 +1,7 @@
 -- WHAT EVERY CHAIN OF CALLS WITH WRITES KEEPS beside the host's view: a step can be followed; a write under way is carried out by its steps;
 -- at rest the view is a list, and every believed strip is what it asks for, whatever a cut leaves; no disk names another shelf, and every label has its shape. Assumes nothing.
 use mathlib.Core.Path.{_≡_, refl, sym, ap, subst, _∙_}
-use mathlib.Core.Logic.{_⊎_, ⊎-elim, inl, inr}
+use mathlib.Core.Logic.{⊎-elim, inl, inr}
 use mathlib.Core.Bool.{Bool, true, false, false≢true}
 use mathlib.Core.List.{List, []}
 use Prim.Native.Nat.{ℕ, _<_}
@@ -26,8 +26,7 @@ use Rattle.shards.specs.Even.{any-code}
 use Rattle.shelf.specs.Act.{Move, refuses}
 use Rattle.shelf.specs.Step.{stepMove}
 use Rattle.shelf.specs.declared.state.State.{State}
-use Rattle.shelf.specs.declared.state.Kind.{Kind}
-use Rattle.shelf.specs.declared.state.Kind.the-variants.{Idle, Writing}
+use Rattle.shelf.specs.declared.state.Kind.the-variants.{Idle}
 use Rattle.requests.specs.Step.{otherWork, stepWith, step-short, step-goes}
 use Rattle.requests.specs.Ready.{isIdle}
 use Rattle.refine.specs.Family.{Family, codeIn, sectorsIn, KeepsIn, sound-in}
@@ -38,8 +37,7 @@ use Rattle.refine.specs.Tied.{ownOf, Tied}
 use Rattle.refine.specs.Writes.{write-tied}
 use Rattle.refine.specs.Ends.{EndsAfter, request-ends}
 use Rattle.refine.specs.Named.{copy-ours}
-use Rattle.refine.specs.Chain.{Heard, Tie, rests, step-is, heard-by}
-use Rattle.refine.specs.Chain as chain
+use Rattle.refine.specs.Chain.{Heard, rests, step-is, heard-by}
 use Rattle.refine.specs.Holds.{Follows, shape-of}
 use Rattle.refine.specs.Hosts.{Held, has, Laying, Bound, loose}
 

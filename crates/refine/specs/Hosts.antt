@@ -1,10 +1,10 @@
 -- CHAINS OF CALLS WITH WRITES: create, start, take out, write and step, with power cuts and deaths of the caller in between, and the
 -- host's view beside them. The caller hands back the state and the work area that it was handed last. What a call does to the view is
 -- said in the words of its answer (`Saw`). Assumes nothing.
-use mathlib.Core.Path.{_≡_, refl, sym, ap, ap₂, subst, _∙_}
+use mathlib.Core.Path.{_≡_, refl, sym, ap, subst, _∙_}
 use mathlib.Core.Logic.{_⊎_, ⊎-elim, inl, inr}
-use mathlib.Core.Bool.{Bool, true, false, cond, true≢false, false≢true}
-use mathlib.Core.List.{List, [], _∷_, _++_, List·Memᴰ, List·Memᴰ·not-nil, Memᴰ·append-left, Memᴰ·append-right}
+use mathlib.Core.Bool.{Bool, true, false, false≢true}
+use mathlib.Core.List.{List, [], _∷_, _++_, List·Memᴰ·not-nil, Memᴰ·append-left, Memᴰ·append-right}
 use Prim.Native.Nat.{ℕ, _+_, _<_, _/_, _%_}
 use lib.ListN.{length}
 use Rattle.disk.specs.Mask.{inMask}
@@ -13,21 +13,18 @@ use Rattle.disk.specs.declared.refusal.Refusal.{Refusal}
 use Rattle.disk.specs.declared.refusal.Refusal.the-variants.{BadBuffer}
 use Rattle.disk.specs.declared.refusal.Outcome.{Outcome}
 use Rattle.disk.specs.declared.refusal.Outcome.the-variants.{Done, Refused}
-use Rattle.disk.specs.Geometry.{blocksOf}
-use Rattle.label.specs.Fields.{geometryOf}
 use Rattle.label.specs.Bytes.{allZero}
 use Rattle.label.proofs.Counts.{same-says}
 use Rattle.protocol.specs.World.{Image, Action, put, flush, World, Possible, after, Always}
 use Rattle.protocol.specs.Log.{Write}
 use Rattle.protocol.specs.Label as Label
 use Rattle.protocol.specs.Host.{Host, one-block, replace}
-use Rattle.protocol.specs.Program.{Memory, idle, Reply, accepted, refused, did, safe, done, block, found, beyond, step, write}
+use Rattle.protocol.specs.Program.{Memory, idle, Reply, accepted, refused, did, safe, done, block, found, step, write}
 use Rattle.protocol.specs.Program as program
 use Rattle.protocol.specs.Machine.{Machine, effect, View, sure, open-write, kept-write, Saved, Ended, Answered}
-use Rattle.protocol.specs.Machine as machine
 use Rattle.protocol.specs.Even.{program-by}
 use Rattle.codecs.specs.Sector.{Sector, Bytes}
-use Rattle.codecs.specs.Shelf.{Shelf, slots, geometry, size}
+use Rattle.codecs.specs.Shelf.{Shelf, slots, size}
 use Rattle.codecs.specs.Labels.{fieldsOf, noLabel, ours, labelOf}
 use Rattle.shelf.specs.Act.{Move, refuses}
 use Rattle.shelf.specs.Step.{stepMove, finished}
@@ -48,7 +45,7 @@ use Rattle.blocks.specs.Slots.{tooFew}
 use Rattle.blocks.specs.Answers.{sizes, blockAnswer, first-done, answered-done}
 use Rattle.blocks.specs.Write.{stampLeft, writeAnswer, Written, AfterWrite, write-done}
 use Rattle.refine.specs.Given.{shelf-geometry}
-use Rattle.refine.specs.Family.{Family, KeepsIn}
+use Rattle.refine.specs.Family.{Family}
 use Rattle.refine.specs.Disks.{Disks, curOf}
 use Rattle.refine.specs.Rounds.{beyond-below}
 use Rattle.refine.specs.ToDo.{toDo}

@@ -1,9 +1,9 @@
 -- WHAT A READ SHOWS, at any moment of a chain of calls with writes, is the entry of the host's view. In the words of read's contract.
 -- Assumes nothing.
 use mathlib.Core.Path.{_≡_, refl, sym, ap, ap₂, subst, _∙_, fun-ext}
-use mathlib.Core.Logic.{_⊎_, ⊎-elim, inl, inr}
-use mathlib.Core.Bool.{Bool, true, false, cond, not, _&&_, true≢false, false≢true}
-use mathlib.Core.List.{List, [], _∷_, List·Memᴰ·not-nil}
+use mathlib.Core.Logic.{⊎-elim, inl, inr}
+use mathlib.Core.Bool.{Bool, true, false, cond, not, _&&_, false≢true}
+use mathlib.Core.List.{List, [], _∷_}
 use Prim.Native.Nat.{ℕ, _+_, _-_, _*_, _≤_, _<_, _/_, _%_}
 use native.Mathlib.Nat.{mod-lt, mod-eq-of-lt, suc-mul, mul-assoc, mul-le-mul-right}
 use native.Mathlib.Omega.{arith}
@@ -27,8 +27,7 @@ use Rattle.protocol.specs.World.{strip, Image, World, Action}
 use Rattle.protocol.specs.Label as Label
 use Rattle.protocol.specs.Log.{Write}
 use Rattle.protocol.specs.Host.{Blocks, missing, read, read-through}
-use Rattle.protocol.specs.Program.{BAD_BLOCK, Verdict, clear, first, Own, Memory, idle, doing, labelling, logging, storing, Reply, accepted, refused, did, safe, done, block, found, read-block, beyond, mask, answer, meanwhile}
-use Rattle.protocol.specs.Program as program
+use Rattle.protocol.specs.Program.{BAD_BLOCK, first, Own, Memory, idle, doing, labelling, logging, storing, Reply, accepted, refused, did, safe, done, block, found, read-block, beyond, mask, answer, meanwhile}
 use Rattle.protocol.specs.Even.{program-by}
 use Rattle.protocol.specs.Machine.{Machine, View, sure, open-write, kept-write, list-of}
 use Rattle.protocol.specs.Pairs.{no-sets}

@@ -1,7 +1,7 @@
 -- THE STRIPE AS A STATE SEES IT: the slots whose strip is believed and which are not absent. At rest no absent slot is believed, so
 -- these are the protocol's believed ones, and what is read or prepared goes by the strips that its program sees. Assumes nothing.
-use mathlib.Core.Path.{_≡_, refl, sym, ap, ap₂, subst, _∙_}
-use mathlib.Core.Bool.{Bool, true, false, not, _&&_, false≢true}
+use mathlib.Core.Path.{_≡_, refl, sym, ap, _∙_}
+use mathlib.Core.Bool.{Bool, true, false, not, _&&_}
 use mathlib.Core.List.{List}
 use Prim.Native.Nat.{ℕ, _+_, _*_, _<_, _/_, _%_}
 use native.Mathlib.Nat.{mod-lt, mod-eq-of-lt}
@@ -10,7 +10,7 @@ use lib.Dec.{lit<}
 use lib.ListN.{length, getD}
 use lib.Seq.{ext-getD}
 use borrow.Author.Tests.{not-true}
-use Rattle.disk.specs.Tests.{and-left, and-right}
+use Rattle.disk.specs.Tests.{and-right}
 use Rattle.disk.specs.Limits.{sectorBytes}
 use Rattle.disk.specs.Geometry.{stripesOf}
 use Rattle.disk.specs.Mask.{inMask, mask-below}

@@ -3,16 +3,16 @@
 use mathlib.Core.Path.{_≡_, refl, sym, ap, ap₂, subst, _∙_}
 use mathlib.Core.Bool.{Bool, true, false, cond, not, _&&_, _||_}
 use mathlib.Core.List.{List, [], _∷_}
-use Prim.Native.Nat.{ℕ, suc, _+_, _*_, _≤_, _<_, _/_, _%_, _^_}
+use Prim.Native.Nat.{ℕ, suc, _+_, _*_, _<_, _/_, _%_, _^_}
 use native.Mathlib.Nat.{suc-mul, mul-assoc, mul-le-mul-right}
 use native.Mathlib.Omega.{arith}
-use lib.Dec.{eqb, leb, ltb, lit<}
-use lib.ListN.{length, getD, take, length-drop}
+use lib.Dec.{eqb, leb, ltb}
+use lib.ListN.{length, getD, length-drop}
 use lib.Seq.{getD-take}
 use borrow.Author.Tests.{lt-ltb, ltb-true}
 use Rattle.disk.specs.Tests.{both, and-left}
 use Rattle.disk.specs.Limits.{sectorBytes}
-use Rattle.disk.specs.Geometry.{stripesOf, slotOf, shardOf, shard-lt, slot-shard, block-inside, stripes-le}
+use Rattle.disk.specs.Geometry.{stripesOf, shardOf, shard-lt, slot-shard, block-inside, stripes-le}
 use Rattle.disk.specs.Mask.{inMask, maskOf, mask-lt, mask-below}
 use Rattle.disk.specs.declared.geometry.Geometry.{Geometry}
 use Rattle.disk.specs.declared.refusal.Outcome.the-variants.{Done}
@@ -23,8 +23,8 @@ use Rattle.label.proofs.Counts.{SameShelf, same-says}
 use Rattle.protocol.specs.World.{Image}
 use Rattle.protocol.specs.Log.{Write}
 use Rattle.protocol.specs.Label as Label
-use Rattle.protocol.specs.Host.{Change, one-block, reached-n, writeOf}
-use Rattle.protocol.specs.Program.{BAD_BLOCK, BUSY, NOT_NOW, Verdict, clear, first, Own, idle, write, accepted, beyond, mask, asked-write, answer}
+use Rattle.protocol.specs.Host.{Change, one-block, writeOf}
+use Rattle.protocol.specs.Program.{BAD_BLOCK, BUSY, NOT_NOW, first, idle, write, accepted, beyond, mask, asked-write, answer}
 use Rattle.protocol.specs.Even.{program-by}
 use Rattle.protocol.specs.Pairs.{no-sets}
 use Rattle.codecs.specs.Sector.{Sector, Bytes, bytes-take}
@@ -36,7 +36,6 @@ use Rattle.shards.specs.Quorum.{fewOf}
 use Rattle.shards.specs.Strips.{reaches, touchedIn}
 use Rattle.shards.specs.Even.{any-code, any-sectors}
 use Rattle.stripes.specs.Slice.{laidOut, laid-at}
-use Rattle.strips.specs.Seen.{shardBytes}
 use Rattle.strips.specs.Answers.{fewLost}
 use Rattle.strips.specs.Whole.{PreparedBy}
 use Rattle.views.specs.Seen.{gone}
@@ -44,7 +43,7 @@ use Rattle.views.specs.Whole as Whole
 use Rattle.views.specs.Program.{write-prepared, changes-made}
 use Rattle.blocks.specs.Slots.{there, changesAt, changedShards, changedAt, changedSlots}
 use Rattle.blocks.specs.Answers.{work-is, range-of}
-use Rattle.blocks.specs.Read.{Shows, halfOf, half-le, shows-block}
+use Rattle.blocks.specs.Read.{Shows, halfOf, shows-block}
 use Rattle.blocks.specs.Write.{mostCount, writeAnswer, changing, Written, write-done}
 use Rattle.shelf.specs.Step.{sound}
 use Rattle.shelf.specs.declared.state.State.{State}
