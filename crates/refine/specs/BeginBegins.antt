@@ -6,11 +6,11 @@ use mathlib.Core.List.{List, [], _∷_}
 use Prim.Native.Nat.{ℕ, suc, _+_, _≤_, _<_, _^_}
 use native.Mathlib.Omega.{arith}
 use lib.Dec.{eqb, ltb, leb}
-use borrow.Author.Tests.{eq-eqb, ne-eqb, lt-ltb, le-ltb, le-leb, leb-false, not-true}
+use borrow.Author.Tests.{eq-eqb, ne-eqb, eqb-true, lt-ltb, le-ltb, le-leb, leb-false, not-true}
 use Rattle.disk.specs.Limits.{mostK, mostM}
 use Rattle.disk.specs.Tests.{and-left, and-right, both}
 use Rattle.disk.specs.Geometry.{inRangeWith, stripesOf}
-use Rattle.disk.specs.Mask.{inMask, withSlot, in-with, with-lt}
+use Rattle.disk.specs.Mask.{inMask, withSlot, in-with, in-without, with-lt}
 use Rattle.disk.specs.declared.geometry.Geometry.{Geometry}
 use Rattle.disk.specs.declared.refusal.Outcome.{Outcome}
 use Rattle.disk.specs.declared.refusal.Outcome.the-variants.{Done}
@@ -34,6 +34,7 @@ use Rattle.shelf.specs.Step.{sound}
 use Rattle.shelf.specs.declared.state.State.{State}
 use Rattle.shelf.specs.declared.state.Kind.{Kind}
 use Rattle.shelf.specs.declared.state.Kind.the-variants.{Beginning}
+use Rattle.requests.specs.Begun.{workBytes}
 use Rattle.requests.specs.Ready.{isIdle, readyOf}
 use Rattle.requests.specs.Accepted.{ready-done}
 use Rattle.rebuilds.specs.Judge.{tooFew, lastOne, sized, Passed, judged-done, first-done, one-more}
@@ -77,16 +78,17 @@ three true false true e = absurd (true≢false e)
 three true true c e = absurd (true≢false e)
 three false b c e = absurd (true≢false e)
 
-pub record Goes (l : bytes.Label) (kind : Kind) (absent d : ℕ) : Type 0 where
+pub record Goes (l : bytes.Label) (kind : Kind) (absent d room : ℕ) : Type 0 where
   pub fits : fitsOf l ≡ true
   pub there : d < l .k + l .m
   pub at-rest : isIdle kind ≡ true
   pub lacking : lacks l absent d ≡ true
   pub alone : otherRebuilt l d ≡ false
   pub more : l .generation < mostGeneration
+  pub whole : room ≡ workBytes (l .k + l .m) (l .c)
 
-pub begin-goes : (l : bytes.Label) (kind : Kind) (absent : ℕ) (img : List ℕ) (d room : ℕ) → beginAnswer l kind absent img d room ≡ Done → Goes l kind absent d
-unfolding askedBegin cannotBegin
+pub begin-goes : (l : bytes.Label) (kind : Kind) (absent : ℕ) (img : List ℕ) (d room : ℕ) → beginAnswer l kind absent img d room ≡ Done → Goes l kind absent d room
+unfolding askedBegin cannotBegin sized
 begin-goes l kind absent img d room e =
     let q = first-done (readyOf l kind absent img) (askedBegin l (isIdle kind) absent d room) e in
     let p = judged-done (tooFew l absent) (leb (l .k + l .m) d) (isIdle kind) (cannotBegin l absent d) (sized l room) (q .1) in
@@ -98,6 +100,7 @@ begin-goes l kind absent img d room e =
       lacking = h .0;
       alone = h .1;
       more = one-more l (h .2);
+      whole = eqb-true room (workBytes (l .k + l .m) (l .c)) (p .room);
     }
 
 module _ (z : Shelf) (img : List ℕ) (disks : Disks z img) (s : State) (own : ours z (s .now) ≡ true) (d room : ℕ) (e : beginAnswer (s .now) (s .kind) (s .absent) img d room ≡ Done)
@@ -108,7 +111,7 @@ module _ (z : Shelf) (img : List ℕ) (disks : Disks z img) (s : State) (own : o
   abbrev o : Own
   o = ownOf z s l
 
-  goes : Goes l (s .kind) (s .absent) d
+  pub goes : Goes l (s .kind) (s .absent) d room
   goes = begin-goes l (s .kind) (s .absent) img d room e
 
   pub there : d < slots z
@@ -135,6 +138,10 @@ module _ (z : Shelf) (img : List ℕ) (disks : Disks z img) (s : State) (own : o
   taken : sound (t z img disks s own d there) ≡ true
   unfolding sound
   taken = both (fitsOf l) _ (goes .fits) (lt-ltb 0 (l .sectors) (omega (arith, fits-says l (goes .fits) .range .room)))
+
+  -- no slot is absent that was not
+  pub fewer-absent : (x : ℕ) → x < slots z → inMask (t' .absent) x ≡ true → o .absent x ≡ true
+  fewer-absent x i a = ap (λ (b : Bool). b || not (ltb x (slots z))) (and-right (not (eqb x d)) (inMask (s .absent) x) (sym (in-without (s .absent) d x) ∙ a))
 
   -- IT CAN BE CARRIED OUT
   pub begin-state-fair : (work : List ℕ) → Fair z t' work img
