@@ -1,12 +1,12 @@
 -- BEGIN IS THE PROGRAM'S: what the code finds on the disk of slot d is what the protocol's program finds there, and the state with which
 -- an accepted begin begins has the program's list before it. Assumes nothing.
-use mathlib.Core.Path.{_≡_, refl, sym, ap, ap₂, subst, _∙_, fun-ext}
+use mathlib.Core.Path.{_≡_, refl, sym, ap, ap₂, _∙_, fun-ext}
 use mathlib.Core.Bool.{Bool, true, false, cond, not, _&&_, _||_}
 use mathlib.Core.List.{List, [], _∷_, _++_}
-use Prim.Native.Nat.{ℕ, suc, _+_, _≤_, _<_, _%_}
+use Prim.Native.Nat.{ℕ, suc, _<_, _%_}
 use native.Mathlib.Numerals.{add-one}
 use native.Mathlib.Omega.{arith}
-use lib.Dec.{eqb, ltb, leb}
+use lib.Dec.{eqb, ltb}
 use borrow.Author.Tests.{eq-eqb, ne-eqb, eqb-true, lt-ltb, le-leb}
 use Rattle.disk.specs.Limits.{mostN}
 use Rattle.disk.specs.Image.{readOf}
@@ -20,16 +20,16 @@ use Rattle.label.specs.declared.fields.Label as bytes
 use Rattle.label.specs.declared.codec.Decoded.{Decoded}
 use Rattle.label.specs.declared.codec.Decoded.the-variants.{Valid, Nothing}
 use Rattle.label.proofs.Counts.{SameShelf, same-says}
-use Rattle.protocol.specs.World.{Place, label, slot, Image, Action}
+use Rattle.protocol.specs.World.{label, slot, Image, Action}
 use Rattle.protocol.specs.Batch.{puts, flushes}
 use Rattle.protocol.specs.Slots as Slots
-use Rattle.protocol.specs.Slots.{from, keep, rows}
+use Rattle.protocol.specs.Slots.{keep, rows}
 use Rattle.protocol.specs.Walk.{append-assoc}
 use Rattle.protocol.specs.Label as protocol
 use Rattle.protocol.specs.Label.{Label, copy, told, round-batch, prep-batch, prep-places, expel-batch, last-side}
 use Rattle.protocol.specs.Rebuild as rebuild
 use Rattle.protocol.specs.Rebuild.{beginning, flushed-at-begin, expel-first, wipe}
-use Rattle.protocol.specs.Program.{Own, back-in, told-to}
+use Rattle.protocol.specs.Program.{back-in, told-to}
 use Rattle.protocol.specs.Pairs.{no-sets}
 use Rattle.codecs.specs.Sector.{Sector, zeros}
 use Rattle.codecs.specs.Shelf.{Shelf, slots, geometry, size, few-slots}
@@ -41,12 +41,11 @@ use Rattle.shards.specs.Even.{any-code, any-sectors}
 use Rattle.rounds.specs.Slot.{ageUnder, copyAge}
 use Rattle.shelf.specs.Act.{oddSector}
 use Rattle.shelf.specs.declared.state.State.{State}
-use Rattle.shelf.specs.declared.state.Marks.{Marks}
 use Rattle.requests.specs.Begun.{slotsBut}
 use Rattle.rebuilds.specs.Readied as readied
 use Rattle.rebuilds.specs.Begin.{only, beginMarks, begunLabel, beganWith, began}
 use Rattle.refine.specs.Places.{copySector, sectorOf, label-inside}
-use Rattle.refine.specs.Disks.{Disks, cur-read, curOf, seenOf, seen-present}
+use Rattle.refine.specs.Disks.{Disks, cur-read, seenOf, seen-present}
 use Rattle.refine.specs.Labels.{copy-is}
 use Rattle.refine.specs.Lists.{Says, slots-are}
 use Rattle.refine.specs.ToDo.{slotsFrom, given, toDo}
@@ -54,7 +53,7 @@ use Rattle.refine.specs.Steps.{Present}
 use Rattle.refine.specs.Tied.{ownOf}
 use Rattle.refine.specs.Given.{shelf-geometry}
 use Rattle.refine.specs.Requests.{slots-say}
-use Rattle.refine.specs.Relabels.{one-slot, erased, gives, begin-batches}
+use Rattle.refine.specs.Relabels.{one-slot, gives, begin-batches}
 
 none-in : (d : ℕ) → inMask 0 d ≡ false
 none-in d = in-past 0 0 d (omega arith) (omega arith)

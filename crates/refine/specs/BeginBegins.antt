@@ -1,9 +1,10 @@
 -- BEGIN, ACCEPTED AT REST, is accepted by the protocol's program too: it begins with a state in order, beside which the program remembers
--- that same request. Where no slot that is absent is believed: then a slot that is absent is out. Assumes nothing.
+-- that same request. Asked is that the slot, if it is absent, is not looked at, as the protocol's invariant has it at rest; so it is out.
+-- Assumes nothing.
 use mathlib.Core.Path.{_≡_, refl, sym, ap, ap₂, subst, _∙_}
 use mathlib.Core.Bool.{Bool, true, false, cond, not, _&&_, _||_, true≢false}
 use mathlib.Core.List.{List, [], _∷_}
-use Prim.Native.Nat.{ℕ, suc, _+_, _≤_, _<_, _^_}
+use Prim.Native.Nat.{ℕ, suc, _+_, _<_, _^_}
 use native.Mathlib.Omega.{arith}
 use lib.Dec.{eqb, ltb, leb}
 use borrow.Author.Tests.{eq-eqb, ne-eqb, eqb-true, lt-ltb, le-ltb, le-leb, leb-false, not-true}
@@ -11,18 +12,15 @@ use Rattle.disk.specs.Limits.{mostK, mostM}
 use Rattle.disk.specs.Tests.{and-left, and-right, both}
 use Rattle.disk.specs.Geometry.{inRangeWith, stripesOf}
 use Rattle.disk.specs.Mask.{inMask, withSlot, in-with, in-without, with-lt}
-use Rattle.disk.specs.declared.geometry.Geometry.{Geometry}
-use Rattle.disk.specs.declared.refusal.Outcome.{Outcome}
 use Rattle.disk.specs.declared.refusal.Outcome.the-variants.{Done}
 use Rattle.label.specs.Fields.{noSlot, mostGeneration, geometryOf, rebuildFits, fitsOf}
 use Rattle.label.specs.Newest.{sameShelf}
 use Rattle.label.specs.declared.fields.Label as bytes
 use Rattle.label.proofs.Fits.{fits-says}
-use Rattle.protocol.specs.World.{Action}
+use Rattle.protocol.specs.World.{Image}
 use Rattle.protocol.specs.Label as protocol
 use Rattle.protocol.specs.Program.{BAD_BLOCK, BUSY, NOT_NOW, Verdict, clear, first, Own, Memory, idle, doing, labelling, accepted, begin, asked-begin, may, answer}
 use Rattle.protocol.specs.Even.{program-by}
-use Rattle.protocol.specs.Rebuild.{begun}
 use Rattle.protocol.specs.Pairs.{no-sets}
 use Rattle.codecs.specs.Sector.{Sector}
 use Rattle.codecs.specs.Shelf.{Shelf, slots, geometry, size, few-slots}
@@ -37,7 +35,7 @@ use Rattle.shelf.specs.declared.state.Kind.the-variants.{Beginning}
 use Rattle.requests.specs.Begun.{workBytes}
 use Rattle.requests.specs.Ready.{isIdle, readyOf}
 use Rattle.requests.specs.Accepted.{ready-done}
-use Rattle.rebuilds.specs.Judge.{tooFew, lastOne, sized, Passed, judged-done, first-done, one-more}
+use Rattle.rebuilds.specs.Judge.{tooFew, lastOne, sized, judged-done, first-done, one-more}
 use Rattle.rebuilds.specs.Readied.{oddFirst, alien, prepared}
 use Rattle.rebuilds.specs.Begin.{lacks, otherRebuilt, cannotBegin, askedBegin, beginAnswer, begunLabel, began}
 use Rattle.refine.specs.Disks.{Disks, curOf, seen-mask}
@@ -47,7 +45,7 @@ use Rattle.refine.specs.Begins.{tells}
 use Rattle.refine.specs.Tied.{ownOf, programOf}
 use Rattle.refine.specs.Requests.{n-is}
 use Rattle.refine.specs.Relabels.{begin-fair}
-use Rattle.refine.specs.BeginAsked.{only-present, absentThen, A, f, absent-is, A-below, t, began-is, begun-label, rest-say, begin-list-is}
+use Rattle.refine.specs.BeginAsked.{only-present, A, f, absent-is, A-below, t, began-is, begun-label, rest-say, begin-list-is}
 
 -- ---- the label
 
@@ -193,7 +191,7 @@ module _ (z : Shelf) (img : List ℕ) (disks : Disks z img) (s : State) (own : o
   unfolding program-by
   begin-accepted work =
       ap₂ (λ (v : Verdict) (m : Memory Sector). answer (size z) (no-sets (slots z)) (labels z) (records z) (any-code z) stamps (any-sectors z) (idle o) v m accepted) begin-clear
-      (ap (λ (x : _). asked-begin (size z) (no-sets (slots z)) (labels z) (records z) (any-code z) stamps (any-sectors z) o x d) (seen-mask z (A z img disks s own d there) img) ∙ begin-asked work)
+      (ap (λ (x : Image Sector). asked-begin (size z) (no-sets (slots z)) (labels z) (records z) (any-code z) stamps (any-sectors z) o x d) (seen-mask z (A z img disks s own d there) img) ∙ begin-asked work)
 
   -- BEGIN, accepted at rest
   pub begin-begins : (work : List ℕ)
