@@ -1,4 +1,4 @@
--- CHAINS OF CALLS WITH WRITES: create, start, take out, write and step, with power cuts and deaths of the caller in between, and the
+-- CHAINS OF CALLS WITH WRITES: create, start, take out, begin, write and step, with power cuts and deaths of the caller in between, and the
 -- host's view beside them. The caller hands back the state and the work area that it was handed last. What a call does to the view is
 -- said in the words of its answer (`Saw`). Assumes nothing.
 use mathlib.Core.Path.{_≡_, refl, sym, ap, subst, _∙_}
@@ -19,7 +19,7 @@ use Rattle.protocol.specs.World.{Image, Action, put, flush, World, Possible, af
 use Rattle.protocol.specs.Log.{Write}
 use Rattle.protocol.specs.Label as Label
 use Rattle.protocol.specs.Host.{Host, one-block, replace}
-use Rattle.protocol.specs.Program.{Memory, idle, Reply, accepted, refused, did, safe, done, block, found, step, write}
+use Rattle.protocol.specs.Program.{Own, Memory, idle, doing, labelling, Reply, accepted, refused, did, safe, done, block, found, step, write, begin}
 use Rattle.protocol.specs.Program as program
 use Rattle.protocol.specs.Machine.{Machine, effect, View, sure, open-write, kept-write, Saved, Ended, Answered}
 use Rattle.protocol.specs.Even.{program-by}
@@ -41,6 +41,7 @@ use Rattle.requests.specs.Step.{otherWork, stepWith, step-short, step-goes}
 use Rattle.requests.specs.Accepted.{take-done}
 use Rattle.requests.specs.Ready.{isIdle, readyOf}
 use Rattle.requests.specs.declared.begun.Begun.{Begun}
+use Rattle.rebuilds.specs.Begin.{beginAnswer, began, beginOf}
 use Rattle.blocks.specs.Slots.{tooFew}
 use Rattle.blocks.specs.Answers.{sizes, blockAnswer, first-done, answered-done}
 use Rattle.blocks.specs.Write.{stampLeft, writeAnswer, Written, AfterWrite, write-done}
@@ -53,8 +54,10 @@ use Rattle.refine.specs.Steps.{Fair}
 use Rattle.refine.specs.Tied.{ownOf, writeMemory, memoryBy, memoryWith, memoryOf, plain, Same, programOf, Tied}
 use Rattle.refine.specs.WriteList.{Writes}
 use Rattle.refine.specs.Writes.{OfWrite, TiedWrite, write-tied}
+use Rattle.refine.specs.Relabels.{TiedLabel, label-tied}
+use Rattle.refine.specs.BeginBegins.{begin-goes, begun-ours, fewer-absent, begin-asked, begin-begins}
 use Rattle.refine.specs.Other.{Sits}
-use Rattle.refine.specs.Named.{Named, Names, leftIn, step-names, names-log}
+use Rattle.refine.specs.Named.{Named, Names, leftIn, begin-names, step-names, names-log}
 use Rattle.refine.specs.Sees.{sectorsOf}
 use Rattle.refine.specs.WriteAsked.{W, write-goes, write-accepted}
 use Rattle.refine.specs.Chain.{Heard, outs, handed, Allowed, rests, Reached, Tie, asks-to, off, create-kept, late-kept, start-any, out-kept, cut-kept, goes-to, refused-kept, step-is, step-some, step-leaves, heard-is, accepted-none, idle-is}
@@ -84,6 +87,8 @@ pub data HostCalls (z : Shelf) : Time → Time → Type 1 where
   starts : {w : World Sector} {img : List ℕ} {h : Held} (s : State) (g : Geometry) (absent : ℕ) (work : List ℕ) → Sits z g absent → HostCalls z (at w img h) (at w img (held h (startOf s g absent img (length work)) work))
   creates-late : {w : World Sector} {img : List ℕ} {h : Held} (s : State) (k m c S number : ℕ) (work : List ℕ) → allZero img ≡ false → HostCalls z (at w img h) (at w img (held h (createOf s k m c S number img (length work)) work))
   takes-out : {w : World Sector} {img : List ℕ} {s : State} {work : List ℕ} (d : ℕ) → HostCalls z (at w img (has s work)) (at w img (held (has s work) (takeOutOf s d img (length work)) work))
+  -- the disk of slot d is readied, and the label then says that it is being rebuilt
+  begins : {w : World Sector} {img : List ℕ} {s : State} {work : List ℕ} (d : ℕ) → HostCalls z (at w img (has s work)) (at w img (held (has s work) (beginOf s d img (length work)) work))
   -- the bytes given are written to block b: what write's contract says
   writes : {w : World Sector} {img : List ℕ} {s : State} {work : List ℕ} (b : ℕ) (given : List ℕ) (s' : State) (then : List ℕ) → Bytes given → Bytes then
       → AfterWrite (writeAnswer (s .now) (s .kind) (s .absent) (s .count) img b (length given) (length work)) s b given img work s' then → HostCalls z (at w img (has s work)) (at w img (has s' then))
@@ -102,6 +107,7 @@ sets-call (creates s work) = []
 sets-call (creates-late s k m c S number work e) = []
 sets-call (starts {img = img} s g absent work sits) = outs (startOf s g absent img (length work))
 sets-call (takes-out {img = img} {s = s} {work = work} d) = outs (takeOutOf s d img (length work))
+sets-call (begins d) = []
 sets-call (writes b given s' then x y e) = []
 sets-call (steps heard) = []
 sets-call (cut left d p) = []
@@ -153,6 +159,7 @@ Saw (creates s work) p q = q ≡ p
 Saw (creates-late s k m c S number work e) p q = q ≡ p
 Saw (starts s g absent work sits) p q = q ≡ p
 Saw (takes-out d) p q = q ≡ p
+Saw (begins d) p q = q ≡ p
 Saw {z} (writes {img = img} {s = s} {work = work} b given s' then x y e) p q =
     SawAsked (writeAnswer (s .now) (s .kind) (s .absent) (s .count) img b (length given) (length work)) (b / z .k) (b % z .k) (sectorsOf (z .c) given) p q
 Saw (steps {img = img} {s = s} {work = work} heard) p q = SawStep (s .kind) (stepWith s img work .stepped .answer) p q
@@ -190,9 +197,24 @@ module _ (z : Shelf) (F : Family z) (first : Machine Sector) where
     pub writes : Writes z s work written
     pub sized : length work ≡ workBytes (slots z) (z .c)
 
+  -- begin is under way: what the program knew before it; the slot may have been absent then
+  pub record Readying (p : View Sector) (w : World Sector) (img : List ℕ) (s : State) (work : List ℕ) : Type 1 where
+    pub before : Own
+    pub same-label : before .now ≡ labelOf z (s .now)
+    pub more-absent : (d : ℕ) → d < slots z → inMask (s .absent) d ≡ true → before .absent d ≡ true
+    pub disks : Disks z img
+    pub reads : w .cur ≡ curOf z img
+    pub reached : Reached z F first p w (doing labelling (toDo z s work img) before (ownOf z s (s .next)))
+    pub named : Always w (Named z)
+    pub names : Names z (toDo z s work img)
+    pub next-ours : ours z (s .next) ≡ true
+    pub fair : Fair z s work img
+    pub kind : s .kind ≡ Beginning
+    pub sized : length work ≡ workBytes (slots z) (z .c)
+
   abbrev pub Bound : View Sector → World Sector → List ℕ → Held → Type 1
   Bound p w img none = Tie z F first p w img chain.none
-  Bound p w img (has s work) = Tie z F first p w img (chain.has s) ⊎ Laying p w img s work
+  Bound p w img (has s work) = Tie z F first p w img (chain.has s) ⊎ (Laying p w img s work ⊎ Readying p w img s work)
 
   abbrev pub BoundAt : View Sector → Time → Type 1
   BoundAt p (at w img h) = Bound p w img h
@@ -204,10 +226,14 @@ module _ (z : Shelf) (F : Family z) (first : Machine Sector) where
   loose-write : (p : View Sector) (w : World Sector) (img : List ℕ) (s : State) (work : List ℕ) → Laying p w img s work → Tie z F first p w img chain.none
   loose-write p w img s work t = record { disks = t .disks; reads = t .reads; reached = off z F first p (t .reached); named = t .named; names = tt; order = tt }
 
+  loose-begin : (p : View Sector) (w : World Sector) (img : List ℕ) (s : State) (work : List ℕ) → Readying p w img s work → Tie z F first p w img chain.none
+  loose-begin p w img s work t = record { disks = t .disks; reads = t .reads; reached = off z F first p (t .reached); named = t .named; names = tt; order = tt }
+
   pub loose : (p : View Sector) (w : World Sector) (img : List ℕ) (h : Held) → Bound p w img h → Tie z F first p w img chain.none
   loose p w img none t = t
   loose p w img (has s work) (inl t) = loose-tie p w img (chain.has s) t
-  loose p w img (has s work) (inr t) = loose-write p w img s work t
+  loose p w img (has s work) (inr (inl t)) = loose-write p w img s work t
+  loose p w img (has s work) (inr (inr t)) = loose-begin p w img s work t
 
   -- a request that begins anew
   anew : (p : View Sector) (w : World Sector) (img : List ℕ) (h : Held) (b : Begun) (work : List ℕ) → Bound p w img h → Tie z F first p w img (handed chain.none b) → Bound p w img (held h b work)
@@ -216,6 +242,11 @@ module _ (z : Shelf) (F : Family z) (first : Machine Sector) where
       by : (o : Outcome) → Tie z F first p w img (handed chain.none (record { outcome = o; state = b .state })) → Bound p w img (heldBy o h (b .state) work)
       by Done n = inl n
       by (Refused why) n = t
+
+  -- no request of these two is at rest
+  not-rest : (p : View Sector) (w : World Sector) (img : List ℕ) (s : State) (work : List ℕ) → Laying p w img s work ⊎ Readying p w img s work → isIdle (s .kind) ≡ true → ⊥
+  not-rest p w img s work (inl t) e = false≢true (sym (ap isIdle (t .writes .kind)) ∙ e)
+  not-rest p w img s work (inr t) e = false≢true (sym (ap isIdle (t .kind)) ∙ e)
 
   -- taking out
   out-bound : (p : View Sector) (w : World Sector) (img : List ℕ) (s : State) (work : List ℕ) (d : ℕ) → Allowed z F (outs (takeOutOf s d img (length work))) → Bound p w img (has s work)
@@ -228,7 +259,50 @@ module _ (z : Shelf) (F : Family z) (first : Machine Sector) where
   out-bound p w img s work d ok (inr t) = by (takeAnswer (s .now) (s .kind) (s .absent) img d (length work)) refl
     where
       by : (o : Outcome) → takeAnswer (s .now) (s .kind) (s .absent) img d (length work) ≡ o → Bound p w img (held (has s work) (begun o s (tookOut s d)) work)
-      by Done e = absurd (false≢true (sym (ap isIdle (t .writes .kind)) ∙ take-done (s .now) (s .kind) (s .absent) img d (length work) e .1 .at-rest))
+      by Done e = absurd (not-rest p w img s work t (take-done (s .now) (s .kind) (s .absent) img d (length work) e .1 .at-rest))
+      by (Refused why) e = inr t
+
+  -- begin
+  rest-dark : (p : View Sector) (w : World Sector) (o : Own) → Reached z F first p w (idle o) → (d : ℕ) → o .absent d ≡ true → Label.looked (size z) (o .now) d ≡ true → ⊥
+  rest-dark (sure v) w o r d a q = r .keeps .1 .dark d a q
+  rest-dark (open-write v v') w o r d a q = r .keeps
+  rest-dark (kept-write v') w o r d a q = r .keeps
+
+  begin-bound : (p : View Sector) (w : World Sector) (img : List ℕ) (s : State) (work : List ℕ) (d : ℕ) → Bound p w img (has s work) → Bound p w img (held (has s work) (beginOf s d img (length work)) work)
+  begin-bound p w img s work d (inl t) = by (beginAnswer (s .now) (s .kind) (s .absent) img d (length work)) refl
+    where
+      own : ours z (s .now) ≡ true
+      own = ⊎-elim (λ (f : Fair z s [] img × (plain (s .kind) ≡ true)). f .0 .ours-now) (λ (q : (s .kind ≡ Idle) × (ours z (s .now) ≡ true)). q .1) (t .order .1)
+
+      by : (o : Outcome) → beginAnswer (s .now) (s .kind) (s .absent) img d (length work) ≡ o → Bound p w img (held (has s work) (begun o s (began s d img)) work)
+      by Done e =
+          let g = begin-goes (s .now) (s .kind) (s .absent) img d (length work) e in
+          let there : d < slots z = subst (λ (n : ℕ). d < n) (ap (λ (x : Geometry). x .n) (shelf-geometry z (s .now) own)) (g .there) in
+          let r : Reached z F first p w (idle (ownOf z s (s .now))) = subst (Reached z F first p w) (rests z s img (idle-is z F first p (s .kind) (g .at-rest))) (t .reached) in
+          let dark : inMask (s .absent) d ≡ true → Label.looked (size z) (labelOf z (s .now)) d ≡ true → ⊥ = λ a q. rest-dark p w (ownOf z s (s .now)) r d (beyond-below (slots z) (s .absent) d there ∙ a) q in
+          let b = begin-begins z img (t .disks) s own d (length work) e dark work in
+          let y = asks-to z F first img (t .reads) r _ (begin d) accepted (b .2) (accepted-none z F first p) (λ q x n. absurd (List·Memᴰ·not-nil n)) in
+          inr
+          (inr
+          (record {
+            before = ownOf z s (s .now);
+            same-label = refl;
+            more-absent = fewer-absent z img (t .disks) s own d (length work) e dark;
+            disks = t .disks;
+            reads = t .reads;
+            reached = subst (λ (q : View Sector). Reached z F first q w (doing labelling (toDo z (began s d img) work img) (ownOf z s (s .now)) (ownOf z (began s d img) (began s d img .next)))) (y .1) (y .2);
+            named = t .named;
+            names = subst (λ (m : Memory Sector). Names z (leftIn z m)) (begin-asked z img (t .disks) s own d (length work) e dark work) (begin-names z (ownOf z s (s .now)) _ d);
+            next-ours = begun-ours z img (t .disks) s own d (length work) e dark;
+            fair = b .0;
+            kind = refl;
+            sized = g .whole ∙ ap (λ (x : Geometry). workBytes (x .n) (x .c)) (shelf-geometry z (s .now) own);
+          }))
+      by (Refused why) e = inl t
+  begin-bound p w img s work d (inr t) = by (beginAnswer (s .now) (s .kind) (s .absent) img d (length work)) refl
+    where
+      by : (o : Outcome) → beginAnswer (s .now) (s .kind) (s .absent) img d (length work) ≡ o → Bound p w img (held (has s work) (begun o s (began s d img)) work)
+      by Done e = absurd (not-rest p w img s work t (begin-goes (s .now) (s .kind) (s .absent) img d (length work) e .at-rest))
       by (Refused why) e = inr t
 
   -- ---- a write is asked for
@@ -260,6 +334,7 @@ module _ (z : Shelf) (F : Family z) (first : Machine Sector) where
               y .0,
               (v, refl, y .1 ∙ ap (λ (k : ℕ). open-write v (replace v (b / k) (one-block (b % k) (sectorsOf (z .c) given)))) (sym (same-says (fieldsOf z 0 (noLabel z)) (s .now) own .same-k))),
               inr
+                  (inl
                   (record {
                     written = W z img (t .disks) s own dark b given work small e;
                     disks = t .disks;
@@ -271,7 +346,7 @@ module _ (z : Shelf) (F : Family z) (first : Machine Sector) where
                     fair = g .0;
                     writes = g .1;
                     sized = g .4 ∙ write-done (s .now) (s .kind) (s .absent) (s .count) img b given work e .0 .whole ∙ ap (λ (x : Geometry). workBytes (x .n) (x .c)) (shelf-geometry z (s .now) own);
-                  }),
+                  })),
             )
         by (open-write v v') r = absurd (r .keeps)
         by (kept-write v') r = absurd (r .keeps)
@@ -282,7 +357,7 @@ module _ (z : Shelf) (F : Family z) (first : Machine Sector) where
       where
         by : (o : Outcome) → asked ≡ o → AfterWrite o s b given img work s' then → (q : View Sector) × SawAsked o (b / z .k) (b % z .k) (sectorsOf (z .c) given) p q × Bound q w img (has s' then)
         by Done e a =
-            ⊎-elim (λ (x : Tie z F first p w img (chain.has s)). accepted-write e a x) (λ (x : Laying p w img s work). absurd (false≢true (sym (ap isIdle (x .writes .kind)) ∙ rest-of e))) t
+            ⊎-elim (λ (x : Tie z F first p w img (chain.has s)). accepted-write e a x) (λ (x : Laying p w img s work ⊎ Readying p w img s work). absurd (not-rest p w img s work x (rest-of e))) t
         by (Refused why) e a = (p, refl, subst (λ (x : State). Bound p w img (has x then)) (sym (a .0)) (subst (λ (x : List ℕ). Bound p w img (has s x)) (sym (a .1)) t))
 
   -- ---- a step
@@ -385,6 +460,7 @@ module _ (z : Shelf) (F : Family z) (first : Machine Sector) where
             (⊎-elim
             (λ (g : Fair z (m .stepped .state) work (m .image) × Writes z (m .stepped .state) work u).
             inr
+            (inl
             (record {
               written = u;
               disks = g .0 .disks;
@@ -396,7 +472,7 @@ module _ (z : Shelf) (F : Family z) (first : Machine Sector) where
               fair = g .0;
               writes = g .1;
               sized = t .sized;
-            }))
+            })))
             (λ (g : m ≡ finished s img).
             let k : m .stepped .state .kind ≡ Idle = ap (λ (x : Move). x .stepped .state .kind) g in
             let e : memoryWith z u (m .stepped .state) work (m .image) ≡ memoryOf z (m .stepped .state) [] (m .image) = with-rests u (m .stepped .state) work (m .image) k ∙ sym (rests z (m .stepped .state) (m .image) k) in
@@ -423,11 +499,59 @@ module _ (z : Shelf) (F : Family z) (first : Machine Sector) where
           let n = subst (λ (y : Memory Sector × Reply Sector). Names z (leftIn z (y .0))) e (step-names z (memoryWith z u s work img) (curOf z img) w (off z F first p (t .reached) .keeps .sane) (t .named) (t .names) .1) in
           (y .0, inr (y .1), y .2, n)) (d .first)
 
+  -- of begin
+  saw-label : (l : List (Action Sector)) (o o' : Own) (f : Image Sector) (r : Reply Sector) → programOf z (doing labelling l o o') f step .1 ≡ r → (p q : View Sector) → Answered (z .c) step r p q → q ≡ p
+  unfolding program-by
+  saw-label [] o o' f r m p q h = subst (λ (x : Reply Sector). Answered (z .c) step x p q) (sym m) h
+  saw-label (x ∷ l) o o' f r m p q h = subst (λ (x : Reply Sector). Answered (z .c) step x p q) (sym m) h
+
+  step-begin : (p : View Sector) (w : World Sector) (img : List ℕ) (s : State) (work : List ℕ) (m : Move) (w' : World Sector) (t : Readying p w img s work) → TiedLabel z (t .before) s work img m → Heard z w (m .stepped .answer) (m .image) w'
+      → (q : View Sector) × (q ≡ p) × Bound q w' (m .image) (has (m .stepped .state) work)
+  step-begin p w img s work m w' t d h =
+      let M : Memory Sector = doing labelling (toDo z s work img) (t .before) (ownOf z s (s .next)) in
+      let y = asks-to z F first img (t .reads) (t .reached) (d .after) step (d .reply) (d .steps) (step-some z F first p (d .reply) (m .stepped .answer) (d .answers)) (λ e x n. step-leaves z F first p (d .reply) (m .stepped .answer) (d .answers) e x _ n) in
+      let n = subst (λ (y : Memory Sector × Reply Sector). Always (effect w (y .1)) (Named z) × Names z (leftIn z (y .0))) (d .steps) (step-names z M (curOf z img) w (off z F first p (t .reached) .keeps .sane) (t .named) (t .names)) in (
+        y .0,
+        saw-label (toDo z s work img) (t .before) (ownOf z s (s .next)) (curOf z img) (d .reply) (ap (λ (b : Memory Sector × Reply Sector). b .1) (d .steps)) p (y .0) (y .1),
+        subst (λ (x : World Sector). Bound (y .0) x (m .image) (has (m .stepped .state) work)) (heard-is z F first p w w' (m .image) (d .reply) (m .stepped .answer) (d .answers) (d .acts w (t .reads)) h)
+            (⊎-elim
+            (λ (g : Fair z (m .stepped .state) work (m .image) × (m .stepped .state .kind ≡ s .kind) × (m .stepped .state .now ≡ s .now) × (m .stepped .state .absent ≡ s .absent)
+            × (d .after ≡ doing labelling (toDo z (m .stepped .state) work (m .image)) (t .before) (ownOf z (m .stepped .state) (m .stepped .state .next)))).
+            inr
+            (inr
+            (record {
+              before = t .before;
+              same-label = t .same-label ∙ ap (labelOf z) (sym (g .2));
+              more-absent = λ x i a. t .more-absent x i (ap (λ (mask : ℕ). inMask mask x) (sym (g .3)) ∙ a);
+              disks = g .0 .disks;
+              reads = d .acts w (t .reads);
+              reached = subst (Reached z F first (y .0) (effect w (d .reply))) (g .4) (y .2);
+              named = n .0;
+              names = subst (λ (x : Memory Sector). Names z (leftIn z x)) (g .4) (n .1);
+              next-ours = ap (ours z) (d .settles) ∙ t .next-ours;
+              fair = g .0;
+              kind = g .1 ∙ t .kind;
+              sized = t .sized;
+            })))
+            (λ (g : (m ≡ finished s img) × (d .after ≡ idle (ownOf z s (s .next)))).
+            let k : m .stepped .state .kind ≡ Idle = ap (λ (x : Move). x .stepped .state .kind) (g .0) in
+            let e : d .after ≡ memoryOf z (m .stepped .state) [] (m .image) = g .1 ∙ ap (λ (x : Move). idle (ownOf z (x .stepped .state) (x .stepped .state .now))) (sym (g .0)) ∙ sym (rests z (m .stepped .state) (m .image) k) in
+            inl
+            (record {
+              disks = subst (λ (x : Move). Disks z (x .image)) (sym (g .0)) (t .disks);
+              reads = d .acts w (t .reads);
+              reached = subst (Reached z F first (y .0) (effect w (d .reply))) e (y .2);
+              named = n .0;
+              names = subst (λ (x : Memory Sector). Names z (leftIn z x)) e (n .1);
+              order = (ap (ours z) (d .settles) ∙ t .next-ours, inr (k, ap (λ (x : Move). ours z (x .stepped .state .now)) (g .0) ∙ t .next-ours));
+            })) (d .goes-on)),
+      )
+
   step-bound : (p : View Sector) (w : World Sector) (img : List ℕ) (s : State) (work : List ℕ) (w' : World Sector) → Bound p w img (has s work)
       → Heard z w (stepWith s img work .stepped .answer) (stepWith s img work .image) w'
       → (q : View Sector) × SawStep (s .kind) (stepWith s img work .stepped .answer) p q × Bound q w' (stepWith s img work .image) (has (stepWith s img work .stepped .state) work)
   step-bound p w img s work w' (inl t) h = step-plain p w img s work w' t h
-  step-bound p w img s work w' (inr t) h = by (otherWork (s .now) (length img) (length work)) refl
+  step-bound p w img s work w' (inr (inl t)) h = by (otherWork (s .now) (length img) (length work)) refl
     where
       kind-is : (q : View Sector) (a : Answer) → SawWrite a p q → SawStep (s .kind) a p q
       kind-is q a x = subst (λ (k : Kind). SawStep k a p q) (sym (t .writes .kind)) x
@@ -436,11 +560,25 @@ module _ (z : Shelf) (F : Family z) (first : Machine Sector) where
       by true e =
           let d = step-short s img work (t .fair .in-range) e in
           subst (λ (m : Move). Heard z w (m .stepped .answer) (m .image) w' → (q : View Sector) × SawStep (s .kind) (m .stepped .answer) p q × Bound q w' (m .image) (has (m .stepped .state) work)) (sym d)
-          (λ i. (p, saw-refused (s .kind) BadBuffer p, subst (λ (x : World Sector). Bound p x img (has s work)) (sym i) (inr t))) h
+          (λ i. (p, saw-refused (s .kind) BadBuffer p, subst (λ (x : World Sector). Bound p x img (has s work)) (sym i) (inr (inl t)))) h
       by false e =
           let d = step-goes s img work (t .fair .in-range) e in
           subst (λ (m : Move). Heard z w (m .stepped .answer) (m .image) w' → (q : View Sector) × SawStep (s .kind) (m .stepped .answer) p q × Bound q w' (m .image) (has (m .stepped .state) work)) (sym d)
           (λ i. let y = step-write p w img s work (stepMove s work img) w' t (write-tied z (t .written) s work img (t .writes) (t .fair)) i in (y .0, kind-is (y .0) (stepMove s work img .stepped .answer) (y .1), y .2)) h
+  step-bound p w img s work w' (inr (inr t)) h = by (otherWork (s .now) (length img) (length work)) refl
+    where
+      kind-is : (q : View Sector) (a : Answer) → q ≡ p → SawStep (s .kind) a p q
+      kind-is q a x = subst (λ (k : Kind). SawStep k a p q) (sym (t .kind)) x
+
+      by : (b : Bool) → otherWork (s .now) (length img) (length work) ≡ b → (q : View Sector) × SawStep (s .kind) (stepWith s img work .stepped .answer) p q × Bound q w' (stepWith s img work .image) (has (stepWith s img work .stepped .state) work)
+      by true e =
+          let d = step-short s img work (t .fair .in-range) e in
+          subst (λ (m : Move). Heard z w (m .stepped .answer) (m .image) w' → (q : View Sector) × SawStep (s .kind) (m .stepped .answer) p q × Bound q w' (m .image) (has (m .stepped .state) work)) (sym d)
+          (λ i. (p, saw-refused (s .kind) BadBuffer p, subst (λ (x : World Sector). Bound p x img (has s work)) (sym i) (inr (inr t)))) h
+      by false e =
+          let d = step-goes s img work (t .fair .in-range) e in
+          subst (λ (m : Move). Heard z w (m .stepped .answer) (m .image) w' → (q : View Sector) × SawStep (s .kind) (m .stepped .answer) p q × Bound q w' (m .image) (has (m .stepped .state) work)) (sym d)
+          (λ i. let y = step-begin p w img s work (stepMove s work img) w' t (label-tied z (t .before) s work img (t .fair)) i in (y .0, kind-is (y .0) (stepMove s work img .stepped .answer) (y .1), y .2)) h
 
   -- ---- A CALL KEEPS THE TIE, and the view goes on as it may
 
@@ -449,6 +587,7 @@ module _ (z : Shelf) (F : Family z) (first : Machine Sector) where
   call-bound (creates-late {w} {img} {h} s k m c S number work e) ok p t = (p, refl, anew p w img h (createOf s k m c S number img (length work)) work t (late-kept z F first p w img chain.none s k m c S number (length work) e (loose p w img h t)))
   call-bound (starts {w} {img} {h} s g absent work sits) ok p t = (p, refl, anew p w img h (startOf s g absent img (length work)) work t (start-any z F first p w img chain.none s g absent (length work) sits ok (loose p w img h t)))
   call-bound (takes-out {w} {img} {s} {work} d) ok p t = (p, refl, out-bound p w img s work d ok t)
+  call-bound (begins {w} {img} {s} {work} d) ok p t = (p, refl, begin-bound p w img s work d t)
   call-bound (writes {w} {img} {s} {work} b given s' then x y e) ok p t = write-bound p w img s work b given s' then x y e t
   call-bound (steps {w} {w'} {img} {s} {work} heard) ok p t = step-bound p w img s work w' t heard
   call-bound (cut {w} {img} {h} left d x) ok p t = (p, refl, cut-kept z F first p w img chain.none left d x (loose p w img h t))

@@ -21,6 +21,8 @@ pub mod WriteList
 pub mod Writes
 pub mod Relabels
 pub mod Requests
+pub mod BeginAsked
+pub mod BeginBegins
 pub mod Ends
 pub mod StartBegins
 pub mod Accepts

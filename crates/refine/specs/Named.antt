@@ -1,7 +1,7 @@
 -- NO DISK EVER NAMES ANOTHER SHELF: where no sector of the disks is another shelf's label, whatever a cut leaves, none is after an
 -- action of the protocol's program. Assumes nothing.
 use mathlib.Core.Path.{_≡_, refl, sym, ap, subst, _∙_}
-use mathlib.Core.Bool.{Bool, true, false, cond, false≢true, _||_}
+use mathlib.Core.Bool.{Bool, true, false, cond, not, false≢true, _||_}
 use mathlib.Core.List.{List, [], _∷_, _++_}
 use Prim.Native.Nat.{ℕ, zero, suc, _+_, _*_, _<_, _/_, _%_, _^_}
 use native.Mathlib.Nat.{pow-suc}
@@ -21,14 +21,15 @@ use Rattle.label.proofs.Counts.{shelf-says, present-says, disk-says}
 use Rattle.protocol.specs.World.{Place, label, log, strip, slot, Image, update, update-cases, World, Action, put, flush, Sane, Always, always-put, always-flush}
 use Rattle.protocol.specs.Slots.{from}
 use Rattle.protocol.specs.Batch.{puts, flushes, Batch, actions, Each}
-use Rattle.protocol.specs.Label.{Label, again, belief, copy, round, round-batch, prep, prep-batch}
+use Rattle.protocol.specs.Label.{Label, again, belief, copy, round, round-batch, prep, prep-batch, expel, expel-batch, last-side}
+use Rattle.protocol.specs.Rebuild.{begun, wipe, wipe-batch, flushed-at-begin, expel-first}
 use Rattle.protocol.specs.Redo.{redo}
 use Rattle.protocol.specs.Startup.{M, L, late, level-to, again-to, last-to, rounds}
 use Rattle.protocol.specs.Decide.{data-place, Touch, Looked, strips-each, redo-each, in-turn, settled, startup}
 use Rattle.protocol.specs.Log.{Write, Belief}
 use Rattle.protocol.specs.Write.{logged, log-batch, log-write, store}
 use Rattle.protocol.specs.Request.{outed}
-use Rattle.protocol.specs.Program.{Own, creating, starting, logging, storing, labelling, Memory, nothing, idle, doing, step, new-label, beyond, flushed-first, told-to, asked-create, asked-start, asked-out}
+use Rattle.protocol.specs.Program.{Own, creating, starting, logging, storing, labelling, Memory, nothing, idle, doing, step, new-label, beyond, flushed-first, told-to, back-in, asked-create, asked-start, asked-out, asked-begin}
 use Rattle.protocol.specs.Machine.{effect}
 use Rattle.protocol.specs.Even.{program-by}
 use Rattle.protocol.specs.Pairs.{no-sets}
@@ -186,6 +187,28 @@ module _ (z : Shelf) where
 
   pub out-names : (o : Own) (d : ℕ) → Names (leftIn (asked-out (size z) (no-sets (slots z)) (labels z) (records z) (any-code z) stamps (any-sectors z) o d))
   out-names o d = names-round (outed (slots z) (o .now) d) (told-to (size z) (no-sets (slots z)) (labels z) (records z) (any-code z) stamps (any-sectors z) (o .absent))
+
+  names-expel : (f0 : Image Sector) (b : Bool) (ds : List ℕ) → Names (expel (labels z) f0 b ds)
+  unfolding expel-batch
+  names-expel f0 b ds = names-batch (expel-batch (labels z) f0 b ds) zeros-named
+
+  names-wipe : (d : ℕ) → Names (wipe (records z) d)
+  unfolding wipe-batch
+  names-wipe d = names-batch (wipe-batch (records z) d) zeros-named
+
+  pub begin-names : (o : Own) (f0 : Image Sector) (d : ℕ) → Names (leftIn (asked-begin (size z) (no-sets (slots z)) (labels z) (records z) (any-code z) stamps (any-sectors z) o f0 d))
+  unfolding expel-first
+  begin-names o f0 d =
+      let S = last-side (labels z) f0 d in
+      let X1 = expel (labels z) f0 (not S) (d ∷ []) in
+      let X2 = expel (labels z) f0 S (d ∷ []) in
+      let A1 = wipe (records z) d in
+      let A2 = prep (labels z) f0 (o .now .generation) (o .now) (d ∷ []) in
+      let ds = told-to (size z) (no-sets (slots z)) (labels z) (records z) (any-code z) stamps (any-sectors z) (back-in (size z) (no-sets (slots z)) (labels z) (records z) (any-code z) stamps (any-sectors z) (o .absent) d) in
+      let A3 = round (labels z) (begun (o .now) d) ds in
+      names-append (flushes (flushed-at-begin (records z) d)) ((X1 ++ X2) ++ (A1 ++ (A2 ++ A3))) (names-flushes (flushed-at-begin (records z) d))
+      (names-append (X1 ++ X2) (A1 ++ (A2 ++ A3)) (names-append X1 X2 (names-expel f0 (not S) (d ∷ [])) (names-expel f0 S (d ∷ [])))
+      (names-append A1 (A2 ++ A3) (names-wipe d) (names-append A2 A3 (names-prep f0 (o .now .generation) (o .now) (d ∷ [])) (names-round (begun (o .now) d) ds))))
 
   names-store : (x : Write Sector) (o : Own) → Names (store (records z) (belief (size z) (o .now)) (x .stripe) (x .changes) (x .new))
   unfolding Touch

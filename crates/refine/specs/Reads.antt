@@ -11,7 +11,7 @@ use lib.Dec.{eqb, leb, ltb, lit<}
 use lib.ListN.{length, getD}
 use lib.Seq.{getD-take}
 use borrow.Author.Tests.{lt-ltb, le-ltb, le-leb, leb-true, eq-eqb, ne-eqb, eqb-true, eqb-false}
-use Rattle.disk.specs.Tests.{both, and-right}
+use Rattle.disk.specs.Tests.{both, and-left, and-right}
 use Rattle.disk.specs.Limits.{sectorBytes}
 use Rattle.disk.specs.Geometry.{stripesOf, slotOf, slot-lt, shard-slot, block-inside}
 use Rattle.disk.specs.Image.{sector, lt-or-ge}
@@ -31,7 +31,7 @@ use Rattle.protocol.specs.Program.{BAD_BLOCK, first, Own, Memory, idle, doing, 
 use Rattle.protocol.specs.Even.{program-by}
 use Rattle.protocol.specs.Machine.{Machine, View, sure, open-write, kept-write, list-of}
 use Rattle.protocol.specs.Pairs.{no-sets}
-use Rattle.codecs.specs.Sector.{Sector, Bytes}
+use Rattle.codecs.specs.Sector.{Sector, Bytes, zeros}
 use Rattle.codecs.specs.Shelf.{Shelf, slots, geometry, size, some-slots}
 use Rattle.codecs.specs.Labels.{fieldsOf, noLabel, labelOf, labels, ours}
 use Rattle.codecs.specs.Records.{stripBytes, records}
@@ -64,7 +64,7 @@ use Rattle.refine.specs.WriteList.{strip-same}
 use Rattle.refine.specs.Sees.{seenSlots, there-believed, there-lying}
 use Rattle.refine.specs.Chain.{Reached, Tie, asks-to}
 use Rattle.refine.specs.Chain as chain
-use Rattle.refine.specs.Hosts.{has, Laying, Bound}
+use Rattle.refine.specs.Hosts.{has, Laying, Readying, Bound}
 
 -- no refusal, and nothing accepted
 abbrev NoBlock : Reply Sector → Type 0
@@ -346,9 +346,82 @@ module _ (z : Shelf) (F : Family z) (first-one : Machine Sector) (p : View Secto
           (ap (λ (x : Bool). (doing (storing u) a o (ownOf z s (s .next)), meanwhile (size z) (no-sets (slots z)) (labels z) (records z) (any-code z) stamps (any-sectors z) (storing u) o f T I (first (record { why = BAD_BLOCK; holds = not x } ∷ []))))
           (may-read z img (t .disks) (s .now) own (s .absent) b work buf shows-it))
 
+  -- while begin is under way: the program reads as before it, without the slot if it was absent; none of the slot's strips is believed then
+  pub read-beginning : Readying z F first-one p w img s work → Right (s .kind)
+  unfolding read program-by mask seenOf laidBy
+  read-beginning t = subst Right (sym (t .kind)) shown
+    where
+      own : ours z (s .now) ≡ true
+      own = t .fair .ours-now
+
+      T : ℕ
+      T = b / s .now .k
+
+      I : ℕ
+      I = b % s .now .k
+
+      o : Own
+      o = t .before
+
+      A : ℕ → Bool
+      A = beyond (slots z) (inMask (s .absent))
+
+      m : Memory Sector
+      m = doing labelling (toDo z s work img) o (ownOf z s (s .next))
+
+      before-dark : (p : View Sector) → Reached z F first-one p w m → (d : ℕ) → o .absent d ≡ true → Label.looked (size z) (o .now) d ≡ true → ⊥
+      before-dark (sure v) r d a q = r .keeps .reads .0 .dark d a q
+      before-dark (open-write v v') r d a q = r .keeps .reads
+      before-dark (kept-write v') r d a q = r .keeps .reads
+
+      was-dark : (d : ℕ) → o .absent d ≡ true → Label.looked (size z) (labelOf z (s .now)) d ≡ true → ⊥
+      was-dark d a q = before-dark p (t .reached) d a (ap (λ (x : Label.Label). Label.looked (size z) x d) (t .same-label) ∙ q)
+
+      dark : (d : ℕ) → d < slots z → inMask (s .absent) d ≡ true → Label.looked (size z) (labelOf z (s .now)) d ≡ true → ⊥
+      dark d i a q = was-dark d (t .more-absent d i a) q
+
+      bad : ℕ → Bool
+      bad = missing (size z) (no-sets (slots z)) (records z) (any-code z) (labelOf z (s .now)) T
+
+      -- a strip that is believed is seen with either set of absent slots
+      seen-here : (B : ℕ → Bool) (d j : ℕ) → (B d ≡ true → ⊥) → seenOf z B img (strip d T j) ≡ curOf z img (strip d T j)
+      seen-here B d j h = go (B d) refl
+        where
+          go : (x : Bool) → B d ≡ x → cond x zeros (curOf z img (strip d T j)) ≡ curOf z img (strip d T j)
+          go true e = absurd (h e)
+          go false e = refl
+
+      looks : (d : ℕ) → bad d ≡ false → Label.looked (size z) (labelOf z (s .now)) d ≡ true
+      looks d e = and-left (Label.looked (size z) (labelOf z (s .now)) d) _ (sees (Label.believed (size z) (labelOf z (s .now)) d T) e)
+        where
+          sees : (x : Bool) → not x ≡ false → x ≡ true
+          sees true e = refl
+          sees false e = sym e
+
+      X : (ℕ → Bool) → ℕ → Sector
+      X B = read (size z) (no-sets (slots z)) (records z) (any-code z) (labelOf z (s .now)) (seenOf z B img) T I
+
+      same-read : X A ≡ X (o .absent)
+      same-read =
+          fun-ext
+          (λ j. blocks-blind z T bad (λ d i. seenOf z A img (strip d T i)) I j (omega (arith, in-k z img (t .disks) (s .now) own (s .absent) b work buf shows-it)) (λ d i. seenOf z (o .absent) img (strip d T i))
+          (λ d h e. seen-here A d j (λ a. dark d h (sym (beyond-below (slots z) (s .absent) d h) ∙ a) (looks d e)) ∙ sym (seen-here (o .absent) d j (λ a. was-dark d a (looks d e)))))
+
+      Y : ℕ → Sector
+      Y = read (size z) (no-sets (slots z)) (records z) (any-code z) (o .now) (seenOf z (o .absent) img) T I
+
+      shown : Right Beginning
+      shown =
+          shown-read z img (t .disks) (s .now) own (s .absent) b work buf shows-it dark
+          ∙ ap (λ (x : ℕ → Sector). stripBytes x (z .c)) (same-read ∙ ap (λ (x : Label.Label). read (size z) (no-sets (slots z)) (records z) (any-code z) x (seenOf z (o .absent) img) T I) (sym (t .same-label)))
+          ∙ given-entry z img (t .disks) (s .now) own (s .absent) b work buf shows-it F first-one p w (t .reads) m Y (t .reached)
+          (ap (λ (x : Bool). (m, meanwhile (size z) (no-sets (slots z)) (labels z) (records z) (any-code z) stamps (any-sectors z) labelling o (seenOf z (o .absent) img) T I (first (record { why = BAD_BLOCK; holds = not x } ∷ []))))
+          (may-read z img (t .disks) (s .now) own (s .absent) b work buf shows-it))
+
   -- A READ, whenever it answers Done, shows the view's entry
   pub read-right : Bound z F first-one p w img (has s work) → afterRead Done s b img work buf ≡ stripBytes (list-of p (b / z .k) (b % z .k)) (z .c)
   read-right (inl t) =
       let own = ⊎-elim (λ (f : Fair z s [] img × (plain (s .kind) ≡ true)). f .0 .ours-now) (λ (q : (s .kind ≡ Idle) × (ours z (s .now) ≡ true)). q .1) (t .order .1) in
       read-plain t ∙ ap (λ (k : ℕ). stripBytes (list-of p (b / k) (b % k)) (z .c)) (sym (same-says (fieldsOf z 0 (noLabel z)) (s .now) own .same-k))
-  read-right (inr t) = read-writing t ∙ ap (λ (k : ℕ). stripBytes (list-of p (b / k) (b % k)) (z .c)) (sym (same-says (fieldsOf z 0 (noLabel z)) (s .now) (t .fair .ours-now) .same-k))
+  read-right (inr (inr t)) = read-beginning t ∙ ap (λ (k : ℕ). stripBytes (list-of p (b / k) (b % k)) (z .c)) (sym (same-says (fieldsOf z 0 (noLabel z)) (s .now) (t .fair .ours-now) .same-k))
+  read-right (inr (inl t)) = read-writing t ∙ ap (λ (k : ℕ). stripBytes (list-of p (b / k) (b % k)) (z .c)) (sym (same-says (fieldsOf z 0 (noLabel z)) (s .now) (t .fair .ours-now) .same-k))

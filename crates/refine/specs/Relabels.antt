@@ -67,7 +67,7 @@ module _ (z : Shelf) where
     pub steps : programOf z (doing labelling (toDo z s work img) o (ownOf z s (s .next))) (curOf z img) step ≡ (after, reply)
     pub answers : Same z (m .stepped .answer) reply
     pub acts : (v : World Sector) → v .cur ≡ curOf z img → effect v reply .cur ≡ curOf z (m .image)
-    pub goes-on : (Fair z (m .stepped .state) work (m .image) × (m .stepped .state .kind ≡ s .kind)
+    pub goes-on : (Fair z (m .stepped .state) work (m .image) × (m .stepped .state .kind ≡ s .kind) × (m .stepped .state .now ≡ s .now) × (m .stepped .state .absent ≡ s .absent)
         × (after ≡ doing labelling (toDo z (m .stepped .state) work (m .image)) o (ownOf z (m .stepped .state) (m .stepped .state .next))))
         ⊎ ((m ≡ finished s img) × (after ≡ idle (ownOf z s (s .next))))
     pub settles : m .stepped .state .next ≡ s .next
@@ -105,8 +105,8 @@ module _ (z : Shelf) where
           goes-on =
               inl
               (subst
-              (λ (x : Move). Fair z (x .stepped .state) work (x .image) × (x .stepped .state .kind ≡ s .kind) × (N l ≡ doing labelling (toDo z (x .stepped .state) work (x .image)) o (ownOf z (x .stepped .state) (x .stepped .state .next))))
-              (sym (d .is)) (d .fair, ap (λ (x : State). x .kind) (d .kept), sym (ap₂ (λ (y : List (Action Sector)) (x : State). doing labelling y o (ownOf z x (x .next))) (d .rest) (d .kept))));
+              (λ (x : Move). Fair z (x .stepped .state) work (x .image) × (x .stepped .state .kind ≡ s .kind) × (x .stepped .state .now ≡ s .now) × (x .stepped .state .absent ≡ s .absent) × (N l ≡ doing labelling (toDo z (x .stepped .state) work (x .image)) o (ownOf z (x .stepped .state) (x .stepped .state .next))))
+              (sym (d .is)) (d .fair, ap (λ (x : State). x .kind) (d .kept), ap (λ (x : State). x .now) (d .kept), ap (λ (x : State). x .absent) (d .kept), sym (ap₂ (λ (y : List (Action Sector)) (x : State). doing labelling y o (ownOf z x (x .next))) (d .rest) (d .kept))));
           settles = ap (λ (x : Move). x .stepped .state .next) (d .is) ∙ ap (λ (x : State). x .next) (d .kept);
         }
     tied-by m (flush e ∷ l) q d =
@@ -119,8 +119,8 @@ module _ (z : Shelf) where
           goes-on =
               inl
               (subst
-              (λ (x : Move). Fair z (x .stepped .state) work (x .image) × (x .stepped .state .kind ≡ s .kind) × (N l ≡ doing labelling (toDo z (x .stepped .state) work (x .image)) o (ownOf z (x .stepped .state) (x .stepped .state .next))))
-              (sym (d .is)) (d .fair, ap (λ (x : State). x .kind) (d .kept), sym (ap₂ (λ (y : List (Action Sector)) (x : State). doing labelling y o (ownOf z x (x .next))) (d .rest) (d .kept))));
+              (λ (x : Move). Fair z (x .stepped .state) work (x .image) × (x .stepped .state .kind ≡ s .kind) × (x .stepped .state .now ≡ s .now) × (x .stepped .state .absent ≡ s .absent) × (N l ≡ doing labelling (toDo z (x .stepped .state) work (x .image)) o (ownOf z (x .stepped .state) (x .stepped .state .next))))
+              (sym (d .is)) (d .fair, ap (λ (x : State). x .kind) (d .kept), ap (λ (x : State). x .now) (d .kept), ap (λ (x : State). x .absent) (d .kept), sym (ap₂ (λ (y : List (Action Sector)) (x : State). doing labelling y o (ownOf z x (x .next))) (d .rest) (d .kept))));
           settles = ap (λ (x : Move). x .stepped .state .next) (d .is) ∙ ap (λ (x : State). x .next) (d .kept);
         }
 
