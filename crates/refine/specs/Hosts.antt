@@ -1,6 +1,6 @@
--- CHAINS OF CALLS WITH WRITES: create, start, take out, begin, write and step, with power cuts and deaths of the caller in between, and the
--- host's view beside them. The caller hands back the state and the work area that it was handed last. What a call does to the view is
--- said in the words of its answer (`Saw`). Assumes nothing.
+-- CHAINS OF CALLS WITH WRITES: create, start, take out, begin, write, repair and step, with power cuts and deaths of the caller in
+-- between, and the host's view beside them. The caller hands back the state and the work area that it was handed last. What a call does
+-- to the view is said in the words of its answer (`Saw`). A repair is always refused, since no sector changes by itself. Assumes nothing.
 use mathlib.Core.Path.{_≡_, refl, sym, ap, subst, _∙_}
 use mathlib.Core.Logic.{_⊎_, ⊎-elim, inl, inr}
 use mathlib.Core.Bool.{Bool, true, false, false≢true}
@@ -15,7 +15,7 @@ use Rattle.disk.specs.declared.refusal.Outcome.{Outcome}
 use Rattle.disk.specs.declared.refusal.Outcome.the-variants.{Done, Refused}
 use Rattle.label.specs.Bytes.{allZero}
 use Rattle.label.proofs.Counts.{same-says}
-use Rattle.protocol.specs.World.{Image, Action, put, flush, World, Possible, after, Always}
+use Rattle.protocol.specs.World.{strip, Image, Action, put, flush, World, Possible, Sane, after, Always}
 use Rattle.protocol.specs.Log.{Write}
 use Rattle.protocol.specs.Label as Label
 use Rattle.protocol.specs.Host.{Host, one-block, replace}
@@ -26,6 +26,7 @@ use Rattle.protocol.specs.Even.{program-by}
 use Rattle.codecs.specs.Sector.{Sector, Bytes}
 use Rattle.codecs.specs.Shelf.{Shelf, slots, size}
 use Rattle.codecs.specs.Labels.{fieldsOf, noLabel, ours, labelOf}
+use Rattle.shards.specs.Even.{any-code}
 use Rattle.shelf.specs.Act.{Move, refuses}
 use Rattle.shelf.specs.Step.{stepMove, finished}
 use Rattle.shelf.specs.declared.state.State.{State}
@@ -45,8 +46,9 @@ use Rattle.rebuilds.specs.Begin.{beginAnswer, began, beginOf}
 use Rattle.blocks.specs.Slots.{tooFew}
 use Rattle.blocks.specs.Answers.{sizes, blockAnswer, first-done, answered-done}
 use Rattle.blocks.specs.Write.{stampLeft, writeAnswer, Written, AfterWrite, write-done}
+use Rattle.scrubs.specs.Repair.{mayRepair, Repairs, repair-refused}
 use Rattle.refine.specs.Given.{shelf-geometry}
-use Rattle.refine.specs.Family.{Family}
+use Rattle.refine.specs.Family.{Family, sound-in}
 use Rattle.refine.specs.Disks.{Disks, curOf}
 use Rattle.refine.specs.Rounds.{beyond-below}
 use Rattle.refine.specs.ToDo.{toDo}
@@ -60,6 +62,7 @@ use Rattle.refine.specs.Other.{Sits}
 use Rattle.refine.specs.Named.{Named, Names, leftIn, begin-names, step-names, names-log}
 use Rattle.refine.specs.Sees.{sectorsOf}
 use Rattle.refine.specs.WriteAsked.{W, write-goes, write-accepted}
+use Rattle.refine.specs.Mends.{may-whole, mend-refused, asked-refused}
 use Rattle.refine.specs.Chain.{Heard, outs, handed, Allowed, rests, Reached, Tie, asks-to, off, create-kept, late-kept, start-any, out-kept, cut-kept, goes-to, refused-kept, step-is, step-some, step-leaves, heard-is, accepted-none, idle-is}
 use Rattle.refine.specs.Chain as chain
 
@@ -92,6 +95,8 @@ pub data HostCalls (z : Shelf) : Time → Time → Type 1 where
   -- the bytes given are written to block b: what write's contract says
   writes : {w : World Sector} {img : List ℕ} {s : State} {work : List ℕ} (b : ℕ) (given : List ℕ) (s' : State) (then : List ℕ) → Bytes given → Bytes then
       → AfterWrite (writeAnswer (s .now) (s .kind) (s .absent) (s .count) img b (length given) (length work)) s b given img work s' then → HostCalls z (at w img (has s work)) (at w img (has s' then))
+  -- stripe t is looked at, and mended if a shard of it is wrong: what repair's contract says
+  repairs : {w : World Sector} {img : List ℕ} {s : State} {work : List ℕ} (t : ℕ) (b : Begun) (then : List ℕ) → Repairs s t img work b then → HostCalls z (at w img (has s work)) (at w img (has (b .state) then))
   steps : {w w' : World Sector} {img : List ℕ} {s : State} {work : List ℕ} → Heard z w (stepWith s img work .stepped .answer) (stepWith s img work .image) w'
       → HostCalls z (at w img (has s work)) (at w' (stepWith s img work .image) (has (stepWith s img work .stepped .state) work))
   cut : {w : World Sector} {img : List ℕ} {h : Held} (left : List ℕ) → Disks z left → Possible w (curOf z left) → HostCalls z (at w img h) (at (after (curOf z left)) left none)
@@ -109,6 +114,7 @@ sets-call (starts {img = img} s g absent work sits) = outs (startOf s g absent i
 sets-call (takes-out {img = img} {s = s} {work = work} d) = outs (takeOutOf s d img (length work))
 sets-call (begins d) = []
 sets-call (writes b given s' then x y e) = []
+sets-call (repairs t b then r) = []
 sets-call (steps heard) = []
 sets-call (cut left d p) = []
 sets-call dies = []
@@ -162,6 +168,7 @@ Saw (takes-out d) p q = q ≡ p
 Saw (begins d) p q = q ≡ p
 Saw {z} (writes {img = img} {s = s} {work = work} b given s' then x y e) p q =
     SawAsked (writeAnswer (s .now) (s .kind) (s .absent) (s .count) img b (length given) (length work)) (b / z .k) (b % z .k) (sectorsOf (z .c) given) p q
+Saw (repairs t b then r) p q = q ≡ p
 Saw (steps {img = img} {s = s} {work = work} heard) p q = SawStep (s .kind) (stepWith s img work .stepped .answer) p q
 Saw (cut left d x) p q = q ≡ p
 Saw dies p q = q ≡ p
@@ -359,6 +366,49 @@ module _ (z : Shelf) (F : Family z) (first : Machine Sector) where
         by Done e a =
             ⊎-elim (λ (x : Tie z F first p w img (chain.has s)). accepted-write e a x) (λ (x : Laying p w img s work ⊎ Readying p w img s work). absurd (not-rest p w img s work x (rest-of e))) t
         by (Refused why) e a = (p, refl, subst (λ (x : State). Bound p w img (has x then)) (sym (a .0)) (subst (λ (x : List ℕ). Bound p w img (has s x)) (sym (a .1)) t))
+
+  -- ---- a repair
+
+  -- what is read is one of the things that a cut may leave
+  read-left : (p : View Sector) (w : World Sector) (img : List ℕ) (s : State) → Tie z F first p w img (chain.has s) → Possible w (curOf z img)
+  unfolding Sane
+  read-left p w img s t = subst (Possible w) (t .reads) (off z F first p (t .reached) .keeps .sane)
+
+  -- at rest each strip sector that is believed is the list's, as it is read
+  rest-list : (p : View Sector) (w : World Sector) (img : List ℕ) (s : State) → Tie z F first p w img (chain.has s) → isIdle (s .kind) ≡ true
+      → (v : Host Sector) × ((d t j : ℕ) → Label.believed (size z) (labelOf z (s .now)) d t ≡ true → j < z .c → curOf z img (strip d t j) ≡ any-code z .shard t (v t) d j)
+  unfolding Always
+  rest-list p w img s t e = by p (subst (Reached z F first p w) (rests z s img (idle-is z F first p (s .kind) e)) (t .reached))
+    where
+      by : (p : View Sector) → Reached z F first p w (idle (ownOf z s (s .now)))
+          → (v : Host Sector) × ((d t j : ℕ) → Label.believed (size z) (labelOf z (s .now)) d t ≡ true → j < z .c → curOf z img (strip d t j) ≡ any-code z .shard t (v t) d j)
+      by (sure v) r = (v, sound-in z F v w (ownOf z s (s .now)) (r .keeps) (curOf z img) (read-left p w img s t))
+      by (open-write v v') r = absurd (r .keeps)
+      by (kept-write v') r = absurd (r .keeps)
+
+  -- A REPAIR IS REFUSED THERE: no sector changes by itself in these chains, so that a repair finds nothing to mend
+  pub repair-refused-there : (p : View Sector) (w : World Sector) (img : List ℕ) (s : State) (work : List ℕ) (t : ℕ) (b : Begun) (then : List ℕ) → Repairs s t img work b then → Bound p w img (has s work)
+      → (why : Refusal) × (b .outcome ≡ Refused why)
+  repair-refused-there p w img s work t b then r h = by (mayRepair (s .now) (s .kind) (s .absent) (s .count) t img) refl h
+    where
+      by : (o : Outcome) → mayRepair (s .now) (s .kind) (s .absent) (s .count) t img ≡ o → Bound p w img (has s work) → (why : Refusal) × (b .outcome ≡ Refused why)
+      by (Refused why) e h = (why, asked-refused s t img work b then r why e)
+      by Done e (inl n) =
+          let own : ours z (s .now) ≡ true = ⊎-elim (λ (f : Fair z s [] img × (plain (s .kind) ≡ true)). f .0 .ours-now) (λ (q : (s .kind ≡ Idle) × (ours z (s .now) ≡ true)). q .1) (n .order .1) in
+          let y = rest-list p w img s n (may-whole s img t e .at-rest) in
+          mend-refused z img (n .disks) s own t (y .0) (λ d j. y .1 d t j) work b then r
+      by Done e (inr n) = absurd (not-rest p w img s work n (may-whole s img t e .at-rest))
+
+  -- and changes neither the state nor the work area
+  pub repair-changes-nothing : (p : View Sector) (w : World Sector) (img : List ℕ) (s : State) (work : List ℕ) (t : ℕ) (b : Begun) (then : List ℕ) → Repairs s t img work b then → Bound p w img (has s work)
+      → (b .state ≡ s) × (then ≡ work)
+  repair-changes-nothing p w img s work t b then r h = let y = repair-refused-there p w img s work t b then r h in repair-refused s t img work b then r (y .0) (y .1)
+
+  repair-bound : (p : View Sector) (w : World Sector) (img : List ℕ) (s : State) (work : List ℕ) (t : ℕ) (b : Begun) (then : List ℕ) → Repairs s t img work b then → Bound p w img (has s work)
+      → Bound p w img (has (b .state) then)
+  repair-bound p w img s work t b then r h =
+      let y = repair-changes-nothing p w img s work t b then r h in
+      subst (λ (x : State). Bound p w img (has x then)) (sym (y .0)) (subst (λ (x : List ℕ). Bound p w img (has s x)) (sym (y .1)) h)
 
   -- ---- a step
 
@@ -589,6 +639,7 @@ module _ (z : Shelf) (F : Family z) (first : Machine Sector) where
   call-bound (takes-out {w} {img} {s} {work} d) ok p t = (p, refl, out-bound p w img s work d ok t)
   call-bound (begins {w} {img} {s} {work} d) ok p t = (p, refl, begin-bound p w img s work d t)
   call-bound (writes {w} {img} {s} {work} b given s' then x y e) ok p t = write-bound p w img s work b given s' then x y e t
+  call-bound (repairs {w} {img} {s} {work} t b then r) ok p h = (p, refl, repair-bound p w img s work t b then r h)
   call-bound (steps {w} {w'} {img} {s} {work} heard) ok p t = step-bound p w img s work w' t heard
   call-bound (cut {w} {img} {h} left d x) ok p t = (p, refl, cut-kept z F first p w img chain.none left d x (loose p w img h t))
   call-bound (dies {w} {img} {h}) ok p t = (p, refl, loose p w img h t)

@@ -35,6 +35,7 @@ pub mod Blind
 pub mod Strips
 pub mod Sees
 pub mod WriteAsked
+pub mod Mends
 pub mod Hosts
 pub mod Reads
 pub mod HostHolds

@@ -1,7 +1,8 @@
 -- THE PROMISE TO THE HOST. Along every chain of calls from an image of zeros on there is a view of the host's, at first all blocks
--- zeros, which each call changes only as its answer says, and at every moment a read that answers Done shows the view's entry. For every
--- shelf, where any two of the sets of slots that the chain leaves out leave a slot out in common; for k > m nothing is asked. And what
--- the list's entries are: those of a write that is acknowledged are the bytes given, all others stay. Assumes nothing.
+-- zeros, which each call changes only as its answer says, and at every moment a read that answers Done shows the view's entry, and a
+-- repair is refused, since it finds nothing to mend. For every shelf, where any two of the sets of slots that the chain leaves out leave
+-- a slot out in common; for k > m nothing is asked. And what the list's entries are: those of a write that is acknowledged are the bytes
+-- given, all others stay. Assumes nothing.
 use mathlib.Core.Path.{_≡_, refl, sym, ap, subst, _∙_}
 use mathlib.Core.Bool.{Bool, true, false, cond}
 use mathlib.Core.List.{List, Memᴰ·append-left, Memᴰ·append-right}
@@ -11,7 +12,8 @@ use lib.Dec.{eqb}
 use lib.ListN.{length}
 use borrow.Author.Tests.{eq-eqb, eqb-true}
 use Rattle.disk.specs.Limits.{sectorBytes}
-use Rattle.disk.specs.declared.refusal.Outcome.the-variants.{Done}
+use Rattle.disk.specs.declared.refusal.Refusal.{Refusal}
+use Rattle.disk.specs.declared.refusal.Outcome.the-variants.{Done, Refused}
 use Rattle.label.specs.Bytes.{allZero}
 use Rattle.protocol.specs.World.{World, after}
 use Rattle.protocol.specs.Host.{Host, one-block, set-block, replace}
@@ -22,12 +24,14 @@ use Rattle.codecs.specs.Shelf.{Shelf, slots}
 use Rattle.codecs.specs.Records.{stripBytes}
 use Rattle.shelf.specs.declared.state.State.{State}
 use Rattle.shelf.specs.declared.state.Kind.the-variants.{Idle}
+use Rattle.requests.specs.declared.begun.Begun.{Begun}
 use Rattle.blocks.specs.Read.{readAnswer, afterRead}
+use Rattle.scrubs.specs.Repair.{Repairs}
 use Rattle.refine.specs.Family.{Family, every-few, parts-few, in-parts}
 use Rattle.refine.specs.Disks.{Disks, curOf}
 use Rattle.refine.specs.Sees.{sectorsOf, sectors-strip}
 use Rattle.refine.specs.Chain.{Allowed, blocks, fresh, fresh-tie}
-use Rattle.refine.specs.Hosts.{none, has, Time, at, HostChain, stays, goes-on, sets-call, sets, Saw, BoundAt, call-bound}
+use Rattle.refine.specs.Hosts.{none, has, Time, at, HostChain, stays, goes-on, sets-call, sets, Saw, BoundAt, repair-refused-there, repair-changes-nothing, call-bound}
 use Rattle.refine.specs.HostHolds.{bound-rests}
 use Rattle.refine.specs.Reads.{read-right}
 
@@ -76,6 +80,24 @@ module _ (z : Shelf) (img : List ℕ) (disks : Disks z img) (blank : allZero img
   -- FOR k > m
   pub reads-right : z .m < z .k → {b : Time} (c : HostChain z (at (after (curOf z img)) img none) b) → (p : View Sector) × Served c (sure blocks) p
   reads-right more c = let y = served-bound (every-few z more) c (λ s m e. e) in (y .0, y .1)
+
+  -- A REPAIR IS REFUSED at every moment, since it finds nothing to mend, and changes nothing
+  repair-served : (F : Family z) {w : World Sector} {left : List ℕ} {s : State} {work : List ℕ} (c : HostChain z (at (after (curOf z img)) img none) (at w left (has s work))) → Allowed z F (sets c)
+      → (t : ℕ) (b : Begun) (then : List ℕ) → Repairs s t left work b then → ((why : Refusal) × (b .outcome ≡ Refused why)) × (b .state ≡ s) × (then ≡ work)
+  repair-served F {w} {left} {s} {work} c ok t b then r =
+      let y = served-bound F c ok in
+      let same = repair-changes-nothing z F (fresh z img disks blank) (y .0) w left s work t b then r (y .2) in
+      (repair-refused-there z F (fresh z img disks blank) (y .0) w left s work t b then r (y .2), same .0, same .1)
+
+  -- for every shelf
+  pub any-repair-refused : {w : World Sector} {left : List ℕ} {s : State} {work : List ℕ} (c : HostChain z (at (after (curOf z img)) img none) (at w left (has s work))) → AnyTwo (slots z) (sets c)
+      → (t : ℕ) (b : Begun) (then : List ℕ) → Repairs s t left work b then → ((why : Refusal) × (b .outcome ≡ Refused why)) × (b .state ≡ s) × (then ≡ work)
+  any-repair-refused c two = repair-served (parts-few z (sets c) two) c (in-parts z (sets c) two)
+
+  -- for k > m
+  pub repairs-refused : z .m < z .k → {w : World Sector} {left : List ℕ} {s : State} {work : List ℕ} (c : HostChain z (at (after (curOf z img)) img none) (at w left (has s work)))
+      → (t : ℕ) (b : Begun) (then : List ℕ) → Repairs s t left work b then → ((why : Refusal) × (b .outcome ≡ Refused why)) × (b .state ≡ s) × (then ≡ work)
+  repairs-refused more c = repair-served (every-few z more) c (λ s m e. e)
 
 -- ---- THE ENTRIES
 
