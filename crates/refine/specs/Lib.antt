@@ -11,6 +11,7 @@ pub mod Given
 pub mod Keeps
 pub mod ToDo
 pub mod Restored
+pub mod Fills
 pub mod Steps
 pub mod Lists
 pub mod StartList
