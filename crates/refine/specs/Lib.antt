@@ -21,6 +21,7 @@ pub mod Asked
 pub mod WriteList
 pub mod Writes
 pub mod Relabels
+pub mod FillList
 pub mod Requests
 pub mod Ends
 pub mod StartBegins
