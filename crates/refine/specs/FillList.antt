@@ -7,6 +7,8 @@ use Prim.Native.Nat.{ℕ, zero, suc, _+_, _-_, _*_, _≤_, _<_}
 use native.Mathlib.Nat.{suc-mul}
 use native.Mathlib.Omega.{arith}
 use lib.Arith.{digits-div, digits-mod}
+use lib.ListN.{length}
+use Rattle.disk.specs.Limits.{sectorBytes}
 use Rattle.protocol.specs.World.{Place, strip, slot, Image, Action}
 use Rattle.protocol.specs.Batch.{puts, flushes}
 use Rattle.protocol.specs.Slots.{from, row, rows}
@@ -14,7 +16,7 @@ use Rattle.protocol.specs.Walk.{append-assoc}
 use Rattle.protocol.specs.Label.{Label, believed, round}
 use Rattle.protocol.specs.Host.{rebuilt}
 use Rattle.protocol.specs.Rebuild.{fill, fill-batch, filled-sectors}
-use Rattle.protocol.specs.Program.{told-to}
+use Rattle.protocol.specs.Program.{doing, labelling, told-to}
 use Rattle.protocol.specs.Phases.{change-phases}
 use Rattle.protocol.specs.Pairs.{no-sets}
 use Rattle.codecs.specs.Sector.{Sector}
@@ -26,7 +28,7 @@ use Rattle.shards.specs.Even.{any-code, any-sectors}
 use Rattle.shelf.specs.Limits.{mostStages}
 use Rattle.shelf.specs.State.{moved}
 use Rattle.shelf.specs.Stage.{roundStage, fillStage, stageAt, stageOf}
-use Rattle.shelf.specs.Step.{isEnd, sound}
+use Rattle.shelf.specs.Step.{isEnd, onStage, sound, stepMove}
 use Rattle.shelf.specs.declared.state.State.{State}
 use Rattle.shelf.specs.declared.state.Kind.{Kind}
 use Rattle.shelf.specs.declared.state.Kind.the-variants.{Filling}
@@ -37,6 +39,8 @@ use Rattle.refine.specs.Fills.{Fillable}
 use Rattle.refine.specs.Lists.{Says, round-is}
 use Rattle.refine.specs.ToDo.{slotsFrom, rowsFrom, fillAt, refilled, underOf, actsOf, leftOf, toDo, stage-same, left-ended, fill-each, rebuilt-same}
 use Rattle.refine.specs.Steps.{Present, Tells, Can, Narrow, Fair, first-narrow}
+use Rattle.refine.specs.Tied.{ownOf, writeIn, writeMemory, memoryBy, memoryOf}
+use Rattle.refine.specs.Relabels.{TiedLabel, label-tied}
 
 -- ---- sectors in a row are strips in a row
 
@@ -163,3 +167,45 @@ module _ (z : Shelf) (s : State) (work img : List ℕ) (kind : s .kind ≡ Filli
         narrow = subst (Narrow (z .c) (stageOf s)) (sym first) (first-narrow z (s .absent) (underOf s) work (stageOf s) (c (s .cursor .stage)));
         stages = c;
       }
+
+  -- ---- the steps
+
+  -- what the program remembers: a label change under way
+  pub fill-memory : memoryOf z s work img ≡ doing labelling (toDo z s work img) (ownOf z s (s .now)) (ownOf z s (s .next))
+  unfolding memoryOf
+  fill-memory = ap (λ (k : Kind). memoryBy k z s (writeMemory z (writeIn z s work) s work (curOf z img)) (toDo z s work img)) kind
+
+  -- THE STEP OF A REBUILD is the program's
+  pub fill-tied : Fair z s work img → TiedLabel z (ownOf z s (s .now)) s work img (stepMove s work img)
+  fill-tied fair = label-tied z (ownOf z s (s .now)) s work img fair
+
+  -- what the work area has does not matter, if it has room
+  pub fill-work : (other : List ℕ) → slots z * (z .c * sectorBytes) ≤ length other → Fair z s work img → Fair z s other img
+  fill-work other room fair =
+      record {
+        in-range = fair .in-range;
+        ours-now = fair .ours-now;
+        disks = fair .disks;
+        narrow = fair .narrow;
+        stages =
+            λ i.
+            subst (λ (k : Kind). Can z (s .absent) (underOf s) work (stageAt k s i) → Can z (s .absent) (underOf s) other (stageAt k s i)) (sym kind)
+            (fill-each (λ x. Can z (s .absent) (underOf s) work x → Can z (s .absent) (underOf s) other x) (λ c. c) s (λ c. (c .0, again (c .1))) (λ c. c) (λ c. c) (λ c. c) i) (fair .stages i);
+      }
+    where
+      again : Fillable z (s .absent) (s .now) work (s .marks .redo) (s .now .mark) (s .marks .stripe) → Fillable z (s .absent) (s .now) other (s .marks .redo) (s .now .mark) (s .marks .stripe)
+      again f = record { here = f .here; out = f .out; mark = f .mark; some = f .some; within = f .within; few = f .few; dark = f .dark; room = room }
+
+-- and the same is left to do with any
+left-any-work : (z : Shelf) (work other : List ℕ) (f : Image Sector) (k : ℕ) (s : State) → s .kind ≡ Filling → leftOf z work f k s ≡ leftOf z other f k s
+unfolding leftOf
+left-any-work z work other f zero s kind = refl
+left-any-work z work other f (suc k) s kind =
+    ap₂ (λ (a l : List (Action Sector)). cond (isEnd (stageOf s)) [] (a ++ l))
+    (subst (λ (x : Kind). actsOf z (underOf s) work f (stageAt x s (s .cursor .stage)) (s .cursor .slot) (s .cursor .sector) ≡ actsOf z (underOf s) other f (stageAt x s (s .cursor .stage)) (s .cursor .slot) (s .cursor .sector)) (sym kind)
+    (fill-each (λ x. (d j : ℕ) → actsOf z (underOf s) work f x d j ≡ actsOf z (underOf s) other f x d j) (λ d j. refl) s (λ d j. refl) (λ d j. refl) (λ d j. refl) (λ d j. refl) (s .cursor .stage) (s .cursor .slot) (s .cursor .sector)))
+    (left-any-work z work other f k (onStage s) kind)
+
+pub fill-same : (z : Shelf) (s : State) (work other img : List ℕ) → s .kind ≡ Filling → toDo z s work img ≡ toDo z s other img
+unfolding toDo
+fill-same z s work other img kind = left-any-work z work other (curOf z img) mostStages s kind

@@ -22,6 +22,7 @@ pub mod WriteList
 pub mod Writes
 pub mod Relabels
 pub mod FillList
+pub mod OnBegins
 pub mod Requests
 pub mod Ends
 pub mod StartBegins
