@@ -4,12 +4,15 @@ use mathlib.Core.Path.{_≡_, refl, sym, ap, ap₂, subst, _∙_, fun-ext}
 use mathlib.Core.Logic.{inl}
 use mathlib.Core.Bool.{Bool, true, false, cond, not, _&&_, _||_, true≢false}
 use mathlib.Core.List.{List, [], _∷_, _++_}
-use Prim.Native.Nat.{ℕ, zero, suc, _+_, _-_, _*_, _≤_, _<_, _^_}
-use native.Mathlib.Nat.{mul-assoc}
+use Prim.Native.Nat.{ℕ, zero, suc, _+_, _-_, _*_, _/_, _%_, _≤_, _<_, _^_, max}
+use native.Mathlib.Nat.{mul-assoc, max-le, le-max-left}
 use native.Mathlib.Omega.{arith}
 use lib.Dec.{eqb, leb, ltb}
+use lib.Arith.{bin-ind}
+use lib.Bits.{bitOr, or-step}
+use lib.Count.{ones, onesIn, ones-step}
 use lib.ListN.{length}
-use borrow.Author.Tests.{lt-ltb, le-leb, ne-eqb, eqb-true, not-true}
+use borrow.Author.Tests.{lt-ltb, le-leb, ne-eqb, eqb-true, ltb-false, not-true}
 use Rattle.disk.specs.Limits.{sectorBytes, leastN, mostN, mostK, mostM}
 use Rattle.disk.specs.Tests.{and-left, and-right, both}
 use Rattle.disk.specs.Geometry.{inRangeWith, stripLength, stripesOf}
@@ -19,6 +22,7 @@ use Rattle.disk.specs.declared.refusal.Outcome.the-variants.{Done}
 use Rattle.label.specs.Fields.{noSlot, mostGeneration, geometryOf, rebuildFits, fitsOf}
 use Rattle.label.specs.declared.fields.Label as bytes
 use Rattle.label.proofs.Fits.{Fits, fits-says}
+use Rattle.label.proofs.Counts.{same-says}
 use Rattle.label.specs.Newest.{sameShelf}
 use Rattle.protocol.specs.World.{Action}
 use Rattle.protocol.specs.Count.{count-part}
@@ -30,10 +34,10 @@ use Rattle.protocol.specs.Even.{program-by}
 use Rattle.protocol.specs.Pairs.{no-sets}
 use Rattle.codecs.specs.Sector.{Sector}
 use Rattle.codecs.specs.Shelf.{Shelf, slots, geometry, size, limits, few-slots, strips-fit}
-use Rattle.codecs.specs.Labels.{labelOf, labels, ours}
+use Rattle.codecs.specs.Labels.{fieldsOf, noLabel, labelOf, labels, ours}
 use Rattle.codecs.specs.Records.{records}
 use Rattle.codecs.specs.Media.{stamps, medium}
-use Rattle.shards.specs.Quorum.{fewOf, few-count, count-few}
+use Rattle.shards.specs.Quorum.{fewOf, few-count, count-few, few-mask}
 use Rattle.shards.specs.Even.{any-code, any-sectors}
 use Rattle.shelf.specs.Act.{named}
 use Rattle.shelf.specs.Step.{sound}
@@ -62,6 +66,23 @@ none-of true b c e = absurd (true≢false e)
 none-of false true c e = absurd (true≢false e)
 none-of false false c e = (refl, refl, e)
 
+-- a mask has no more slots than with others
+ones-none : ones 0 ≡ 0
+unfolding ones onesIn
+ones-none = refl
+
+ones-or : (a b : ℕ) → ones a ≤ ones (bitOr a b)
+ones-or =
+    bin-ind (λ (n : ℕ). (b : ℕ) → ones n ≤ ones (bitOr n b)) (λ b. omega (arith, ones-none))
+    (λ n more b.
+    let h : ℕ = bitOr (n / 2) (b / 2) in
+    let x : ℕ = max (n % 2) (b % 2) in
+    let low : x ≤ 1 = max-le (omega arith) (omega arith) in
+    let whole : bitOr n b ≡ h * 2 + x = or-step n b in
+    let half : bitOr n b / 2 ≡ h = omega arith in
+    let odd : bitOr n b % 2 ≡ x = omega arith in
+    omega (arith, ones-step n, ones-step (bitOr n b), ap ones half, odd, le-max-left (n % 2) (b % 2), more (b / 2)))
+
 -- the label with the next generation fits each slot
 fits-next : (l : bytes.Label) (d out r mark : ℕ) → fitsOf l ≡ true → d < l .k + l .m → l .generation < mostGeneration → out < 2 ^ (l .k + l .m)
     → rebuildFits (named (nextLabel l out r mark) d) ≡ true → fitsOf (named (nextLabel l out r mark) d) ≡ true
@@ -78,7 +99,7 @@ fits-next l d out r mark e i more low rebuild =
     (both (ltb out (2 ^ (l .k + l .m))) _ (lt-ltb out (2 ^ (l .k + l .m)) low) rebuild))))))
 
 module _ (z : Shelf) (img : List ℕ) (disks : Disks z img) (s : State) (own : ours z (s .now) ≡ true) (b : ℕ) (work : List ℕ)
-    (ok : onAnswer (s .now) (s .kind) (s .absent) img (length work) ≡ Done) (below : s .now .mark < stripesOf (geometry z)) (few-out : fewOf z (inMask (s .now .out)) ≡ true)
+    (ok : onAnswer (s .now) (s .kind) (s .absent) img (length work) ≡ Done) (below : s .now .mark < stripesOf (geometry z))
     (dark : (d : ℕ) → d < slots z → inMask (s .absent) d ≡ true → looked (size z) (labelOf z (s .now)) d ≡ true → ⊥) where
   abbrev l : bytes.Label
   l = s .now
@@ -183,6 +204,15 @@ module _ (z : Shelf) (img : List ℕ) (disks : Disks z img) (s : State) (own : o
       by : (x : Bool) → inMask (s .absent) d ≡ x → x ≡ false
       by true q = absurd (dark d i q (belief (size z) Q .believe-look d u e))
       by false q = refl
+
+  m-is : l .m ≡ z .m
+  m-is = sym (same-says (fieldsOf z 0 (noLabel z)) l own .same-m)
+
+  few-out : fewOf z (inMask (l .out)) ≡ true
+  unfolding tooFew
+  few-out =
+      few-mask z (l .out) (subst (λ (n : ℕ). l .out < 2 ^ n) n-is (fits .out-below))
+      ∙ le-leb (ones (l .out)) (z .m) (omega (arith, m-is, ltb-false (l .m) (ones (bitOr (l .out) (s .absent))) (passed .enough), ones-or (l .out) (s .absent)))
 
   few-missing : (u : ℕ) → u < stripesOf (geometry z) → fewOf z (missing (size z) (no-sets (slots z)) (records z) (any-code z) Q u) ≡ true
   few-missing u hu =
@@ -314,14 +344,14 @@ module _ (z : Shelf) (img : List ℕ) (disks : Disks z img) (s : State) (own : o
       ap₂ (λ (x y : Bool). answer (size z) (no-sets (slots z)) (labels z) (records z) (any-code z) stamps (any-sectors z) (idle o) (first (record { why = BUSY; holds = false } ∷ record { why = NOT_NOW; holds = not x || not y } ∷ []))
       (asked-on (size z) (no-sets (slots z)) (labels z) (records z) (any-code z) stamps (any-sectors z) o (seenOf z A img) b) accepted) in-n left
 
--- A REBUILD THAT GOES ON, at rest: few slots are out, and no absent one is looked at, as the protocol's invariant has it
+-- A REBUILD THAT GOES ON, at rest: no absent slot is looked at, as the protocol's invariant has it
 pub on-begins : (z : Shelf) (img : List ℕ) → Disks z img → (s : State) → ours z (s .now) ≡ true → (b : ℕ) (work : List ℕ) → onOf s b img (length work) .outcome ≡ Done
-    → s .now .mark < stripesOf (geometry z) → fewOf z (inMask (s .now .out)) ≡ true → ((d : ℕ) → d < slots z → inMask (s .absent) d ≡ true → looked (size z) (labelOf z (s .now)) d ≡ true → ⊥)
+    → s .now .mark < stripesOf (geometry z) → ((d : ℕ) → d < slots z → inMask (s .absent) d ≡ true → looked (size z) (labelOf z (s .now)) d ≡ true → ⊥)
     → Fair z (onOf s b img (length work) .state) work img
     × (programOf z (idle (ownOf z s (s .now))) (curOf z img) (rebuild-on b) ≡ (memoryOf z (onOf s b img (length work) .state) work img, accepted))
-on-begins z img disks s own b work e below few dark =
+on-begins z img disks s own b work e below dark =
     let p = goes (onAnswer (s .now) (s .kind) (s .absent) img (length work)) s (wentOn s b img) e in
     subst (λ (x : State). Fair z x work img × (programOf z (idle (ownOf z s (s .now))) (curOf z img) (rebuild-on b) ≡ (memoryOf z x work img, accepted))) (sym (p .1)) (
-      on-fair z img disks s own b work (p .0) below few dark,
-      on-accepted z img disks s own b work (p .0) below few dark ∙ ap (λ (m : Memory Sector). (m, accepted)) (sym (on-asked z img disks s own b work (p .0) below few dark)),
+      on-fair z img disks s own b work (p .0) below dark,
+      on-accepted z img disks s own b work (p .0) below dark ∙ ap (λ (m : Memory Sector). (m, accepted)) (sym (on-asked z img disks s own b work (p .0) below dark)),
     )
