@@ -28,7 +28,7 @@ use Rattle.shelf.specs.declared.state.State.{State}
 use Rattle.shelf.specs.declared.state.Kind.{Kind}
 use Rattle.shelf.specs.declared.state.Kind.the-variants.{Creating, Starting, Labelling}
 use Rattle.refine.specs.Disks.{Disks}
-use Rattle.refine.specs.ToDo.{round-each, create-each, start-each, stampIn}
+use Rattle.refine.specs.ToDo.{round-each, create-each, start-each, underOf}
 use Rattle.refine.specs.Steps.{Present, Tells, Can, Narrow, Fair, first-narrow}
 use Rattle.refine.specs.Lists.{Says}
 use Rattle.refine.specs.Given.{shelf-geometry}
@@ -65,24 +65,24 @@ module _ (z : Shelf) (l : bytes.Label) (same : ours z l ≡ true) (fit : fitsOf 
 -- ---- requests
 
 module _ (z : Shelf) (s : State) (img : List ℕ) (in-range : sound s ≡ true) (ours-now : ours z (s .now) ≡ true) (disks : Disks z img) (first : s .cursor .sector ≡ 0) where
-  fair-by : (k : Kind) → s .kind ≡ k → ((i : ℕ) → Can z (s .absent) (stampIn s) [] (stageAt k s i)) → Fair z s [] img
+  fair-by : (k : Kind) → s .kind ≡ k → ((i : ℕ) → Can z (s .absent) (underOf s) [] (stageAt k s i)) → Fair z s [] img
   fair-by k e h =
-      let c : (i : ℕ) → Can z (s .absent) (stampIn s) [] (stageAt (s .kind) s i) = λ i. subst (λ (x : Kind). Can z (s .absent) (stampIn s) [] (stageAt x s i)) (sym e) (h i) in
+      let c : (i : ℕ) → Can z (s .absent) (underOf s) [] (stageAt (s .kind) s i) = λ i. subst (λ (x : Kind). Can z (s .absent) (underOf s) [] (stageAt x s i)) (sym e) (h i) in
       record {
         in-range = in-range;
         ours-now = ours-now;
         disks = disks;
-        narrow = subst (Narrow (z .c) (stageOf s)) (sym first) (first-narrow z (s .absent) (stampIn s) [] (stageOf s) (c (s .cursor .stage)));
+        narrow = subst (Narrow (z .c) (stageOf s)) (sym first) (first-narrow z (s .absent) (underOf s) [] (stageOf s) (c (s .cursor .stage)));
         stages = c;
       }
 
   -- CREATE
   pub create-fair : s .kind ≡ Creating → Present z (s .absent) (s .marks .present) → Tells z (s .next) → Fair z s [] img
-  create-fair e p t = fair-by Creating e (create-each (Can z (s .absent) (stampIn s) []) tt s p (p, t))
+  create-fair e p t = fair-by Creating e (create-each (Can z (s .absent) (underOf s) []) tt s p (p, t))
 
   -- A LABEL CHANGE
   pub change-fair : s .kind ≡ Labelling → Present z (s .absent) (s .marks .present) → Tells z (s .next) → Fair z s [] img
-  change-fair e p t = fair-by Labelling e (round-each (Can z (s .absent) (stampIn s) []) tt (s .marks .present) (s .next) (p, t) p)
+  change-fair e p t = fair-by Labelling e (round-each (Can z (s .absent) (underOf s) []) tt (s .marks .present) (s .next) (p, t) p)
 
   -- START-UP
   module _ (A : ℕ → Bool) (h : Starts z A img s) (absent : Says z (s .absent) A) where
@@ -137,7 +137,7 @@ module _ (z : Shelf) (s : State) (img : List ℕ) (in-range : sound s ≡ true) 
         let prep = present-by (s .marks .prep) (readies z A img) (h .prep) readies-there in
         let next = tells z (s .next) ours-next fit-next in
         fair-by Starting (h .kind)
-        (start-each (Can z (s .absent) (stampIn s) []) tt s
+        (start-each (Can z (s .absent) (underOf s) []) tt s
         present parts prep late (redo-there .0)
         (parts, tells z (s .now) ours-now fit-now)
         (parts, tells-again z (s .now) ours-now fit-now (s .now .generation + 1) (omega arith) high)

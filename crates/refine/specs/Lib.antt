@@ -11,6 +11,7 @@ pub mod Given
 pub mod Keeps
 pub mod ToDo
 pub mod Restored
+pub mod Fills
 pub mod Steps
 pub mod Lists
 pub mod StartList
@@ -20,6 +21,8 @@ pub mod Asked
 pub mod WriteList
 pub mod Writes
 pub mod Relabels
+pub mod FillList
+pub mod OnBegins
 pub mod Requests
 pub mod BeginAsked
 pub mod BeginBegins

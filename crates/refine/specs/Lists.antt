@@ -34,7 +34,7 @@ use Rattle.shelf.specs.declared.stage.Stage.{Stage}
 use Rattle.shelf.specs.declared.stage.Stage.the-variants.{Flush, Give}
 use Rattle.refine.specs.Disks.{curOf}
 use Rattle.refine.specs.Start.{slots-same}
-use Rattle.refine.specs.ToDo.{slotsFrom, given, stampIn, actsOf, leftOf, toDo, stage-same, left-ended, left-at}
+use Rattle.refine.specs.ToDo.{slotsFrom, given, underOf, actsOf, leftOf, toDo, stage-same, left-ended, left-at}
 
 -- ---- a mask that says what a test says
 
@@ -63,28 +63,28 @@ module _ (z : Shelf) (s : State) (img : List ℕ) where
       ap (leftOf z [] F mostStages)
       (λ i. record { now = s .now; next = s .next; absent = s .absent; epoch = s .epoch; count = s .count; marks = s .marks; kind = s .kind; cursor = e i })
 
-  pub staged : (i : ℕ) (x : Stage) → stageAt (s .kind) s i ≡ x → isEnd x ≡ false → from-stage i ≡ actsOf z (stampIn s) [] F x 0 0 ++ from-stage (i + 1)
+  pub staged : (i : ℕ) (x : Stage) → stageAt (s .kind) s i ≡ x → isEnd x ≡ false → from-stage i ≡ actsOf z (underOf s) [] F x 0 0 ++ from-stage (i + 1)
   staged i x e o =
       let q : stageOf (moved s i 0 0) ≡ x = stage-same (s .kind) s i 0 0 i ∙ e in
-      left-at z [] F mostStages (moved s i 0 0) 0 0 (ap isEnd q ∙ o) (omega arith) ∙ ap (λ (y : Stage). actsOf z (stampIn s) [] F y 0 0 ++ from-stage (i + 1)) q
+      left-at z [] F mostStages (moved s i 0 0) 0 0 (ap isEnd q ∙ o) (omega arith) ∙ ap (λ (y : Stage). actsOf z (underOf s) [] F y 0 0 ++ from-stage (i + 1)) q
 
   pub over : (i : ℕ) → isEnd (stageAt (s .kind) s i) ≡ true → from-stage i ≡ []
   over i e = left-ended z [] F (mostStages - 1) (moved s i 0 0) (ap isEnd (stage-same (s .kind) s i 0 0 i) ∙ e)
 
   -- A ROUND: a label to each slot of a mask, then a flush of each
   module _ (mask : ℕ) (p : ℕ → Bool) (says : Says z mask p) where
-    pub flush-is : actsOf z (stampIn s) [] F (Flush mask) 0 0 ≡ actions (batch-of (flush-phase (labels z) (records z) (slots z) p))
+    pub flush-is : actsOf z (underOf s) [] F (Flush mask) 0 0 ≡ actions (batch-of (flush-phase (labels z) (records z) (slots z) p))
     flush-is = ap (λ (ds : List ℕ). flushes ds) (slots-are z mask p says)
 
     told-is : (l : bytes.Label) → given z 0 l ≡ told (labels z) (labelOf z l)
     told-is l = fun-ext (λ k. ap (λ (b : Bool). cond b zeros (encodeLabel z (slot k) (labelOf z l))) (in-past 0 0 (slot k) (omega arith) (omega arith)))
 
     pub round-is : (l : bytes.Label) (L : Label) → labelOf z l ≡ L → (rest : List (Action Sector))
-        → actsOf z (stampIn s) [] F (Give mask 0 l) 0 0 ++ (actsOf z (stampIn s) [] F (Flush mask) 0 0 ++ rest) ≡ actions (batch-of (label-phase (labels z) (records z) L (slots z) p)) ++ rest
+        → actsOf z (underOf s) [] F (Give mask 0 l) 0 0 ++ (actsOf z (underOf s) [] F (Flush mask) 0 0 ++ rest) ≡ actions (batch-of (label-phase (labels z) (records z) L (slots z) p)) ++ rest
     round-is l L e rest =
         let ds = slotsFrom (slots z) mask 0 in
         let q = slots-are z mask p says in
-        sym (append-assoc (actsOf z (stampIn s) [] F (Give mask 0 l) 0 0) (flushes ds) rest)
+        sym (append-assoc (actsOf z (underOf s) [] F (Give mask 0 l) 0 0) (flushes ds) rest)
         ∙ (λ i. (puts (told-is l i) (rows (there (labels z) (labelOf z l)) (0 ∷ []) ds) ++ flushes ds) ++ rest)
         ∙ (λ i. (puts (told (labels z) (e i)) (rows (there (labels z) (e i)) (0 ∷ []) (q i)) ++ flushes (q i)) ++ rest)
 
@@ -92,7 +92,7 @@ module _ (z : Shelf) (s : State) (img : List ℕ) where
     pub round-staged : (i : ℕ) (l : bytes.Label) (L : Label) → labelOf z l ≡ L → stageAt (s .kind) s i ≡ Give mask 0 l → stageAt (s .kind) s (i + 1) ≡ Flush mask
         → from-stage i ≡ actions (batch-of (label-phase (labels z) (records z) L (slots z) p)) ++ from-stage (i + 1 + 1)
     round-staged i l L e a b =
-        staged i (Give mask 0 l) a refl ∙ ap (λ (r : List (Action Sector)). actsOf z (stampIn s) [] F (Give mask 0 l) 0 0 ++ r) (staged (i + 1) (Flush mask) b refl)
+        staged i (Give mask 0 l) a refl ∙ ap (λ (r : List (Action Sector)). actsOf z (underOf s) [] F (Give mask 0 l) 0 0 ++ r) (staged (i + 1) (Flush mask) b refl)
         ∙ round-is l L e (from-stage (i + 1 + 1))
 
   module _ (zero-cursor : s .cursor ≡ record { stage = 0; slot = 0; sector = 0 }) where

@@ -57,7 +57,7 @@ use Rattle.refine.specs.Family.{Family}
 use Rattle.refine.specs.Disks.{Disks, curOf, seenOf}
 use Rattle.refine.specs.Rounds.{beyond-below}
 use Rattle.refine.specs.Keeps.{Works, keptAt, keptByte, keptStrip}
-use Rattle.refine.specs.ToDo.{stampIn, leftOf, toDo}
+use Rattle.refine.specs.ToDo.{underOf, leftOf, toDo}
 use Rattle.refine.specs.Steps.{Can, Fair}
 use Rattle.refine.specs.Tied.{ownOf, ownBefore, writeIn, writeMemory, memoryBy, memoryWith, memoryOf, plain, programOf}
 use Rattle.refine.specs.WriteList.{strip-same}
@@ -314,7 +314,7 @@ module _ (z : Shelf) (F : Family z) (first-one : Machine Sector) (p : View Secto
           lt-leb h = lt-leb-false 2 (s .cursor .stage) h
 
       works : Works z work
-      works = subst (λ (k : Kind). Can z (s .absent) (stampIn s) work (stageAt k s 2)) (t .writes .kind) (t .fair .stages 2) .2
+      works = subst (λ (k : Kind). Can z (s .absent) (underOf s) work (stageAt k s 2)) (t .writes .kind) (t .fair .stages 2) .2
 
       same-over : (x : Bool) → eqb (s .marks .stripe) T ≡ x → (d : ℕ) → d < slots z → Label.believed (size z) (labelOf z (s .now)) d T ≡ true → inMask (cond x (s .marks .redo) 0) d ≡ (eqb T (u .stripe) && u .changes d)
       same-over true e d h y =

@@ -34,7 +34,7 @@ use Rattle.shelf.specs.declared.stage.Stage.{Stage}
 use Rattle.shelf.specs.declared.stage.Stage.the-variants.{Flush, Give, Clear, Erase}
 use Rattle.refine.specs.Disks.{Disks, curOf}
 use Rattle.refine.specs.Lists.{Says, slots-are}
-use Rattle.refine.specs.ToDo.{slotsFrom, toldAt, copyAt, given, rows-fresh, stampIn, actsOf, leftOf, toDo, stage-same, left-ended, begin-each}
+use Rattle.refine.specs.ToDo.{slotsFrom, toldAt, copyAt, given, rows-fresh, underOf, actsOf, leftOf, toDo, stage-same, left-ended, begin-each}
 use Rattle.refine.specs.Steps.{Present, Tells, Can, Narrow, Fair, Does, first-narrow, step-does}
 use Rattle.refine.specs.Tied.{ownOf, Same, programOf}
 
@@ -133,7 +133,7 @@ module _ (z : Shelf) where
   module _ (s : State) (work img : List ℕ) (kind : s .kind ≡ Beginning) where
     -- what a stage does, from its first slot on
     abbrev pub X : Stage → List (Action Sector)
-    X x = actsOf z (stampIn s) work (curOf z img) x 0 0
+    X x = actsOf z (underOf s) work (curOf z img) x 0 0
 
     stage-is : (i : ℕ) → stageOf (moved s i 0 0) ≡ beginStage s i
     stage-is i = stage-same (s .kind) s i 0 0 i ∙ ap (λ (k : Kind). stageAt k s i) kind
@@ -232,13 +232,13 @@ module _ (z : Shelf) where
     pub begin-fair : sound s ≡ true → ours z (s .now) ≡ true → Disks z img → s .cursor .sector ≡ 0 → Present z (s .absent) (s .marks .redo) → Present z (s .absent) (s .marks .parts) → Present z (s .absent) (s .marks .late)
         → Present z (s .absent) (s .marks .prep) → Present z (s .absent) (s .marks .present) → Tells z (s .now) → Tells z (s .next) → Fair z s work img
     begin-fair in-range ours-now disks first redo parts late prep present now next =
-        let c : (i : ℕ) → Can z (s .absent) (stampIn s) work (stageAt (s .kind) s i) =
-        λ i. subst (λ (k : Kind). Can z (s .absent) (stampIn s) work (stageAt k s i)) (sym kind)
-        (begin-each (Can z (s .absent) (stampIn s) work) tt s redo parts late prep present parts late redo (prep, now) (present, next) i) in
+        let c : (i : ℕ) → Can z (s .absent) (underOf s) work (stageAt (s .kind) s i) =
+        λ i. subst (λ (k : Kind). Can z (s .absent) (underOf s) work (stageAt k s i)) (sym kind)
+        (begin-each (Can z (s .absent) (underOf s) work) tt s redo parts late prep present parts late redo (prep, now) (present, next) i) in
         record {
           in-range = in-range;
           ours-now = ours-now;
           disks = disks;
-          narrow = subst (Narrow (z .c) (stageOf s)) (sym first) (first-narrow z (s .absent) (stampIn s) work (stageOf s) (c (s .cursor .stage)));
+          narrow = subst (Narrow (z .c) (stageOf s)) (sym first) (first-narrow z (s .absent) (underOf s) work (stageOf s) (c (s .cursor .stage)));
           stages = c;
         }

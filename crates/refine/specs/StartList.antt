@@ -40,7 +40,7 @@ use Rattle.shelf.specs.declared.state.Kind.the-variants.{Starting}
 use Rattle.shelf.specs.declared.stage.Stage.{Stage}
 use Rattle.shelf.specs.declared.stage.Stage.the-variants.{Flush, Give, Wipe, Restore}
 use Rattle.refine.specs.Disks.{curOf, seenOf, seen-present}
-use Rattle.refine.specs.ToDo.{slotsFrom, tailAt, rowsFrom, restored, stampIn, actsOf, toDo, rows-fresh, stage-over}
+use Rattle.refine.specs.ToDo.{slotsFrom, tailAt, rowsFrom, restored, underOf, actsOf, toDo, rows-fresh, stage-over}
 use Rattle.refine.specs.Lists.{Says, slots-are, from-stage, begun, staged, over, flush-is, round-staged}
 
 module _ (z : Shelf) (A : ℕ → Bool) (img : List ℕ) where
@@ -135,12 +135,12 @@ module _ (z : Shelf) (A : ℕ → Bool) (img : List ℕ) (s : State) (h : Starts
 
   -- PREP: its slots, and zeros or the label there
   prep-is : (rest : List (Action Sector))
-      → actsOf z (stampIn s) [] F (Give (s .marks .prep) (s .marks .zeroed) (Stage.again (s .next) (s .now .generation + 1))) 0 0 ++ (actsOf z (stampIn s) [] F (Flush (s .marks .prep)) 0 0 ++ rest)
+      → actsOf z (underOf s) [] F (Give (s .marks .prep) (s .marks .zeroed) (Stage.again (s .next) (s .now .generation + 1))) 0 0 ++ (actsOf z (underOf s) [] F (Flush (s .marks .prep)) 0 0 ++ rest)
       ≡ actions (batch-of (prep-phase (labels z) (records z) f g N (slots z) (adopts z A img))) ++ rest
   prep-is rest =
       let l = Stage.again (s .next) (s .now .generation + 1) in
       let q = slots-are z (s .marks .prep) (readies z A img) (h .prep) in
-      sym (append-assoc (actsOf z (stampIn s) [] F (Give (s .marks .prep) (s .marks .zeroed) l) 0 0) (flushes (slotsFrom (slots z) (s .marks .prep) 0)) rest)
+      sym (append-assoc (actsOf z (underOf s) [] F (Give (s .marks .prep) (s .marks .zeroed) l) 0 0) (flushes (slotsFrom (slots z) (s .marks .prep) 0)) rest)
       ∙ (λ i. (puts (λ k. cond (inMask (s .marks .zeroed) (slot k)) zeros (encodeLabel z (slot k) (again-is (s .next) N (h .next) i))) (rows (λ d j. label d (sideOf (g-is i))) (0 ∷ []) (q i)) ++ flushes (q i)) ++ rest)
       ∙ ap (λ (a : List (Action Sector)). (a ++ flushes (keep (readies z A img) (from 0 (slots z)))) ++ rest)
       (puts-same (λ k. cond (inMask (s .marks .zeroed) (slot k)) zeros (encodeLabel z (slot k) (again N g))) (prep-value (labels z) f g N) (rows (λ d j. label d (sideOf g)) (0 ∷ []) (keep (readies z A img) (from 0 (slots z))))
@@ -172,11 +172,11 @@ module _ (z : Shelf) (A : ℕ → Bool) (img : List ℕ) (s : State) (h : Starts
       ap₂ (λ (x y : Sector). pieceOf z x y j) (sym (seen-present z A img (log d (z .c)) a)) (sym (seen-present z A img (log d j) a))
 
   -- stages 11 and 12
-  log-stages : (x : Stage) → startStage s 11 ≡ x → isEnd x ≡ false → from-stage z s img 11 ≡ actsOf z (stampIn s) [] F x 0 0 ++ flushes (slotsFrom (slots z) (s .marks .redo) 0)
+  log-stages : (x : Stage) → startStage s 11 ≡ x → isEnd x ≡ false → from-stage z s img 11 ≡ actsOf z (underOf s) [] F x 0 0 ++ flushes (slotsFrom (slots z) (s .marks .redo) 0)
   unfolding startStage lateStage
   log-stages x e o =
       staged z s img 11 x (at 11 ∙ e) o
-      ∙ ap (λ (l : List (Action Sector)). actsOf z (stampIn s) [] F x 0 0 ++ l)
+      ∙ ap (λ (l : List (Action Sector)). actsOf z (underOf s) [] F x 0 0 ++ l)
       (staged z s img 12 (Flush (s .marks .redo)) (at 12) refl ∙ ap (λ (l : List (Action Sector)). flushes (slotsFrom (slots z) (s .marks .redo) 0) ++ l) (over z s img 13 (stage-over (s .kind) s 13 (omega arith))) ∙ append-nil (flushes (slotsFrom (slots z) (s .marks .redo) 0)))
 
   redo-stage : (b : Bool) → s .marks .forward ≡ b → startStage s 11 ≡ cond b (Restore (s .marks .redo) (s .marks .stripe)) (Wipe (s .marks .redo))
@@ -246,7 +246,7 @@ module _ (z : Shelf) (A : ℕ → Bool) (img : List ℕ) (s : State) (h : Starts
   prep-stages =
       let x = Give (s .marks .prep) (s .marks .zeroed) (Stage.again (s .next) (s .now .generation + 1)) in
       staged z s img 7 x (at 7) refl
-      ∙ ap (λ (l : List (Action Sector)). actsOf z (stampIn s) [] F x 0 0 ++ l) (staged z s img 8 (Flush (s .marks .prep)) (at 8) refl)
+      ∙ ap (λ (l : List (Action Sector)). actsOf z (underOf s) [] F x 0 0 ++ l) (staged z s img 8 (Flush (s .marks .prep)) (at 8) refl)
       ∙ prep-is (from-stage z s img 9)
 
   -- START-UP: flushes of all present slots, then what the protocol makes of what it sees

@@ -4,7 +4,7 @@ use mathlib.Core.Path.{_≡_, refl, sym, ap, ap₂, subst, _∙_}
 use mathlib.Core.Logic.{⊎-elim}
 use mathlib.Core.Bool.{Bool, true, false, cond, false≢true}
 use mathlib.Core.List.{List, [], _∷_, _++_}
-use Prim.Native.Nat.{ℕ, zero, suc, _+_, _-_, _≤_, _<_, _%_, _^_}
+use Prim.Native.Nat.{ℕ, zero, suc, _+_, _-_, _*_, _≤_, _<_, _/_, _%_, _^_}
 use native.Mathlib.Omega.{arith}
 use lib.Dec.{ltb, leb}
 use lib.ListN.{length, replicate}
@@ -23,19 +23,22 @@ use Rattle.disk.specs.declared.refusal.Outcome.the-variants as outcome
 use Rattle.label.specs.Fields.{fitsOf}
 use Rattle.label.specs.Bytes.{sealed}
 use Rattle.label.specs.declared.fields.Label as bytes
-use Rattle.record.specs.declared.stamp.Stamp.{Stamp}
 use Rattle.protocol.specs.World.{Place, log, strip, slot, Image, update, update-other, Action, put, flush}
 use Rattle.protocol.specs.Batch.{puts, flushes}
 use Rattle.protocol.specs.Slots.{rows}
 use Rattle.protocol.specs.Write.{logged, stored}
+use Rattle.protocol.specs.Label as Label
+use Rattle.protocol.specs.Host as Host
+use Rattle.protocol.specs.Pairs.{no-sets}
 use Rattle.codecs.specs.Sector.{Sector, zeros}
-use Rattle.codecs.specs.Shelf.{Shelf, slots, geometry, limits, some-sectors, in-limits}
-use Rattle.codecs.specs.Labels.{sideOf, ours}
+use Rattle.codecs.specs.Shelf.{Shelf, slots, geometry, size, limits, some-sectors, in-limits}
+use Rattle.codecs.specs.Labels.{sideOf, ours, labelOf}
 use Rattle.codecs.specs.Records.{counts, stampNumber, records}
+use Rattle.shards.specs.Even.{any-code}
 use Rattle.shelf.specs.Limits.{mostStages}
 use Rattle.shelf.specs.State.{moved}
 use Rattle.shelf.specs.Stage.{slotsOf, stageAt, stageOf}
-use Rattle.shelf.specs.Act.{Move, onward, refuses, named, byOutcome, putMove, flushMove, giveMove, wipeMove, byStrip, byRestored, restoreMove, byLogged, logMove, byStored, storeMove, clearMove, eraseMove, actMove}
+use Rattle.shelf.specs.Act.{Move, inStrips, byRebuilt, fillMove, onward, refuses, named, byOutcome, putMove, flushMove, giveMove, wipeMove, byStrip, byRestored, restoreMove, byLogged, logMove, byStored, storeMove, clearMove, eraseMove, actMove}
 use Rattle.shelf.specs.Step.{seek, isEnd, finished, onStage, nextSlot, walk, keeps, underWay, sound, stepMove}
 use Rattle.shelf.specs.Says.{when, unless, step-goes}
 use Rattle.shelf.specs.Bound.{widthOf}
@@ -50,8 +53,9 @@ use Rattle.refine.specs.Disks.{Disks, curOf, image-fits, disks-put, cur-
 use Rattle.refine.specs.Restored.{restores, piece-is}
 use Rattle.refine.specs.Given.{sealed-is, shelf-geometry}
 use Rattle.refine.specs.Keeps.{keptStrip, keptWrite, Works, kept-part, record-is, can-log}
+use Rattle.refine.specs.Fills.{Fillable, not-believed, fill-some, fill-short, at-stripe, at-sector, in-strips, fill-sector, sector-rebuilt, can-rebuild}
 use Rattle.refine.specs.ToDo as ToDo
-use Rattle.refine.specs.ToDo.{slotsFrom, toldAt, tailAt, copyAt, told-sector, tail-sector, copy-sector, given-zeros, given-label, rowsFrom, given, restored, stampIn, actsOf, leftOf, toDo, Next, next-slot, slots-here, rows-fresh, rows-next, rows-last, stage-same, stage-over, Redoes, redoes, Alike, left-same, left-at}
+use Rattle.refine.specs.ToDo.{slotsFrom, toldAt, tailAt, copyAt, told-sector, tail-sector, copy-sector, given-zeros, given-label, rowsFrom, given, restored, fillAt, refilled, stampIn, Under, underOf, actsOf, leftOf, toDo, Next, next-slot, slots-here, rows-fresh, rows-next, rows-last, stage-same, stage-over, Redoes, redoes, fills, Refills, refills, Alike, alike-same, left-same, left-at}
 
 -- ---- a state in order
 
@@ -69,16 +73,16 @@ abbrev pub Striped : Shelf → ℕ → ℕ → Type 0
 Striped z mask t = (d : ℕ) → d < slots z → inMask mask d ≡ true → t < stripesOf (geometry z)
 
 -- what a stage asks of its slots, its label, its stripe, its stamp and the work area
-abbrev pub Can : Shelf → ℕ → Stamp → List ℕ → Stage → Type 0
+abbrev pub Can : Shelf → ℕ → Under → List ℕ → Stage → Type 0
 Can z absent a work (Flush mask) = Present z absent mask
 Can z absent a work (Give mask zeroed l) = Present z absent mask × Tells z l
 Can z absent a work (Wipe mask) = Present z absent mask
 Can z absent a work (Restore mask t) = Present z absent mask × Striped z mask t
-Can z absent a work (Log mask t shards) = Present z absent mask × Striped z mask t × (shards < 2 ^ slots z) × (a .count < counts) × Works z work
+Can z absent a work (Log mask t shards) = Present z absent mask × Striped z mask t × (shards < 2 ^ slots z) × (a .stamp .count < counts) × Works z work
 Can z absent a work (Store mask t) = Present z absent mask × Striped z mask t × Works z work
 Can z absent a work (Clear mask) = Present z absent mask
 Can z absent a work (Erase mask odd) = Present z absent mask
-Can z absent a work (Fill mask first count) = ⊥
+Can z absent a work (Fill mask first count) = Present z absent mask × Fillable z absent (a .now) work mask first count
 Can z absent a work End = Unit {0}
 
 -- sector j is one of those that a stage does on a slot
@@ -91,10 +95,10 @@ pub record Fair (z : Shelf) (s : State) (work img : List ℕ) : Type 0 where
   pub ours-now : ours z (s .now) ≡ true
   pub disks : Disks z img
   pub narrow : Narrow (z .c) (stageOf s) (s .cursor .sector)
-  pub stages : (i : ℕ) → Can z (s .absent) (stampIn s) work (stageAt (s .kind) s i)
+  pub stages : (i : ℕ) → Can z (s .absent) (underOf s) work (stageAt (s .kind) s i)
 
 -- every stage that can be carried out has a first sector, and few
-module _ (z : Shelf) (absent : ℕ) (a : Stamp) (work : List ℕ) where
+module _ (z : Shelf) (absent : ℕ) (a : Under) (work : List ℕ) where
   pub first-narrow : (x : Stage) → Can z absent a work x → Narrow (z .c) x 0
   first-narrow (Flush mask) h o = omega arith
   first-narrow (Give mask zeroed l) h o = omega arith
@@ -104,7 +108,7 @@ module _ (z : Shelf) (absent : ℕ) (a : Stamp) (work : List ℕ) where
   first-narrow (Store mask t) h o = some-sectors z
   first-narrow (Clear mask) h o = omega arith
   first-narrow (Erase mask odd) h o = omega arith
-  first-narrow (Fill mask first count) h o = absurd h
+  first-narrow (Fill mask first count) h o = fill-some z absent (a .now) work mask first count (h .1)
   first-narrow End h o = absurd (false≢true (sym o))
 
   few-wide : (x : Stage) → Can z absent a work x → widthOf x (z .c) < z .sectors
@@ -116,7 +120,7 @@ module _ (z : Shelf) (absent : ℕ) (a : Stamp) (work : List ℕ) where
   few-wide (Store mask t) h = omega (arith, limits z .0 .room)
   few-wide (Clear mask) h = omega (arith, limits z .0 .room)
   few-wide (Erase mask odd) h = omega (arith, limits z .0 .room)
-  few-wide (Fill mask first count) h = absurd h
+  few-wide (Fill mask first count) h = fill-short z absent (a .now) work mask first count (h .1)
   few-wide End h = omega (arith, limits z .0 .room)
 
 -- ---- what a step is to be, for a list of what is left
@@ -190,7 +194,7 @@ module _ (z : Shelf) (s : State) (work img : List ℕ) (fair : Fair z s work img
   some-disk = omega (arith, limits z .0 .room)
 
   narrow-at : (i : ℕ) → Narrow (z .c) (stageAt (s .kind) s i) 0
-  narrow-at i = first-narrow z (s .absent) (stampIn s) work (stageAt (s .kind) s i) (fair .stages i)
+  narrow-at i = first-narrow z (s .absent) (underOf s) work (stageAt (s .kind) s i) (fair .stages i)
 
   -- with another cursor in range, on another image of this shelf
   fair-moved : (to : List ℕ) → Disks z to → (i d j : ℕ) → i ≤ mostStages → j < z .sectors → Narrow (z .c) (stageAt (s .kind) s i) j → Fair z (moved s i d j) work to
@@ -203,7 +207,7 @@ module _ (z : Shelf) (s : State) (work img : List ℕ) (fair : Fair z s work img
         ours-now = fair .ours-now;
         disks = disks;
         narrow = subst (λ (x : Stage). Narrow (z .c) x j) (sym (stage-same (s .kind) s i d j i)) n;
-        stages = λ e. subst (Can z (s .absent) (stampIn s) work) (sym (stage-same (s .kind) s i d j e)) (fair .stages e);
+        stages = λ e. subst (Can z (s .absent) (underOf s) work) (sym (stage-same (s .kind) s i d j e)) (fair .stages e);
       }
 
   -- the state after one of `count` sectors was put on slot d
@@ -214,7 +218,7 @@ module _ (z : Shelf) (s : State) (work img : List ℕ) (fair : Fair z s work img
       by : (b : Bool) → ltb (s .cursor .sector + 1) count ≡ b → Fair z (cond b (moved s (s .cursor .stage) d (s .cursor .sector + 1)) (moved s (s .cursor .stage) (d + 1) 0)) work to
       by true e =
           let h = ltb-true (s .cursor .sector + 1) count e in
-          fair-moved to disks (s .cursor .stage) d (s .cursor .sector + 1) staged (omega (arith, h, few-wide z (s .absent) (stampIn s) work (stageOf s) (fair .stages (s .cursor .stage)))) (λ o. omega (arith, h))
+          fair-moved to disks (s .cursor .stage) d (s .cursor .sector + 1) staged (omega (arith, h, few-wide z (s .absent) (underOf s) work (stageOf s) (fair .stages (s .cursor .stage)))) (λ o. omega (arith, h))
       by false e = fair-moved to disks (s .cursor .stage) (d + 1) 0 staged some-disk (narrow-at (s .cursor .stage))
 
   onward-kept : (d count : ℕ) → Moved s (onward s d count)
@@ -277,17 +281,17 @@ module _ (z : Shelf) (s : State) (work img : List ℕ) (fair : Fair z s work img
     R = leftOf z work F k (onStage s)
 
     -- what is left from slot d, sector j of this stage on, on an image with the same records
-    left-then : (x : Stage) → stageOf s ≡ x → (g : Image Sector) → Alike z s F g → (d j : ℕ) → leftOf z work g mostStages (moved s (s .cursor .stage) d j) ≡ actsOf z (stampIn s) work F x d j ++ R
+    left-then : (x : Stage) → stageOf s ≡ x → (g : Image Sector) → Alike z s F g → (d j : ℕ) → leftOf z work g mostStages (moved s (s .cursor .stage) d j) ≡ actsOf z (underOf s) work F x d j ++ R
     unfolding Alike
     left-then x e g h d j =
         left-same z work F g mostStages (moved s (s .cursor .stage) d j) h ∙ left-at z work F k s d j more enough
-        ∙ ap (λ (y : Stage). actsOf z (stampIn s) work F y d j ++ R) e
+        ∙ ap (λ (y : Stage). actsOf z (underOf s) work F y d j ++ R) e
 
-    left-once : (x : Stage) → stageOf s ≡ x → (g : Image Sector) → Alike z s F g → (d : ℕ) → leftOf z work g mostStages (onward s d 1) ≡ actsOf z (stampIn s) work F x (d + 1) 0 ++ R
+    left-once : (x : Stage) → stageOf s ≡ x → (g : Image Sector) → Alike z s F g → (d : ℕ) → leftOf z work g mostStages (onward s d 1) ≡ actsOf z (underOf s) work F x (d + 1) 0 ++ R
     left-once x e g h d = ap (leftOf z work g mostStages) (once d) ∙ left-then x e g h (d + 1) 0
 
-    can : (x : Stage) → stageOf s ≡ x → Can z (s .absent) (stampIn s) work x
-    can x e = subst (Can z (s .absent) (stampIn s) work) e (fair .stages (s .cursor .stage))
+    can : (x : Stage) → stageOf s ≡ x → Can z (s .absent) (underOf s) work x
+    can x e = subst (Can z (s .absent) (underOf s) work) e (fair .stages (s .cursor .stage))
 
     -- so many sectors are within a stage
     within-stage : (x : Stage) → stageOf s ≡ x → (n : ℕ) → n ≤ widthOf x (z .c) → n ≤ widthOf (stageOf s) (z .c)
@@ -296,6 +300,10 @@ module _ (z : Shelf) (s : State) (work img : List ℕ) (fair : Fair z s work img
     -- a stage that changes a record: then none is restored
     none-restored : (x : Stage) → stageOf s ≡ x → Redoes (ToDo.restores (s .kind) (s .marks .forward)) x
     none-restored x e = subst (Redoes (ToDo.restores (s .kind) (s .marks .forward))) e (redoes (s .kind) s (s .cursor .stage))
+
+    -- one that changes a strip: then none is rebuilt
+    none-refilled : (x : Stage) → stageOf s ≡ x → Refills (fills (s .kind)) x
+    none-refilled x e = subst (Refills (fills (s .kind))) e (refills (s .kind) s (s .cursor .stage))
 
     -- the slot that a mask has next
     abbrev D : ℕ → ℕ
@@ -316,7 +324,7 @@ module _ (z : Shelf) (s : State) (work img : List ℕ) (fair : Fair z s work img
     some-each mk value mask h r q = not-none (sym (ap (λ (ds : List ℕ). puts value (rows mk (0 ∷ []) ds) ++ r) (h .first)) ∙ q)
 
     acts-some : (x : Stage) → stageOf s ≡ x → isEnd x ≡ false → Has (slotsOf x) → (r : List (Action Sector))
-        → actsOf z (stampIn s) work F x (s .cursor .slot) (s .cursor .sector) ++ r ≡ [] → ⊥
+        → actsOf z (underOf s) work F x (s .cursor .slot) (s .cursor .sector) ++ r ≡ [] → ⊥
     acts-some (Flush mask) e o h r q = not-none (sym (ap (λ (ds : List ℕ). flushes ds ++ r) (h .first)) ∙ q)
     acts-some (Give mask zeroed l) e o h r q = some-each (toldAt l) (given z zeroed l) mask h r q
     acts-some (Wipe mask) e o h r q = some-each (tailAt z) (λ k. zeros) mask h r q
@@ -326,7 +334,8 @@ module _ (z : Shelf) (s : State) (work img : List ℕ) (fair : Fair z s work img
     acts-some (Store mask t) e o h r q = some-rows (λ d i. strip d t i) (z .c) (stored (records z) (keptStrip z work t)) mask h (within (Store mask t) e refl) r q
     acts-some (Clear mask) e o h r q = some-rows log (z .c + 1) (λ k. zeros) mask h (within (Clear mask) e refl) r q
     acts-some (Erase mask odd) e o h r q = some-each (copyAt odd) (λ k. zeros) mask h r q
-    acts-some (Fill mask first count) e o h r q = absurd (can (Fill mask first count) e)
+    acts-some (Fill mask first count) e o h r q =
+        some-rows (fillAt z first) (count * z .c) (refilled z (s .now) F) mask h (within (Fill mask first count) e refl) r q
     acts-some End e o h r q = absurd (false≢true (sym o))
 
     -- so it is the first that has
@@ -343,10 +352,10 @@ module _ (z : Shelf) (s : State) (work img : List ℕ) (fair : Fair z s work img
         from zero l q = omega arith
         from (suc k) l q =
             acts-some x e o h (leftOf z work F k (onStage s))
-            (sym (ap (λ (y : Stage). actsOf z (stampIn s) work F y (s .cursor .slot) (s .cursor .sector) ++ leftOf z work F k (onStage s)) e)
-            ∙ sym (ap (λ (b : Bool). cond b [] (actsOf z (stampIn s) work F (stageOf s) (s .cursor .slot) (s .cursor .sector) ++ leftOf z work F k (onStage s))) more) ∙ q)
+            (sym (ap (λ (y : Stage). actsOf z (underOf s) work F y (s .cursor .slot) (s .cursor .sector) ++ leftOf z work F k (onStage s)) e)
+            ∙ sym (ap (λ (b : Bool). cond b [] (actsOf z (underOf s) work F (stageOf s) (s .cursor .slot) (s .cursor .sector) ++ leftOf z work F k (onStage s))) more) ∙ q)
 
-    flush-does : (mask : ℕ) → stageOf s ≡ Flush mask → Has mask → Does z work img s (actMove s G (Flush mask) (D mask) work img) (actsOf z (stampIn s) work F (Flush mask) (s .cursor .slot) (s .cursor .sector) ++ R)
+    flush-does : (mask : ℕ) → stageOf s ≡ Flush mask → Has mask → Does z work img s (actMove s G (Flush mask) (D mask) work img) (actsOf z (underOf s) work F (Flush mask) (s .cursor .slot) (s .cursor .sector) ++ R)
     unfolding flushMove toDo Alike
     flush-does mask e h =
         subst (λ (ds : List ℕ). Does z work img s (actMove s G (Flush mask) (D mask) work img) (flushes ds ++ R)) (sym (h .first))
@@ -355,7 +364,7 @@ module _ (z : Shelf) (s : State) (work img : List ℕ) (fair : Fair z s work img
           kept = onward-kept (D mask) 1;
           at = at-here (Flush mask) e refl h (D mask) 1;
           is = ap (λ (x : Stepped). record { stepped = x; image = img }) (unless (inMask (s .absent) (D mask)) _ _ (can (Flush mask) e (D mask) (h .below) (h .set)));
-          rest = left-once (Flush mask) e F (λ q d j. refl) (D mask);
+          rest = left-once (Flush mask) e F (alike-same z s F) (D mask);
           fair = fair-onward img (fair .disks) (D mask) 1 (within-stage (Flush mask) e 1 (omega arith));
         })
 
@@ -386,35 +395,38 @@ module _ (z : Shelf) (s : State) (work img : List ℕ) (fair : Fair z s work img
               ∙ putting (l .generation % 2) (sealed (named l (D mask))) (sym (told-sector z l (D mask) 0))
               (sealed-is z l (t .same) (D mask) f ∙ ap (λ (v : Sector). v .bytes) (sym (given-label z zeroed l here-label q)))
 
-      give-does : Does z work img s (actMove s G (Give mask zeroed l) (D mask) work img) (actsOf z (stampIn s) work F (Give mask zeroed l) (s .cursor .slot) (s .cursor .sector) ++ R)
+      give-does : Does z work img s (actMove s G (Give mask zeroed l) (D mask) work img) (actsOf z (underOf s) work F (Give mask zeroed l) (s .cursor .slot) (s .cursor .sector) ++ R)
       unfolding Alike
       give-does =
           subst (λ (ds : List ℕ). Does z work img s (actMove s G (Give mask zeroed l) (D mask) work img) (puts (given z zeroed l) (rows (toldAt l) (0 ∷ []) ds) ++ R)) (sym (h .first))
           (puts-so here-label (given z zeroed l here-label) 1 (actMove s G (Give mask zeroed l) (D mask) work img) _ (label-inside z (D mask) (sideOf (l .generation)) (h .below)) (can (Give mask zeroed l) e .0 (D mask) (h .below) (h .set)) (within-stage (Give mask zeroed l) e 1 (omega arith)) (at-here (Give mask zeroed l) e refl h (D mask) 1) give-puts
-          (left-once (Give mask zeroed l) e (update F here-label (given z zeroed l here-label)) (λ q d j. update-other F here-label (given z zeroed l here-label) (log d j) (λ p. let i : _≡_ {A = ℕ} 0 1 = cc in omega arith)) (D mask)))
+          (left-once (Give mask zeroed l) e (update F here-label (given z zeroed l here-label)) (
+            λ q d j. update-other F here-label (given z zeroed l here-label) (log d j) (λ p. let i : _≡_ {A = ℕ} 0 1 = cc in omega arith),
+            λ q d t j b. update-other F here-label (given z zeroed l here-label) (strip d t j) (λ p. let i : _≡_ {A = ℕ} 0 1 = cc in omega arith),
+          ) (D mask)))
 
-    wipe-does : (mask : ℕ) → stageOf s ≡ Wipe mask → Has mask → Does z work img s (actMove s G (Wipe mask) (D mask) work img) (actsOf z (stampIn s) work F (Wipe mask) (s .cursor .slot) (s .cursor .sector) ++ R)
+    wipe-does : (mask : ℕ) → stageOf s ≡ Wipe mask → Has mask → Does z work img s (actMove s G (Wipe mask) (D mask) work img) (actsOf z (underOf s) work F (Wipe mask) (s .cursor .slot) (s .cursor .sector) ++ R)
     unfolding wipeMove Alike
     wipe-does mask e h =
         let here = tailAt z (D mask) 0 in
         let no = none-restored (Wipe mask) e in
         subst (λ (ds : List ℕ). Does z work img s (actMove s G (Wipe mask) (D mask) work img) (puts (λ k. zeros) (rows (tailAt z) (0 ∷ []) ds) ++ R)) (sym (h .first))
         (puts-so here zeros 1 (actMove s G (Wipe mask) (D mask) work img) _ (log-inside z (D mask) (z .c) (h .below) (omega arith)) (can (Wipe mask) e (D mask) (h .below) (h .set)) (within-stage (Wipe mask) e 1 (omega arith)) (at-here (Wipe mask) e refl h (D mask) 1) (ap (λ (to : ℕ). putMove s G (D mask) to 1 (replicate sectorBytes 0) img) (sym (tail-sector z (D mask) 0)))
-        (left-once (Wipe mask) e (update F here zeros) (λ q d j. absurd (false≢true (sym no ∙ q))) (D mask)))
+        (left-once (Wipe mask) e (update F here zeros) (λ q d j. absurd (false≢true (sym no ∙ q)), λ q d t j b. update-other F here zeros (strip d t j) (λ p. let i : _≡_ {A = ℕ} 0 1 = cc in omega arith)) (D mask)))
 
     erase-does : (mask : ℕ) (odd : Bool) → stageOf s ≡ Erase mask odd → Has mask
-        → Does z work img s (actMove s G (Erase mask odd) (D mask) work img) (actsOf z (stampIn s) work F (Erase mask odd) (s .cursor .slot) (s .cursor .sector) ++ R)
+        → Does z work img s (actMove s G (Erase mask odd) (D mask) work img) (actsOf z (underOf s) work F (Erase mask odd) (s .cursor .slot) (s .cursor .sector) ++ R)
     unfolding eraseMove Alike
     erase-does mask odd e h =
         let here = copyAt odd (D mask) 0 in
         subst (λ (ds : List ℕ). Does z work img s (actMove s G (Erase mask odd) (D mask) work img) (puts (λ k. zeros) (rows (copyAt odd) (0 ∷ []) ds) ++ R)) (sym (h .first))
         (puts-so here zeros 1 (actMove s G (Erase mask odd) (D mask) work img) _ (label-inside z (D mask) odd (h .below)) (can (Erase mask odd) e (D mask) (h .below) (h .set)) (within-stage (Erase mask odd) e 1 (omega arith)) (at-here (Erase mask odd) e refl h (D mask) 1)
         (ap (λ (to : ℕ). putMove s G (D mask) to 1 (replicate sectorBytes 0) img) (sym (copy-sector z odd (D mask) 0)))
-        (left-once (Erase mask odd) e (update F here zeros) (λ q d j. update-other F here zeros (log d j) (λ p. let i : _≡_ {A = ℕ} 0 1 = cc in omega arith)) (D mask)))
+        (left-once (Erase mask odd) e (update F here zeros) (λ q d j. update-other F here zeros (log d j) (λ p. let i : _≡_ {A = ℕ} 0 1 = cc in omega arith), λ q d t j b. update-other F here zeros (strip d t j) (λ p. let i : _≡_ {A = ℕ} 0 1 = cc in omega arith)) (D mask)))
 
     -- a stage that puts w sectors on each slot
     module _ (x : Stage) (e : stageOf s ≡ x) (mask : ℕ) (h : Has mask) (mk : ℕ → ℕ → Place) (w : ℕ) (value : Place → Sector)
-        (acts : (d j : ℕ) → actsOf z (stampIn s) work F x d j ≡ puts value (rowsFrom mk w j (slotsFrom (slots z) mask d))) (wide : w ≤ widthOf x (z .c)) (low : s .cursor .sector < w) (at-stage : (d count : ℕ) → At z work img s (onward s d count .cursor .stage)) where
+        (acts : (d j : ℕ) → actsOf z (underOf s) work F x d j ≡ puts value (rowsFrom mk w j (slotsFrom (slots z) mask d))) (wide : w ≤ widthOf x (z .c)) (low : s .cursor .sector < w) (at-stage : (d count : ℕ) → At z work img s (onward s d count .cursor .stage)) where
       abbrev here-row : Place
       here-row = mk (D mask) (s .cursor .sector)
 
@@ -441,9 +453,9 @@ module _ (z : Shelf) (s : State) (work img : List ℕ) (fair : Fair z s work img
 
       row-does : slot here-row ≡ D mask → inside z here-row ≡ true → inMask (s .absent) (D mask) ≡ false → Alike z s F (update F here-row (value here-row))
           → (m : Move) → m ≡ putMove s G (D mask) (sectorOf z here-row) w (value here-row .bytes) img
-          → Does z work img s m (actsOf z (stampIn s) work F x (s .cursor .slot) (s .cursor .sector) ++ R)
+          → Does z work img s m (actsOf z (underOf s) work F x (s .cursor .slot) (s .cursor .sector) ++ R)
       row-does at i a alike m is =
-          let p : actsOf z (stampIn s) work F x (s .cursor .slot) (s .cursor .sector) ++ R ≡ put here-row (value here-row) ∷ (puts value L ++ R) =
+          let p : actsOf z (underOf s) work F x (s .cursor .slot) (s .cursor .sector) ++ R ≡ put here-row (value here-row) ∷ (puts value L ++ R) =
           ap (λ (l : List (Action Sector)). l ++ R) (acts (s .cursor .slot) (s .cursor .sector))
           ∙ ap (λ (ds : List ℕ). puts value (rowsFrom mk w (s .cursor .sector) ds) ++ R) (h .first)
           ∙ ap (λ (ks : List Place). puts value ks ++ R) (rows-next mk w (s .cursor .sector) (D mask) (slotsFrom (slots z) mask (D mask + 1)) low) in
@@ -453,9 +465,9 @@ module _ (z : Shelf) (s : State) (work img : List ℕ) (fair : Fair z s work img
           (ap (λ (d : ℕ). leftOf z work (update F here-row (value here-row)) mostStages (onward s d w)) at ∙ left-row (update F here-row (value here-row)) alike))
 
     -- a strip's place is no record's
-    strip-alike : (d t i : ℕ) (v : Sector) → Alike z s F (update F (strip d t i) v)
+    strip-alike : fills (s .kind) ≡ false → (d t i : ℕ) (v : Sector) → Alike z s F (update F (strip d t i) v)
     unfolding Alike
-    strip-alike d t i v q e j = update-other F (strip d t i) v (log e j) (λ o. let x : _≡_ {A = ℕ} 0 1 = cc in omega arith)
+    strip-alike none d t i v = (λ q e j. update-other F (strip d t i) v (log e j) (λ o. let x : _≡_ {A = ℕ} 0 1 = cc in omega arith), λ q e u j b. absurd (false≢true (sym none ∙ q)))
 
     module _ (mask t : ℕ) (e : stageOf s ≡ Restore mask t) (h : Has mask) where
       there-restore : t < stripesOf G
@@ -470,11 +482,11 @@ module _ (z : Shelf) (s : State) (work img : List ℕ) (fair : Fair z s work img
           ∙ ap (λ (f : Found). byStrip f s G (D mask) img) there
           ∙ ap (λ (b : List ℕ). putMove s G (D mask) (stripOf G t + s .cursor .sector) (z .c) b img) (piece-is z img (fair .disks) (D mask) (h .below) (s .cursor .sector) (within (Restore mask t) e refl))
 
-      restore-does : Does z work img s (actMove s G (Restore mask t) (D mask) work img) (actsOf z (stampIn s) work F (Restore mask t) (s .cursor .slot) (s .cursor .sector) ++ R)
+      restore-does : Does z work img s (actMove s G (Restore mask t) (D mask) work img) (actsOf z (underOf s) work F (Restore mask t) (s .cursor .slot) (s .cursor .sector) ++ R)
       restore-does =
           row-does (Restore mask t) e mask h (λ d i. strip d t i) (z .c) (restored z F) (λ d j. refl) (omega arith) (within (Restore mask t) e refl) (at-here (Restore mask t) e refl h) refl
           (strip-is-inside z (D mask) t (s .cursor .sector) (h .below) there-restore (within (Restore mask t) e refl)) (can (Restore mask t) e .0 (D mask) (h .below) (h .set))
-          (strip-alike (D mask) t (s .cursor .sector) _) _ restore-puts
+          (strip-alike (none-refilled (Restore mask t) e) (D mask) t (s .cursor .sector) _) _ restore-puts
 
     module _ (mask t : ℕ) (e : stageOf s ≡ Store mask t) (h : Has mask) where
       there-store : t < stripesOf G
@@ -489,11 +501,11 @@ module _ (z : Shelf) (s : State) (work img : List ℕ) (fair : Fair z s work img
           ∙ ap (λ (b : List ℕ). putMove s G (D mask) (stripOf G t + s .cursor .sector) (z .c) b img)
           (kept-part z work (can (Store mask t) e .2) t (D mask) there-store (h .below) (s .cursor .sector) (within (Store mask t) e refl))
 
-      store-does : Does z work img s (actMove s G (Store mask t) (D mask) work img) (actsOf z (stampIn s) work F (Store mask t) (s .cursor .slot) (s .cursor .sector) ++ R)
+      store-does : Does z work img s (actMove s G (Store mask t) (D mask) work img) (actsOf z (underOf s) work F (Store mask t) (s .cursor .slot) (s .cursor .sector) ++ R)
       store-does =
           row-does (Store mask t) e mask h (λ d i. strip d t i) (z .c) (stored (records z) (keptStrip z work t)) (λ d j. refl) (omega arith) (within (Store mask t) e refl) (at-here (Store mask t) e refl h) refl
           (strip-is-inside z (D mask) t (s .cursor .sector) (h .below) there-store (within (Store mask t) e refl)) (can (Store mask t) e .0 (D mask) (h .below) (h .set))
-          (strip-alike (D mask) t (s .cursor .sector) _) _ store-puts
+          (strip-alike (none-refilled (Store mask t) e) (D mask) t (s .cursor .sector) _) _ store-puts
 
     module _ (mask t shards : ℕ) (e : stageOf s ≡ Log mask t shards) (h : Has mask) where
       in-record : s .cursor .sector ≤ z .c
@@ -515,13 +527,13 @@ module _ (z : Shelf) (s : State) (work img : List ℕ) (fair : Fair z s work img
           ∙ ap (λ (b : List ℕ). putMove s G (D mask) (firstLog + s .cursor .sector) (z .c + 1) b img)
           (record-is z work (c .4) t (D mask) there-log (h .below) (stampIn s) (c .3) shards (c .2) (s .cursor .sector) in-record)
 
-      log-does : Does z work img s (actMove s G (Log mask t shards) (D mask) work img) (actsOf z (stampIn s) work F (Log mask t shards) (s .cursor .slot) (s .cursor .sector) ++ R)
+      log-does : Does z work img s (actMove s G (Log mask t shards) (D mask) work img) (actsOf z (underOf s) work F (Log mask t shards) (s .cursor .slot) (s .cursor .sector) ++ R)
       unfolding Alike
       log-does =
           let no = none-restored (Log mask t shards) e in
           row-does (Log mask t shards) e mask h log (z .c + 1) logs (λ d j. refl) (omega arith) (within (Log mask t shards) e refl) (at-here (Log mask t shards) e refl h) refl
           (log-inside z (D mask) (s .cursor .sector) (h .below) in-record) (can (Log mask t shards) e .0 (D mask) (h .below) (h .set))
-          (λ q d j. absurd (false≢true (sym no ∙ q))) _ log-puts
+          (λ q d j. absurd (false≢true (sym no ∙ q)), λ q d t j b. update-other F _ _ (strip d t j) (λ p. let i : _≡_ {A = ℕ} 0 1 = cc in omega arith)) _ log-puts
 
     module _ (mask : ℕ) (e : stageOf s ≡ Clear mask) (h : Has mask) where
       in-clear : s .cursor .sector ≤ z .c
@@ -531,19 +543,75 @@ module _ (z : Shelf) (s : State) (work img : List ℕ) (fair : Fair z s work img
       unfolding clearMove sectorOf
       clear-puts = unless (ltb (z .c) (s .cursor .sector)) _ _ (le-ltb (z .c) (s .cursor .sector) in-clear)
 
-      clear-does : Does z work img s (actMove s G (Clear mask) (D mask) work img) (actsOf z (stampIn s) work F (Clear mask) (s .cursor .slot) (s .cursor .sector) ++ R)
+      clear-does : Does z work img s (actMove s G (Clear mask) (D mask) work img) (actsOf z (underOf s) work F (Clear mask) (s .cursor .slot) (s .cursor .sector) ++ R)
       unfolding Alike
       clear-does =
           let no = none-restored (Clear mask) e in
           row-does (Clear mask) e mask h log (z .c + 1) (λ k. zeros) (λ d j. refl) (omega arith) (within (Clear mask) e refl) (at-here (Clear mask) e refl h) refl
           (log-inside z (D mask) (s .cursor .sector) (h .below) in-clear) (can (Clear mask) e (D mask) (h .below) (h .set))
-          (λ q d j. absurd (false≢true (sym no ∙ q))) _ clear-puts
+          (λ q d j. absurd (false≢true (sym no ∙ q)), λ q d t j b. update-other F _ _ (strip d t j) (λ p. let i : _≡_ {A = ℕ} 0 1 = cc in omega arith)) _ clear-puts
+
+    module _ (mask first count : ℕ) (e : stageOf s ≡ Fill mask first count) (h : Has mask) where
+      low-fill : s .cursor .sector < count * z .c
+      low-fill = within (Fill mask first count) e refl
+
+      fillable : Fillable z (s .absent) (s .now) work mask first count
+      fillable = can (Fill mask first count) e .1
+
+      -- the stripe, and the sector of its strip
+      abbrev t-fill : ℕ
+      t-fill = first + s .cursor .sector / z .c
+
+      abbrev j-fill : ℕ
+      j-fill = s .cursor .sector % z .c
+
+      there-fill : t-fill < stripesOf G
+      there-fill = at-stripe z (s .absent) (s .now) work mask first count fillable (s .cursor .sector) low-fill
+
+      in-fill : j-fill < z .c
+      in-fill = at-sector z (s .absent) (s .now) work mask first count fillable (s .cursor .sector) low-fill
+
+      slot-fill : D mask ≡ labelOf z (s .now) .rebuilding
+      slot-fill = fillable .here (D mask) (h .below) (h .set)
+
+      -- it is not believed
+      off-fill : Label.believed (size z) (labelOf z (s .now)) (D mask) t-fill ≡ false
+      off-fill = ap (λ (d : ℕ). Label.believed (size z) (labelOf z (s .now)) d t-fill) slot-fill ∙ not-believed z (s .absent) (s .now) work mask first count fillable t-fill (omega (arith, fillable .mark))
+
+      fill-puts : actMove s G (Fill mask first count) (D mask) work img
+          ≡ putMove s G (D mask) (sectorOf z (fillAt z first (D mask) (s .cursor .sector))) (count * z .c) (refilled z (s .now) F (fillAt z first (D mask) (s .cursor .sector)) .bytes) img
+      unfolding fillMove
+      fill-puts =
+          when (inStrips first count (z .c) (s .cursor .sector)) _ _ (in-strips z (s .absent) (s .now) work mask first count fillable (s .cursor .sector) low-fill)
+          ∙ ap (λ (o : Outcome). byRebuilt o s G (D mask) first count work img)
+          (can-rebuild z (s .absent) (s .now) work mask first count fillable (fair .ours-now) t-fill there-fill img (fair .disks) (D mask) (h .below) off-fill j-fill in-fill)
+          ∙ ap₂ (λ (to : ℕ) (v : List ℕ). putMove s G (D mask) to (count * z .c) v img) (sym (fill-sector z (s .absent) (s .now) work mask first count fillable (D mask) (s .cursor .sector)))
+          (sector-rebuilt z (s .absent) (s .now) work mask first count fillable (fair .ours-now) t-fill there-fill img (fair .disks) (D mask) (h .below) off-fill j-fill in-fill
+          ∙ ap (λ (d : ℕ). Host.rebuilt (size z) (no-sets (slots z)) (records z) (any-code z) (labelOf z (s .now)) F d t-fill j-fill .bytes) slot-fill)
+
+      -- what is put there changes no strip that is believed
+      fill-alike : (v : Sector) → Alike z s F (update F (fillAt z first (D mask) (s .cursor .sector)) v)
+      unfolding Alike
+      fill-alike v = (
+        λ q d j. update-other F (fillAt z first (D mask) (s .cursor .sector)) v (log d j) (λ o. let x : _≡_ {A = ℕ} 0 1 = cc in omega arith),
+        λ q d t j b. update-other F (fillAt z first (D mask) (s .cursor .sector)) v (strip d t j)
+            (λ o.
+            let p : d ≡ D mask = cc in
+            let r : t ≡ t-fill = cc in
+            false≢true (sym off-fill ∙ sym (ap₂ (λ (x y : ℕ). Label.believed (size z) (labelOf z (s .now)) x y) p r) ∙ b)),
+      )
+
+      fill-does : Does z work img s (actMove s G (Fill mask first count) (D mask) work img) (actsOf z (underOf s) work F (Fill mask first count) (s .cursor .slot) (s .cursor .sector) ++ R)
+      fill-does =
+          row-does (Fill mask first count) e mask h (fillAt z first) (count * z .c) (refilled z (s .now) F) (λ d j. refl) (omega arith) low-fill (at-here (Fill mask first count) e refl h) refl
+          (strip-is-inside z (D mask) t-fill j-fill (h .below) there-fill in-fill) (can (Fill mask first count) e .0 (D mask) (h .below) (h .set))
+          (fill-alike _) _ fill-puts
 
     has : (mask : ℕ) → D mask < slots z → Has mask
     has mask l = ⊎-elim (λ (q : (slots z ≤ D mask) × (slotsFrom (slots z) mask (s .cursor .slot) ≡ [])). absurd (omega (arith, q .0))) (λ (h : Has mask). h) (next-slot mask (slots z) (s .cursor .slot))
 
     -- a stage that has a slot left
-    act-does : (x : Stage) → stageOf s ≡ x → isEnd x ≡ false → D (slotsOf x) < slots z → Does z work img s (actMove s G x (D (slotsOf x)) work img) (actsOf z (stampIn s) work F x (s .cursor .slot) (s .cursor .sector) ++ R)
+    act-does : (x : Stage) → stageOf s ≡ x → isEnd x ≡ false → D (slotsOf x) < slots z → Does z work img s (actMove s G x (D (slotsOf x)) work img) (actsOf z (underOf s) work F x (s .cursor .slot) (s .cursor .sector) ++ R)
     act-does (Flush mask) e o l = flush-does mask e (has mask l)
     act-does (Give mask zeroed l) e o h = give-does mask zeroed l e (has mask h)
     act-does (Wipe mask) e o l = wipe-does mask e (has mask l)
@@ -552,14 +620,14 @@ module _ (z : Shelf) (s : State) (work img : List ℕ) (fair : Fair z s work img
     act-does (Store mask t) e o l = store-does mask t e (has mask l)
     act-does (Clear mask) e o l = clear-does mask e (has mask l)
     act-does (Erase mask odd) e o l = erase-does mask odd e (has mask l)
-    act-does (Fill mask first count) e o l = absurd (can (Fill mask first count) e)
+    act-does (Fill mask first count) e o l = fill-does mask first count e (has mask l)
     act-does End e o l = absurd (false≢true (sym o))
 
     -- a stage that has none
     none : (mask : ℕ) → slots z ≤ D mask → slotsFrom (slots z) mask (s .cursor .slot) ≡ []
     none mask l = ⊎-elim (λ (q : (slots z ≤ D mask) × (slotsFrom (slots z) mask (s .cursor .slot) ≡ [])). q .1) (λ (h : Has mask). absurd (omega (arith, h .below))) (next-slot mask (slots z) (s .cursor .slot))
 
-    acts-none : (x : Stage) → slots z ≤ D (slotsOf x) → actsOf z (stampIn s) work F x (s .cursor .slot) (s .cursor .sector) ≡ []
+    acts-none : (x : Stage) → slots z ≤ D (slotsOf x) → actsOf z (underOf s) work F x (s .cursor .slot) (s .cursor .sector) ≡ []
     acts-none (Flush mask) l = ap (λ (ds : List ℕ). flushes ds) (none mask l)
     acts-none (Give mask zeroed b) l = ap (λ (ds : List ℕ). puts (given z zeroed b) (rows (toldAt b) (0 ∷ []) ds)) (none mask l)
     acts-none (Wipe mask) l = ap (λ (ds : List ℕ). puts (λ k. zeros) (rows (tailAt z) (0 ∷ []) ds)) (none mask l)
@@ -569,7 +637,7 @@ module _ (z : Shelf) (s : State) (work img : List ℕ) (fair : Fair z s work img
     acts-none (Store mask t) l = ap (λ (ds : List ℕ). puts (stored (records z) (keptStrip z work t)) (rowsFrom (λ d i. strip d t i) (z .c) (s .cursor .sector) ds)) (none mask l)
     acts-none (Clear mask) l = ap (λ (ds : List ℕ). puts (λ k. zeros) (rowsFrom log (z .c + 1) (s .cursor .sector) ds)) (none mask l)
     acts-none (Erase mask odd) l = ap (λ (ds : List ℕ). puts (λ k. zeros) (rows (copyAt odd) (0 ∷ []) ds)) (none mask l)
-    acts-none (Fill mask first count) l = refl
+    acts-none (Fill mask first count) l = ap (λ (ds : List ℕ). puts (refilled z (s .now) F) (rowsFrom (fillAt z first) (count * z .c) (s .cursor .sector) ds)) (none mask l)
     acts-none End l = refl
 
   -- a stage with an action left is not the last
@@ -608,7 +676,7 @@ module _ (z : Shelf) (work img : List ℕ) where
       go : (Fair z (onStage s) work img → Does z work img (onStage s) (walk k (onStage s) (geometry z) work img) (leftOf z work (curOf z img) k (onStage s)))
           → (b : Bool) → isEnd (stageOf s) ≡ b → (t : Bool) → ltb (nextSlot s (geometry z)) (slots z) ≡ t
           → Does z work img s (cond b (finished s img) (cond t (actMove s (geometry z) (stageOf s) (nextSlot s (geometry z)) work img) (walk k (onStage s) (geometry z) work img)))
-          (cond b [] (actsOf z (stampIn s) work (curOf z img) (stageOf s) (s .cursor .slot) (s .cursor .sector) ++ leftOf z work (curOf z img) k (onStage s)))
+          (cond b [] (actsOf z (underOf s) work (curOf z img) (stageOf s) (s .cursor .slot) (s .cursor .sector) ++ leftOf z work (curOf z img) k (onStage s)))
       go r true e t q = refl
       go r false e true q = act-does z s work img fair k (omega arith) e (stageOf s) refl e (ltb-true (nextSlot s (geometry z)) (slots z) q)
       go r false e false q =
@@ -616,7 +684,7 @@ module _ (z : Shelf) (work img : List ℕ) where
           let m = walk k (onStage s) (geometry z) work img in
           let none = acts-none z s work img fair k (omega arith) e (stageOf s) (ltb-false (nextSlot s (geometry z)) (slots z) q) in
           let skip : (i : ℕ) → leftOf z work (curOf z img) (suc i) s ≡ leftOf z work (curOf z img) i (onStage s) =
-          λ i. ap (λ (b : Bool). cond b [] (actsOf z (stampIn s) work (curOf z img) (stageOf s) (s .cursor .slot) (s .cursor .sector) ++ leftOf z work (curOf z img) i (onStage s))) e
+          λ i. ap (λ (b : Bool). cond b [] (actsOf z (underOf s) work (curOf z img) (stageOf s) (s .cursor .slot) (s .cursor .sector) ++ leftOf z work (curOf z img) i (onStage s))) e
           ∙ ap (λ (a : List (Action Sector)). a ++ leftOf z work (curOf z img) i (onStage s)) none in
           subst (λ (a : List (Action Sector)). Does z work img s m (a ++ l)) (sym none)
           (does-on s m l skip (r (fair-moved z s work img fair img (fair .disks) (s .cursor .stage + 1) 0 0 (not-over z s work img fair e) (some-disk z s work img fair) (narrow-at z s work img fair (s .cursor .stage + 1)))))

@@ -36,7 +36,7 @@ use Rattle.shelf.specs.declared.state.Answer.the-variants as answer
 use Rattle.refine.specs.Places.{sectorOf, inside}
 use Rattle.refine.specs.Disks.{curOf}
 use Rattle.refine.specs.Keeps.{keptWrite}
-use Rattle.refine.specs.ToDo.{stampIn, actsOf, leftOf, toDo, round-each, create-each, start-each, begin-each}
+use Rattle.refine.specs.ToDo.{underOf, actsOf, leftOf, toDo, round-each, create-each, start-each, begin-each}
 use Rattle.refine.specs.Steps.{Can, Fair, Moved, Does, step-does}
 
 -- ---- what the program remembers
@@ -116,7 +116,7 @@ module _ (z : Shelf) (work other : List ℕ) where
         narrow = fair .narrow;
         stages =
             λ i.
-            plain-each (λ x. Can z (s .absent) (stampIn s) work x → Can z (s .absent) (stampIn s) other x) (λ c. c) (λ m c. c) (λ m o l c. c) (λ m c. c) (λ m t c. c) (λ m c. c) (λ m o c. c) (s .kind) e s i
+            plain-each (λ x. Can z (s .absent) (underOf s) work x → Can z (s .absent) (underOf s) other x) (λ c. c) (λ m c. c) (λ m o l c. c) (λ m c. c) (λ m t c. c) (λ m c. c) (λ m o c. c) (s .kind) e s i
             (fair .stages i);
       }
 
@@ -126,7 +126,7 @@ module _ (z : Shelf) (work other : List ℕ) where
   left-work f zero s e = refl
   left-work f (suc k) s e =
       ap₂ (λ (a l : List (Action Sector)). cond (isEnd (stageOf s)) [] (a ++ l))
-      (plain-each (λ x. (d j : ℕ) → actsOf z (stampIn s) work f x d j ≡ actsOf z (stampIn s) other f x d j) (λ d j. refl) (λ m d j. refl) (λ m o l d j. refl) (λ m d j. refl) (λ m t d j. refl) (λ m d j. refl)
+      (plain-each (λ x. (d j : ℕ) → actsOf z (underOf s) work f x d j ≡ actsOf z (underOf s) other f x d j) (λ d j. refl) (λ m d j. refl) (λ m o l d j. refl) (λ m d j. refl) (λ m t d j. refl) (λ m d j. refl)
       (λ m o d j. refl) (s .kind) e s (s .cursor .stage) (s .cursor .slot) (s .cursor .sector))
       (left-work f k (onStage s) e)
 

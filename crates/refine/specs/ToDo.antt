@@ -4,11 +4,12 @@ use mathlib.Core.Path.{_≡_, refl, sym, ap, ap₂, subst, _∙_, fun-ext}
 use mathlib.Core.Logic.{_⊎_, inl, inr, ⊎-elim}
 use mathlib.Core.Bool.{Bool, true, false, cond, not}
 use mathlib.Core.List.{List, [], _∷_, _++_}
-use Prim.Native.Nat.{ℕ, zero, suc, _+_, _-_, _≤_, _<_, _%_}
+use Prim.Native.Nat.{ℕ, zero, suc, _+_, _-_, _*_, _≤_, _<_, _/_, _%_}
 use native.Mathlib.Omega.{arith}
-use lib.Dec.{eqb, leb}
-use borrow.Author.Tests.{ne-eqb, lt-leb}
+use lib.Dec.{eqb, leb, ltb}
+use borrow.Author.Tests.{ne-eqb, lt-leb, not-false}
 use Rattle.disk.specs.Limits.{firstLog}
+use Rattle.disk.specs.Geometry.{shardOf}
 use Rattle.disk.specs.Image.{lt-or-ge}
 use Rattle.disk.specs.Mask.{inMask}
 use Rattle.label.specs.declared.fields.Label as bytes
@@ -17,10 +18,19 @@ use Rattle.protocol.specs.World.{Place, label, log, strip, slot, Image, Action}
 use Rattle.protocol.specs.Batch.{puts, flushes}
 use Rattle.protocol.specs.Slots.{from, keep, row, rows}
 use Rattle.protocol.specs.Write.{logged, stored}
+use Rattle.protocol.specs.Label as Label
+use Rattle.protocol.specs.Host.{missing}
+use Rattle.protocol.specs.Host as Host
+use Rattle.protocol.specs.Rebuild.{filled}
+use Rattle.protocol.specs.Pairs.{no-sets}
 use Rattle.codecs.specs.Sector.{Sector, zeros}
-use Rattle.codecs.specs.Shelf.{Shelf, slots}
+use Rattle.codecs.specs.Shelf.{Shelf, slots, size}
 use Rattle.codecs.specs.Labels.{sideOf, sector-side, labelOf, encodeLabel}
 use Rattle.codecs.specs.Records.{stampNumber, pieceOf, records}
+use Rattle.shards.specs.Parity.{shard-ext}
+use Rattle.shards.specs.Strips.{shardIn, blocksFrom}
+use Rattle.shards.specs.Exact.{blocks-blind}
+use Rattle.shards.specs.Even.{any-code}
 use Rattle.shelf.specs.Limits.{mostStages}
 use Rattle.shelf.specs.State.{moved}
 use Rattle.shelf.specs.Stage.{again, roundStage, lateStage, startStage, createStage, writeStage, lastStage, beginStage, fillStage, stageAt, stageOf}
@@ -67,30 +77,46 @@ restored z f = stored (records z) (λ d j. pieceOf z (f (log d (z .c))) (f (log 
 abbrev pub copyAt : Bool → ℕ → ℕ → Place
 copyAt odd d i = label d odd
 
--- what a stage does from slot d, and sector j of it, on; a is the stamp of the request, `work` what it keeps in the work area, and
+-- where sector x of the strips from strip `first` on goes
+abbrev pub fillAt : Shelf → ℕ → ℕ → ℕ → Place
+fillAt z first d x = strip d (first + x / z .c) (x % z .c)
+
+-- what is rebuilt there: from the strips that the label lets one believe
+abbrev pub refilled : Shelf → bytes.Label → Image Sector → Place → Sector
+refilled z l f = filled (records z) (Host.rebuilt (size z) (no-sets (slots z)) (records z) (any-code z) (labelOf z l) f (labelOf z l .rebuilding))
+
+-- what a request goes by: its stamp, and the label that holds
+pub record Under : Type 0 where
+  pub stamp : Stamp
+  pub now : bytes.Label
+
+-- what a stage does from slot d, and sector j of it, on; a is what the request goes by, `work` what it keeps in the work area, and
 -- f what the places hold
-abbrev pub actsOf : Shelf → Stamp → List ℕ → Image Sector → Stage → ℕ → ℕ → List (Action Sector)
+abbrev pub actsOf : Shelf → Under → List ℕ → Image Sector → Stage → ℕ → ℕ → List (Action Sector)
 actsOf z a work f (Flush mask) d j = flushes (slotsFrom (slots z) mask d)
 actsOf z a work f (Give mask zeroed l) d j = puts (given z zeroed l) (rows (toldAt l) (0 ∷ []) (slotsFrom (slots z) mask d))
 actsOf z a work f (Wipe mask) d j = puts (λ k. zeros) (rows (tailAt z) (0 ∷ []) (slotsFrom (slots z) mask d))
 actsOf z a work f (Restore mask t) d j = puts (restored z f) (rowsFrom (λ e i. strip e t i) (z .c) j (slotsFrom (slots z) mask d))
 actsOf z a work f (Log mask t shards) d j =
-    puts (logged (records z) (stampNumber a) (keptWrite z work t shards)) (rowsFrom log (z .c + 1) j (slotsFrom (slots z) mask d))
+    puts (logged (records z) (stampNumber (a .stamp)) (keptWrite z work t shards)) (rowsFrom log (z .c + 1) j (slotsFrom (slots z) mask d))
 actsOf z a work f (Store mask t) d j = puts (stored (records z) (keptStrip z work t)) (rowsFrom (λ e i. strip e t i) (z .c) j (slotsFrom (slots z) mask d))
 actsOf z a work f (Clear mask) d j = puts (λ k. zeros) (rowsFrom log (z .c + 1) j (slotsFrom (slots z) mask d))
 actsOf z a work f (Erase mask odd) d j = puts (λ k. zeros) (rows (copyAt odd) (0 ∷ []) (slotsFrom (slots z) mask d))
-actsOf z a work f (Fill mask first count) d j = []
+actsOf z a work f (Fill mask first count) d j = puts (refilled z (a .now) f) (rowsFrom (fillAt z first) (count * z .c) j (slotsFrom (slots z) mask d))
 actsOf z a work f End d j = []
 
 -- the stamp of a state's write
 abbrev pub stampIn : State → Stamp
 stampIn s = record { epoch = s .epoch; count = s .count }
 
+abbrev pub underOf : State → Under
+underOf s = record { stamp = stampIn s; now = s .now }
+
 -- k stages from the cursor on
 unfoldable pub leftOf : Shelf → List ℕ → Image Sector → ℕ → State → List (Action Sector)
 leftOf z work f zero s = []
 leftOf z work f (suc k) s =
-    cond (isEnd (stageOf s)) [] (actsOf z (stampIn s) work f (stageOf s) (s .cursor .slot) (s .cursor .sector) ++ leftOf z work f k (onStage s))
+    cond (isEnd (stageOf s)) [] (actsOf z (underOf s) work f (stageOf s) (s .cursor .slot) (s .cursor .sector) ++ leftOf z work f k (onStage s))
 
 -- WHAT IS LEFT TO DO, with this work area, on this image
 unfoldable pub toDo : Shelf → State → List ℕ → List ℕ → List (Action Sector)
@@ -294,6 +320,41 @@ redoes Writing s i = write-each (Redoes false) tt (s .marks) refl tt tt i
 redoes Beginning s i = begin-each (Redoes false) tt s tt tt tt tt tt tt tt refl tt tt i
 redoes Filling s i = fill-each (Redoes false) tt s tt tt tt tt i
 
+-- whether strips are rebuilt
+unfoldable pub fills : Kind → Bool
+fills Nothing = false
+fills Idle = false
+fills Creating = false
+fills Starting = false
+fills Labelling = false
+fills Writing = false
+fills Beginning = false
+fills Filling = true
+
+-- then no stage of the request changes a strip otherwise; and none is rebuilt otherwise
+abbrev pub Refills : Bool → Stage → Type 0
+Refills b (Flush mask) = Unit {0}
+Refills b (Give mask zeroed l) = Unit {0}
+Refills b (Wipe mask) = Unit {0}
+Refills b (Restore mask t) = b ≡ false
+Refills b (Log mask t shards) = Unit {0}
+Refills b (Store mask t) = b ≡ false
+Refills b (Clear mask) = Unit {0}
+Refills b (Erase mask odd) = Unit {0}
+Refills b (Fill mask first count) = b ≡ true
+Refills b End = Unit {0}
+
+pub refills : (k : Kind) (s : State) (i : ℕ) → Refills (fills k) (stageAt k s i)
+unfolding fills
+refills Nothing s i = tt
+refills Idle s i = tt
+refills Creating s i = create-each (Refills false) tt s tt tt i
+refills Starting s i = start-each (Refills false) tt s tt tt tt tt tt tt tt tt tt tt (λ e. refl) (λ e. tt) i
+refills Labelling s i = round-each (Refills false) tt (s .marks .present) (s .next) tt tt i
+refills Writing s i = write-each (Refills false) tt (s .marks) tt refl tt i
+refills Beginning s i = begin-each (Refills false) tt s tt tt tt tt tt tt tt tt tt tt i
+refills Filling s i = fill-each (Refills true) tt s refl tt tt tt i
+
 -- no request has a stage from mostStages - 1 on
 round-over : (i mask : ℕ) (l : bytes.Label) → 2 ≤ i → roundStage i mask l ≡ End
 unfolding roundStage
@@ -328,9 +389,27 @@ stage-over Filling s i h = rw (ne-eqb i 0 (λ q. omega arith), ne-eqb i 1 (λ q.
 -- ---- what is left
 
 module _ (z : Shelf) where
-  -- it goes by the records alone, where a strip is to be restored
+  -- it goes by the records alone, where a strip is to be restored; and by the strips that are believed, where others are rebuilt
   unfoldable pub Alike : State → Image Sector → Image Sector → Type 0
-  Alike s f g = restores (s .kind) (s .marks .forward) ≡ true → (d j : ℕ) → g (log d j) ≡ f (log d j)
+  Alike s f g =
+      (restores (s .kind) (s .marks .forward) ≡ true → (d j : ℕ) → g (log d j) ≡ f (log d j))
+      × (fills (s .kind) ≡ true → (d t j : ℕ) → Label.believed (size z) (labelOf z (s .now)) d t ≡ true → g (strip d t j) ≡ f (strip d t j))
+
+  pub alike-same : (s : State) (f : Image Sector) → Alike s f f
+  unfolding Alike
+  alike-same s f = (λ q d j. refl, λ q d t j e. refl)
+
+  -- what is rebuilt goes by the strips that are believed
+  pub rebuilt-same : (Q : Label.Label) (f g : Image Sector) (t : ℕ) → ((d j : ℕ) → d < slots z → Label.believed (size z) Q d t ≡ true → g (strip d t j) ≡ f (strip d t j)) → (d j : ℕ)
+      → Host.rebuilt (size z) (no-sets (slots z)) (records z) (any-code z) Q g d t j ≡ Host.rebuilt (size z) (no-sets (slots z)) (records z) (any-code z) Q f d t j
+  unfolding Host.rebuilt Host.read shardIn
+  rebuilt-same Q f g t h d j =
+      let bad : ℕ → Bool = missing (size z) (no-sets (slots z)) (records z) (any-code z) Q t in
+      let a : ℕ → ℕ → Sector = λ e i. g (strip e t i) in
+      let b : ℕ → ℕ → Sector = λ e i. f (strip e t i) in
+      ap (λ (x : Sector). cond (ltb d (slots z)) x zeros)
+      (shard-ext (z .k) (z .m) (blocksFrom z t bad a) (blocksFrom z t bad b) (shardOf (slots z) t d) j
+      (λ i l. blocks-blind z t bad a i j (omega arith) b (λ e o q. h e j o (not-false (Label.believed (size z) Q e t) q))))
 
   module _ (work : List ℕ) (f g : Image Sector) where
     restored-same : ((d j : ℕ) → g (log d j) ≡ f (log d j)) → (k : Place) → restored z g k ≡ restored z f k
@@ -338,26 +417,33 @@ module _ (z : Shelf) where
     restored-same h (log d j) = refl
     restored-same h (strip d t j) = ap₂ (λ (x y : Sector). pieceOf z x y j) (h d (z .c)) (h d j)
 
-    pub acts-same : (s : State) (a : Stamp) → Alike s f g → (x : Stage) → Redoes (restores (s .kind) (s .marks .forward)) x → (d j : ℕ) → actsOf z a work g x d j ≡ actsOf z a work f x d j
+    refilled-same : (l : bytes.Label) → ((d t j : ℕ) → Label.believed (size z) (labelOf z l) d t ≡ true → g (strip d t j) ≡ f (strip d t j)) → (k : Place) → refilled z l g k ≡ refilled z l f k
+    refilled-same l h (label d b) = refl
+    refilled-same l h (log d j) = refl
+    refilled-same l h (strip d t j) = rebuilt-same (labelOf z l) f g t (λ e i o q. h e t i q) (labelOf z l .rebuilding) j
+
+    pub acts-same : (s : State) → Alike s f g → (x : Stage) → Redoes (restores (s .kind) (s .marks .forward)) x → Refills (fills (s .kind)) x → (d j : ℕ)
+        → actsOf z (underOf s) work g x d j ≡ actsOf z (underOf s) work f x d j
     unfolding Alike
-    acts-same s a h (Flush mask) r d j = refl
-    acts-same s a h (Give mask zeroed l) r d j = refl
-    acts-same s a h (Wipe mask) r d j = refl
-    acts-same s a h (Restore mask t) r d j =
-        ap (λ (v : Place → Sector). puts v (rowsFrom (λ e i. strip e t i) (z .c) j (slotsFrom (slots z) mask d))) (fun-ext (restored-same (h r)))
-    acts-same s a h (Log mask t shards) r d j = refl
-    acts-same s a h (Store mask t) r d j = refl
-    acts-same s a h (Clear mask) r d j = refl
-    acts-same s a h (Erase mask odd) r d j = refl
-    acts-same s a h (Fill mask first count) r d j = refl
-    acts-same s a h End r d j = refl
+    acts-same s h (Flush mask) r v d j = refl
+    acts-same s h (Give mask zeroed l) r v d j = refl
+    acts-same s h (Wipe mask) r v d j = refl
+    acts-same s h (Restore mask t) r v d j =
+        ap (λ (y : Place → Sector). puts y (rowsFrom (λ e i. strip e t i) (z .c) j (slotsFrom (slots z) mask d))) (fun-ext (restored-same (h .0 r)))
+    acts-same s h (Log mask t shards) r v d j = refl
+    acts-same s h (Store mask t) r v d j = refl
+    acts-same s h (Clear mask) r v d j = refl
+    acts-same s h (Erase mask odd) r v d j = refl
+    acts-same s h (Fill mask first count) r v d j =
+        ap (λ (y : Place → Sector). puts y (rowsFrom (fillAt z first) (count * z .c) j (slotsFrom (slots z) mask d))) (fun-ext (refilled-same (s .now) (h .1 v)))
+    acts-same s h End r v d j = refl
 
     pub left-same : (k : ℕ) (s : State) → Alike s f g → leftOf z work g k s ≡ leftOf z work f k s
     unfolding leftOf Alike
     left-same zero s h = refl
     left-same (suc k) s h =
         ap₂ (λ (a l : List (Action Sector)). cond (isEnd (stageOf s)) [] (a ++ l))
-        (acts-same s (stampIn s) h (stageOf s) (redoes (s .kind) s (s .cursor .stage)) (s .cursor .slot) (s .cursor .sector)) (left-same k (onStage s) h)
+        (acts-same s h (stageOf s) (redoes (s .kind) s (s .cursor .stage)) (refills (s .kind) s (s .cursor .stage)) (s .cursor .slot) (s .cursor .sector)) (left-same k (onStage s) h)
 
   module _ (work : List ℕ) (f : Image Sector) where
     -- where the request is over, nothing
@@ -372,14 +458,14 @@ module _ (z : Shelf) where
     left-any zero (suc j) s a b = sym (left-ended j s (stage-over (s .kind) s (s .cursor .stage) (omega arith)))
     left-any (suc k) zero s a b = left-ended k s (stage-over (s .kind) s (s .cursor .stage) (omega arith))
     left-any (suc k) (suc j) s a b =
-        ap (λ (l : List (Action Sector)). cond (isEnd (stageOf s)) [] (actsOf z (stampIn s) work f (stageOf s) (s .cursor .slot) (s .cursor .sector) ++ l))
+        ap (λ (l : List (Action Sector)). cond (isEnd (stageOf s)) [] (actsOf z (underOf s) work f (stageOf s) (s .cursor .slot) (s .cursor .sector) ++ l))
         (left-any k j (onStage s) (omega arith) (omega arith))
 
     -- from slot d, sector j of the stage on: the rest of the stage, and what comes after it
     pub left-at : (k : ℕ) (s : State) (d j : ℕ) → isEnd (stageOf s) ≡ false → mostStages ≤ suc (s .cursor .stage + 1 + k)
-        → leftOf z work f mostStages (moved s (s .cursor .stage) d j) ≡ actsOf z (stampIn s) work f (stageOf s) d j ++ leftOf z work f k (onStage s)
+        → leftOf z work f mostStages (moved s (s .cursor .stage) d j) ≡ actsOf z (underOf s) work f (stageOf s) d j ++ leftOf z work f k (onStage s)
     unfolding leftOf
     left-at k s d j e h =
         let q : stageOf (moved s (s .cursor .stage) d j) ≡ stageOf s = stage-same (s .kind) s (s .cursor .stage) d j (s .cursor .stage) in
-        ap₂ (λ (x : Stage) (l : List (Action Sector)). cond (isEnd x) [] (actsOf z (stampIn s) work f x d j ++ l)) q (left-any (mostStages - 1) k (onStage s) (omega arith) h)
-        ∙ ap (λ (b : Bool). cond b [] (actsOf z (stampIn s) work f (stageOf s) d j ++ leftOf z work f k (onStage s))) e
+        ap₂ (λ (x : Stage) (l : List (Action Sector)). cond (isEnd x) [] (actsOf z (underOf s) work f x d j ++ l)) q (left-any (mostStages - 1) k (onStage s) (omega arith) h)
+        ∙ ap (λ (b : Bool). cond b [] (actsOf z (underOf s) work f (stageOf s) d j ++ leftOf z work f k (onStage s))) e

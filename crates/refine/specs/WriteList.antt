@@ -34,7 +34,7 @@ use Rattle.shelf.specs.declared.state.Kind.the-variants.{Writing}
 use Rattle.shelf.specs.declared.stage.Stage.{Stage}
 use Rattle.shelf.specs.declared.stage.Stage.the-variants.{Flush, Log, Store}
 use Rattle.refine.specs.Keeps.{keptStrip, keptWrite}
-use Rattle.refine.specs.ToDo.{slotsFrom, rows-fresh, stampIn, actsOf, leftOf, stage-same, restores, Alike, left-same, left-any, left-ended}
+use Rattle.refine.specs.ToDo.{slotsFrom, rows-fresh, stampIn, underOf, actsOf, leftOf, stage-same, restores, fills, Alike, left-same, left-any, left-ended}
 use Rattle.refine.specs.Lists.{Says, slots-are}
 
 -- w is the write that the state's marks and the work area describe: its stripe, the shards that it changes, their new strips (of what it
@@ -84,7 +84,7 @@ module _ (z : Shelf) (s : State) (work : List ℕ) (w : Write Sector) (h : Write
 
   module _ (f : Image Sector) where
     abbrev X : Stage → List (Action Sector)
-    X x = actsOf z (stampIn s) work f x 0 0
+    X x = actsOf z (underOf s) work f x 0 0
 
     log-acts : X (Log (s .marks .redo) (s .marks .stripe) (s .marks .parts))
         ≡ puts (logged (records z) (stampNumber (stampIn s)) w) (rows log (logged-sectors (records z)) (involved B (w .stripe) (w .changes)))
@@ -124,9 +124,9 @@ module _ (z : Shelf) (s : State) (work : List ℕ) (w : Write Sector) (h : Write
 
     -- ---- stage by stage
 
-    left-go : (t : State) (k : ℕ) → isEnd (stageOf t) ≡ false → leftOf z work f (suc k) t ≡ actsOf z (stampIn t) work f (stageOf t) (t .cursor .slot) (t .cursor .sector) ++ leftOf z work f k (onStage t)
+    left-go : (t : State) (k : ℕ) → isEnd (stageOf t) ≡ false → leftOf z work f (suc k) t ≡ actsOf z (underOf t) work f (stageOf t) (t .cursor .slot) (t .cursor .sector) ++ leftOf z work f k (onStage t)
     unfolding leftOf
-    left-go t k e = ap (λ (b : Bool). cond b [] (actsOf z (stampIn t) work f (stageOf t) (t .cursor .slot) (t .cursor .sector) ++ leftOf z work f k (onStage t))) e
+    left-go t k e = ap (λ (b : Bool). cond b [] (actsOf z (underOf t) work f (stageOf t) (t .cursor .slot) (t .cursor .sector) ++ leftOf z work f k (onStage t))) e
 
     stage-is : (i d j : ℕ) → stageOf (moved s i d j) ≡ writeStage (s .marks) i
     stage-is i d j = stage-same (s .kind) s i d j i ∙ ap (λ (k : Kind). stageAt k s i) (h .kind)
@@ -161,7 +161,7 @@ module _ (z : Shelf) (s : State) (work : List ℕ) (w : Write Sector) (h : Write
         rest = leftOf z work f mostStages (moved s 2 0 0)
 
         acts : List (Action Sector)
-        acts = actsOf z (stampIn s) work f (stageOf s) (s .cursor .slot) (s .cursor .sector)
+        acts = actsOf z (underOf s) work f (stageOf s) (s .cursor .slot) (s .cursor .sector)
 
         this : (i : ℕ) → s .cursor .stage ≡ i → stageOf s ≡ writeStage (s .marks) i
         this i e = ap (λ (k : Kind). stageAt k s (s .cursor .stage)) (h .kind) ∙ ap (writeStage (s .marks)) e
@@ -188,5 +188,5 @@ module _ (z : Shelf) (s : State) (work : List ℕ) (w : Write Sector) (h : Write
 
   -- what the disks hold does not matter
   pub left-any-image : (f g : Image Sector) (k : ℕ) → leftOf z work g k s ≡ leftOf z work f k s
-  unfolding Alike restores
-  left-any-image f g k = left-same z work f g k s (λ q. absurd (false≢true (sym (ap (λ (x : Kind). restores x (s .marks .forward)) (h .kind)) ∙ q)))
+  unfolding Alike restores fills
+  left-any-image f g k = left-same z work f g k s (λ q. absurd (false≢true (sym (ap (λ (x : Kind). restores x (s .marks .forward)) (h .kind)) ∙ q)), λ q. absurd (false≢true (sym (ap fills (h .kind)) ∙ q)))
