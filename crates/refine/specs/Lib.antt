@@ -30,6 +30,7 @@ pub mod Accepts
 pub mod Other
 pub mod Named
 pub mod Chain
+pub mod Refills
 pub mod Holds
 pub mod Promise
 pub mod Blind
