@@ -4,12 +4,13 @@ use mathlib.Core.Path.{_≡_, refl, sym, ap, subst, _∙_}
 use mathlib.Core.Logic.{_⊎_, inl, inr, ⊎-elim}
 use mathlib.Core.Bool.{true}
 use mathlib.Core.List.{List, [], List·Memᴰ·not-nil}
-use Prim.Native.Nat.{ℕ, _<_}
+use Prim.Native.Nat.{ℕ, _*_, _≤_, _<_}
 use lib.ListN.{length}
+use Rattle.disk.specs.Limits.{sectorBytes}
 use Rattle.disk.specs.Geometry.{stripesOf}
 use Rattle.disk.specs.Mask.{inMask}
 use Rattle.disk.specs.declared.refusal.Outcome.the-variants.{Done}
-use Rattle.protocol.specs.World.{World, Always}
+use Rattle.protocol.specs.World.{World, Action, Always}
 use Rattle.protocol.specs.Label.{looked}
 use Rattle.protocol.specs.Program.{Own, Memory, idle, doing, labelling, Reply, accepted, rebuild-on, step, beyond, asked-on}
 use Rattle.protocol.specs.Machine.{Machine, View, sure, open-write, kept-write, effect, Answered}
@@ -33,7 +34,7 @@ use Rattle.refine.specs.Steps.{Fair}
 use Rattle.refine.specs.Tied.{ownOf, memoryOf, plain}
 use Rattle.refine.specs.Requests.{goes}
 use Rattle.refine.specs.Relabels.{TiedLabel, label-tied}
-use Rattle.refine.specs.FillList.{fill-memory}
+use Rattle.refine.specs.FillList.{fill-memory, fill-work, fill-same}
 use Rattle.refine.specs.OnBegins.{on-rests, on-next, on-fair, on-asked, on-accepted}
 use Rattle.refine.specs.Named.{Named, Names, leftIn, on-names, step-names}
 use Rattle.refine.specs.Chain.{Heard, has, Reached, Tie, asks-to, rests, off, accepted-none, idle-is, step-some, step-leaves, heard-is}
@@ -104,6 +105,22 @@ module _ (z : Shelf) (F : Family z) (first : Machine Sector) where
             fair = on-fair z img (t .disks) s own b work (g .0) below dark;
             kind = refl;
           }
+
+  -- any work area with room for a stripe does
+  pub refilling-work : (p : View Sector) (w : World Sector) (img : List ℕ) (s : State) (work other : List ℕ) → slots z * (z .c * sectorBytes) ≤ length other → Refilling p w img s work → Refilling p w img s other
+  refilling-work p w img s work other room t =
+      let same : toDo z s work img ≡ toDo z s other img = fill-same z s work other img (t .kind) in
+      record {
+        before = t .before;
+        disks = t .disks;
+        reads = t .reads;
+        reached = subst (λ (l : List (Action Sector)). Reached z F first p w (doing labelling l (t .before) (ownOf z s (s .next)))) same (t .reached);
+        named = t .named;
+        names = subst (Names z) same (t .names);
+        own-next = t .own-next;
+        fair = fill-work z s work img (t .kind) other room (t .fair);
+        kind = t .kind;
+      }
 
   -- A STEP is the program's: the rebuild goes on, or is done and all is at rest
   pub fill-kept : (p : View Sector) (w : World Sector) (img : List ℕ) (s : State) (work : List ℕ) (w' : World Sector) → Refilling p w img s work
