@@ -18,7 +18,7 @@ use Rattle.label.specs.declared.fields.Label as bytes
 use Rattle.label.proofs.Fits.{fits-says}
 use Rattle.protocol.specs.Label.{belief, believe-of}
 use Rattle.protocol.specs.Startup.{gone, stale}
-use Rattle.codecs.specs.Shelf.{Shelf, slots, geometry, size, some-sectors}
+use Rattle.codecs.specs.Shelf.{Shelf, slots, geometry, size}
 use Rattle.codecs.specs.Labels.{ours, labels}
 use Rattle.codecs.specs.Records.{records}
 use Rattle.shelf.specs.Act.{named}

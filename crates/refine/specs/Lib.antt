@@ -32,6 +32,7 @@ pub mod Accepts
 pub mod Other
 pub mod Named
 pub mod Chain
+pub mod Refills
 pub mod Holds
 pub mod Promise
 pub mod Blind

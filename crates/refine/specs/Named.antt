@@ -3,7 +3,7 @@
 use mathlib.Core.Path.{_≡_, refl, sym, ap, subst, _∙_}
 use mathlib.Core.Bool.{Bool, true, false, cond, not, false≢true, _||_}
 use mathlib.Core.List.{List, [], _∷_, _++_}
-use Prim.Native.Nat.{ℕ, zero, suc, _+_, _*_, _<_, _/_, _%_, _^_}
+use Prim.Native.Nat.{ℕ, zero, suc, _+_, _-_, _*_, _<_, _/_, _%_, _^_}
 use native.Mathlib.Nat.{pow-suc}
 use native.Mathlib.Omega.{arith}
 use lib.Dec.{eqb, ltb}
@@ -29,7 +29,9 @@ use Rattle.protocol.specs.Decide.{data-place, Touch, Looked, strips-each, redo-
 use Rattle.protocol.specs.Log.{Write, Belief}
 use Rattle.protocol.specs.Write.{logged, log-batch, log-write, store}
 use Rattle.protocol.specs.Request.{outed}
-use Rattle.protocol.specs.Program.{Own, creating, starting, logging, storing, labelling, Memory, nothing, idle, doing, step, new-label, beyond, flushed-first, told-to, back-in, asked-create, asked-start, asked-out, asked-begin}
+use Rattle.protocol.specs.Host.{rebuilt}
+use Rattle.protocol.specs.Rebuild.{raised, healed, fill, fill-batch, filled}
+use Rattle.protocol.specs.Program.{Own, creating, starting, logging, storing, labelling, Memory, nothing, idle, doing, step, new-label, beyond, flushed-first, told-to, back-in, asked-create, asked-start, asked-out, asked-begin, at-least-one, last-batch, asked-raise, asked-heal, asked-on}
 use Rattle.protocol.specs.Machine.{effect}
 use Rattle.protocol.specs.Even.{program-by}
 use Rattle.protocol.specs.Pairs.{no-sets}
@@ -209,6 +211,40 @@ module _ (z : Shelf) where
       names-append (flushes (flushed-at-begin (records z) d)) ((X1 ++ X2) ++ (A1 ++ (A2 ++ A3))) (names-flushes (flushed-at-begin (records z) d))
       (names-append (X1 ++ X2) (A1 ++ (A2 ++ A3)) (names-append X1 X2 (names-expel f0 (not S) (d ∷ [])) (names-expel f0 S (d ∷ [])))
       (names-append A1 (A2 ++ A3) (names-wipe d) (names-append A2 A3 (names-prep f0 (o .now .generation) (o .now) (d ∷ [])) (names-round (begun (o .now) d) ds))))
+
+  names-fill : (Q : Label) (more : ℕ) (v : ℕ → ℕ → Sector) → Names (fill (records z) Q more v)
+  unfolding fill-batch
+  names-fill Q more v = names-batch (fill-batch (records z) Q more v) go
+    where
+      go : (k : Place) → NamesIn z k (filled (records z) v k)
+      go (label d b) = zeros-named (label d b)
+      go (log d j) = tt
+      go (strip d t j) = tt
+
+  names-on : (Q N : Label) (more : ℕ) (v : ℕ → ℕ → Sector) (ds : List ℕ) → Names (fill (records z) Q more v ++ round (labels z) N ds)
+  names-on Q N more v ds = names-append (fill (records z) Q more v) (round (labels z) N ds) (names-fill Q more v) (names-round N ds)
+
+  pub on-names : (o : Own) (f : Image Sector) (b : ℕ) → Names (leftIn (asked-on (size z) (no-sets (slots z)) (labels z) (records z) (any-code z) stamps (any-sectors z) o f b))
+  on-names o f b = by (last-batch (size z) (no-sets (slots z)) (labels z) (records z) (any-code z) stamps (any-sectors z) o b)
+    where
+      more : ℕ
+      more = at-least-one (size z) (no-sets (slots z)) (labels z) (records z) (any-code z) stamps (any-sectors z) b
+
+      ds : List ℕ
+      ds = told-to (size z) (no-sets (slots z)) (labels z) (records z) (any-code z) stamps (any-sectors z) (o .absent)
+
+      v : ℕ → ℕ → Sector
+      v = rebuilt (size z) (no-sets (slots z)) (records z) (any-code z) (o .now) f (o .now .rebuilding)
+
+      heal : Memory Sector
+      heal = asked-heal (size z) (no-sets (slots z)) (labels z) (records z) (any-code z) stamps (any-sectors z) o f
+
+      raise : Memory Sector
+      raise = asked-raise (size z) (no-sets (slots z)) (labels z) (records z) (any-code z) stamps (any-sectors z) o f more
+
+      by : (x : Bool) → Names (leftIn (cond x heal raise))
+      by true = names-on (o .now) (healed (slots z) (o .now)) (size z .T - o .now .mark) v ds
+      by false = names-on (o .now) (raised (o .now) (o .now .mark + more)) more v ds
 
   names-store : (x : Write Sector) (o : Own) → Names (store (records z) (belief (size z) (o .now)) (x .stripe) (x .changes) (x .new))
   unfolding Touch

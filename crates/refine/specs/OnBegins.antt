@@ -43,6 +43,7 @@ use Rattle.shelf.specs.Act.{named}
 use Rattle.shelf.specs.Step.{sound}
 use Rattle.shelf.specs.Says.{when, unless}
 use Rattle.shelf.specs.declared.state.State.{State}
+use Rattle.shelf.specs.declared.state.Kind.{Kind}
 use Rattle.requests.specs.Begun.{workBytes, slotsBut}
 use Rattle.requests.specs.Ready.{isIdle, readyOf}
 use Rattle.requests.specs.TakeOut.{nextLabel}
@@ -97,6 +98,12 @@ fits-next l d out r mark e i more low rebuild =
     (both (leb 1 (l .generation + 1)) _ (le-leb 1 (l .generation + 1) (omega arith))
     (both (leb (l .generation + 1) mostGeneration) _ (le-leb (l .generation + 1) mostGeneration (omega arith))
     (both (ltb out (2 ^ (l .k + l .m))) _ (lt-ltb out (2 ^ (l .k + l .m)) low) rebuild))))))
+
+-- it is accepted at rest
+pub on-rests : (l : bytes.Label) (kind : Kind) (absent : ℕ) (img : List ℕ) (room : ℕ) → onAnswer l kind absent img room ≡ Done → isIdle kind ≡ true
+unfolding askedOn
+on-rests l kind absent img room e =
+    judged-done (tooFew l absent) false (isIdle kind) (cannotGoOn l absent) (sized l room) (first-done (readyOf l kind absent img) (askedOn l (isIdle kind) absent room) e .1) .free
 
 module _ (z : Shelf) (img : List ℕ) (disks : Disks z img) (s : State) (own : ours z (s .now) ≡ true) (b : ℕ) (work : List ℕ)
     (ok : onAnswer (s .now) (s .kind) (s .absent) img (length work) ≡ Done) (below : s .now .mark < stripesOf (geometry z))
@@ -270,6 +277,9 @@ module _ (z : Shelf) (img : List ℕ) (disks : Disks z img) (s : State) (own : o
       by : (x : Bool) → lastBatch l b ≡ x → Tells z (cond x (nextLabel l (withoutSlot (l .out) r) noSlot 0) (nextLabel l (l .out) r (l .mark + atLeastOne b)))
       by true q = record { same = own; fit = λ d i. fits-next l d (withoutSlot (l .out) r) noSlot 0 (goes-on .fits) (omega (arith, n-is)) one-left low-out refl }
       by false q = record { same = own; fit = λ d i. fits-next l d (l .out) r (l .mark + atLeastOne b) (goes-on .fits) (omega (arith, n-is)) one-left (fits .out-below) (raise-fits q d) }
+
+  pub on-next : ours z (onLabel l b) ≡ true
+  on-next = next-tells .same
 
   -- ---- the beginning
 
