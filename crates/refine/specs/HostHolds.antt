@@ -1,4 +1,4 @@
--- WHAT EVERY CHAIN OF CALLS WITH WRITES KEEPS beside the host's view: a step can be followed; a write or a begin under way is carried out by its steps;
+-- WHAT EVERY CHAIN OF CALLS WITH WRITES KEEPS beside the host's view: a step can be followed; a write, a begin or a rebuild under way is carried out by its steps;
 -- at rest the view is a list, and every believed strip is what it asks for, whatever a cut leaves; no disk names another shelf, and every label has its shape. Assumes nothing.
 use mathlib.Core.Path.{_≡_, refl, sym, ap, subst, _∙_}
 use mathlib.Core.Logic.{⊎-elim, inl, inr}
@@ -40,7 +40,7 @@ use Rattle.refine.specs.Ends.{EndsAfter, request-ends}
 use Rattle.refine.specs.Named.{copy-ours}
 use Rattle.refine.specs.Chain.{Heard, rests, step-is, heard-by}
 use Rattle.refine.specs.Holds.{Follows, shape-of}
-use Rattle.refine.specs.Hosts.{Held, has, Laying, Readying, Bound, loose}
+use Rattle.refine.specs.Hosts.{Held, has, Laying, Readying, Going, Bound, loose}
 
 module _ (z : Shelf) (F : Family z) (first : Machine Sector) (p : View Sector) (w : World Sector) (img : List ℕ) where
   -- NO DISK NAMES ANOTHER SHELF, whatever a cut leaves
@@ -71,11 +71,20 @@ module _ (z : Shelf) (F : Family z) (first : Machine Sector) (p : View Sector) (
             let d = write-tied z (t .written) s work img (t .writes) (t .fair) in
             subst (λ (m : Move). (w' : World Sector) × Heard z w (m .stepped .answer) (m .image) w') (sym (step-goes s img work (t .fair .in-range) e))
             (heard-by z F first w (stepMove s work img .image) (d .reply) (stepMove s work img .stepped .answer) (d .answers) (d .acts w (t .reads)))
-    bound-followed (inr (inr t)) = by (otherWork (s .now) (length img) (length work)) refl
+    bound-followed (inr (inr (inl t))) = by (otherWork (s .now) (length img) (length work)) refl
       where
         by : (b : Bool) → otherWork (s .now) (length img) (length work) ≡ b → (w' : World Sector) × Heard z w (stepWith s img work .stepped .answer) (stepWith s img work .image) w'
         by true e = subst (λ (m : Move). (w' : World Sector) × Heard z w (m .stepped .answer) (m .image) w') (sym (step-short s img work (t .fair .in-range) e)) (w, refl)
         by false e =
+            let d = label-tied z (t .before) s work img (t .fair) in
+            subst (λ (m : Move). (w' : World Sector) × Heard z w (m .stepped .answer) (m .image) w') (sym (step-goes s img work (t .fair .in-range) e))
+            (heard-by z F first w (stepMove s work img .image) (d .reply) (stepMove s work img .stepped .answer) (d .answers) (d .acts w (t .reads)))
+    bound-followed (inr (inr (inr g))) = by (otherWork (s .now) (length img) (length work)) refl
+      where
+        by : (b : Bool) → otherWork (s .now) (length img) (length work) ≡ b → (w' : World Sector) × Heard z w (stepWith s img work .stepped .answer) (stepWith s img work .image) w'
+        by true e = subst (λ (m : Move). (w' : World Sector) × Heard z w (m .stepped .answer) (m .image) w') (sym (step-short s img work (g .refills .fair .in-range) e)) (w, refl)
+        by false e =
+            let t = g .refills in
             let d = label-tied z (t .before) s work img (t .fair) in
             subst (λ (m : Move). (w' : World Sector) × Heard z w (m .stepped .answer) (m .image) w') (sym (step-goes s img work (t .fair .in-range) e))
             (heard-by z F first w (stepMove s work img .image) (d .reply) (stepMove s work img .stepped .answer) (d .answers) (d .acts w (t .reads)))
@@ -88,12 +97,17 @@ module _ (z : Shelf) (F : Family z) (first : Machine Sector) (p : View Sector) (
     pub begin-carried-out : Readying z F first p w img s work → (n : ℕ) × EndsAfter n work s img
     begin-carried-out t = (length (toDo z s work img), request-ends z work (t .sized) s img (t .fair))
 
+    -- AND A REBUILD
+    pub rebuild-carried-out : Going z F first p w img s work → (n : ℕ) × EndsAfter n work s img
+    rebuild-carried-out t = (length (toDo z s work img), request-ends z work (t .sized) s img (t .refills .fair))
+
     -- AT REST the view is a list, and each strip sector that the state's label believes is what the list asks for, whatever a cut leaves
     pub bound-rests : s .kind ≡ Idle → Bound z F first p w img (has s work)
         → (v : Host Sector) × (p ≡ sure v) × ((left : List ℕ) → Possible w (curOf z left) → (d t j : ℕ) → believed (geometry z) (s .now) d t ≡ true → j < z .c → curOf z left (strip d t j) ≡ any-code z .shard t (v t) d j)
     unfolding Always
     bound-rests e (inr (inl t)) = absurd (false≢true (sym (ap isIdle (t .writes .kind)) ∙ ap isIdle e))
-    bound-rests e (inr (inr t)) = absurd (false≢true (sym (ap isIdle (t .kind)) ∙ ap isIdle e))
+    bound-rests e (inr (inr (inl t))) = absurd (false≢true (sym (ap isIdle (t .kind)) ∙ ap isIdle e))
+    bound-rests e (inr (inr (inr t))) = absurd (false≢true (sym (ap isIdle (t .refills .kind)) ∙ ap isIdle e))
     bound-rests e (inl t) = by p (subst (λ (x : Memory Sector). KeepsIn z F (machine.at w x) p) (rests z s img e) (t .reached .keeps))
       where
         by : (p : View Sector) → KeepsIn z F (machine.at w (idle (ownOf z s (s .now)))) p

@@ -1,12 +1,14 @@
--- CHAINS OF CALLS WITH WRITES: create, start, take out, begin, write, repair and step, with power cuts and deaths of the caller in
--- between, and the host's view beside them. The caller hands back the state and the work area that it was handed last. What a call does
--- to the view is said in the words of its answer (`Saw`). A repair is always refused, since no sector changes by itself. Assumes nothing.
+-- CHAINS OF CALLS WITH WRITES: create, start, take out, begin, go on with a rebuild, write, repair and step, with power cuts and deaths
+-- of the caller in between, and the host's view beside them. The caller hands back the state and the work area that it was handed last.
+-- What a call does to the view is said in the words of its answer (`Saw`). A repair is always refused, since no sector changes by itself.
+-- Assumes nothing.
 use mathlib.Core.Path.{_≡_, refl, sym, ap, subst, _∙_}
 use mathlib.Core.Logic.{_⊎_, ⊎-elim, inl, inr}
 use mathlib.Core.Bool.{Bool, true, false, false≢true}
 use mathlib.Core.List.{List, [], _∷_, _++_, List·Memᴰ·not-nil, Memᴰ·append-left, Memᴰ·append-right}
 use Prim.Native.Nat.{ℕ, _+_, _<_, _/_, _%_}
 use lib.ListN.{length}
+use Rattle.disk.specs.Geometry.{stripesOf}
 use Rattle.disk.specs.Mask.{inMask}
 use Rattle.disk.specs.declared.geometry.Geometry.{Geometry}
 use Rattle.disk.specs.declared.refusal.Refusal.{Refusal}
@@ -24,7 +26,7 @@ use Rattle.protocol.specs.Program as program
 use Rattle.protocol.specs.Machine.{Machine, effect, View, sure, open-write, kept-write, Saved, Ended, Answered}
 use Rattle.protocol.specs.Even.{program-by}
 use Rattle.codecs.specs.Sector.{Sector, Bytes}
-use Rattle.codecs.specs.Shelf.{Shelf, slots, size}
+use Rattle.codecs.specs.Shelf.{Shelf, slots, geometry, size}
 use Rattle.codecs.specs.Labels.{fieldsOf, noLabel, ours, labelOf}
 use Rattle.shards.specs.Even.{any-code}
 use Rattle.shelf.specs.Act.{Move, refuses}
@@ -43,6 +45,7 @@ use Rattle.requests.specs.Accepted.{take-done}
 use Rattle.requests.specs.Ready.{isIdle, readyOf}
 use Rattle.requests.specs.declared.begun.Begun.{Begun}
 use Rattle.rebuilds.specs.Begin.{beginAnswer, began, beginOf}
+use Rattle.rebuilds.specs.On.{onAnswer, wentOn, onOf}
 use Rattle.blocks.specs.Slots.{tooFew}
 use Rattle.blocks.specs.Answers.{sizes, blockAnswer, first-done, answered-done}
 use Rattle.blocks.specs.Write.{stampLeft, writeAnswer, Written, AfterWrite, write-done}
@@ -65,6 +68,8 @@ use Rattle.refine.specs.WriteAsked.{W, write-goes, write-accepted}
 use Rattle.refine.specs.Mends.{may-whole, mend-refused, asked-refused}
 use Rattle.refine.specs.Chain.{Heard, outs, handed, Allowed, rests, Reached, Tie, asks-to, off, create-kept, late-kept, start-any, out-kept, cut-kept, goes-to, refused-kept, step-is, step-some, step-leaves, heard-is, accepted-none, idle-is}
 use Rattle.refine.specs.Chain as chain
+use Rattle.refine.specs.OnBegins.{on-rests, on-sized}
+use Rattle.refine.specs.Refills.{Refilling, on-kept, saw-label, fill-kept}
 
 -- ---- THE CALLS
 
@@ -92,6 +97,9 @@ pub data HostCalls (z : Shelf) : Time → Time → Type 1 where
   takes-out : {w : World Sector} {img : List ℕ} {s : State} {work : List ℕ} (d : ℕ) → HostCalls z (at w img (has s work)) (at w img (held (has s work) (takeOutOf s d img (length work)) work))
   -- the disk of slot d is readied, and the label then says that it is being rebuilt
   begins : {w : World Sector} {img : List ℕ} {s : State} {work : List ℕ} (d : ℕ) → HostCalls z (at w img (has s work)) (at w img (held (has s work) (beginOf s d img (length work)) work))
+  -- the next strips of the slot that is being rebuilt are rebuilt, b of them at most (0 means 1). The mark of every label that this software writes is below the number
+  -- of stripes while a slot is rebuilt; a label whose mark is that number, which only other software can have written, is left out
+  ons : {w : World Sector} {img : List ℕ} {s : State} {work : List ℕ} (b : ℕ) → s .now .mark < stripesOf (geometry z) → HostCalls z (at w img (has s work)) (at w img (held (has s work) (onOf s b img (length work)) work))
   -- the bytes given are written to block b: what write's contract says
   writes : {w : World Sector} {img : List ℕ} {s : State} {work : List ℕ} (b : ℕ) (given : List ℕ) (s' : State) (then : List ℕ) → Bytes given → Bytes then
       → AfterWrite (writeAnswer (s .now) (s .kind) (s .absent) (s .count) img b (length given) (length work)) s b given img work s' then → HostCalls z (at w img (has s work)) (at w img (has s' then))
@@ -113,6 +121,7 @@ sets-call (creates-late s k m c S number work e) = []
 sets-call (starts {img = img} s g absent work sits) = outs (startOf s g absent img (length work))
 sets-call (takes-out {img = img} {s = s} {work = work} d) = outs (takeOutOf s d img (length work))
 sets-call (begins d) = []
+sets-call (ons b below) = []
 sets-call (writes b given s' then x y e) = []
 sets-call (repairs t b then r) = []
 sets-call (steps heard) = []
@@ -166,6 +175,7 @@ Saw (creates-late s k m c S number work e) p q = q ≡ p
 Saw (starts s g absent work sits) p q = q ≡ p
 Saw (takes-out d) p q = q ≡ p
 Saw (begins d) p q = q ≡ p
+Saw (ons b below) p q = q ≡ p
 Saw {z} (writes {img = img} {s = s} {work = work} b given s' then x y e) p q =
     SawAsked (writeAnswer (s .now) (s .kind) (s .absent) (s .count) img b (length given) (length work)) (b / z .k) (b % z .k) (sectorsOf (z .c) given) p q
 Saw (repairs t b then r) p q = q ≡ p
@@ -219,9 +229,18 @@ module _ (z : Shelf) (F : Family z) (first : Machine Sector) where
     pub kind : s .kind ≡ Beginning
     pub sized : length work ≡ workBytes (slots z) (z .c)
 
+  -- a rebuild is under way, with the work area that was lent
+  pub record Going (p : View Sector) (w : World Sector) (img : List ℕ) (s : State) (work : List ℕ) : Type 1 where
+    pub refills : Refilling z F first p w img s work
+    pub sized : length work ≡ workBytes (slots z) (z .c)
+
+  -- one of the requests that need the work area, or remember more, is under way
+  abbrev pub Busy : View Sector → World Sector → List ℕ → State → List ℕ → Type 1
+  Busy p w img s work = Laying p w img s work ⊎ (Readying p w img s work ⊎ Going p w img s work)
+
   abbrev pub Bound : View Sector → World Sector → List ℕ → Held → Type 1
   Bound p w img none = Tie z F first p w img chain.none
-  Bound p w img (has s work) = Tie z F first p w img (chain.has s) ⊎ (Laying p w img s work ⊎ Readying p w img s work)
+  Bound p w img (has s work) = Tie z F first p w img (chain.has s) ⊎ Busy p w img s work
 
   abbrev pub BoundAt : View Sector → Time → Type 1
   BoundAt p (at w img h) = Bound p w img h
@@ -236,11 +255,15 @@ module _ (z : Shelf) (F : Family z) (first : Machine Sector) where
   loose-begin : (p : View Sector) (w : World Sector) (img : List ℕ) (s : State) (work : List ℕ) → Readying p w img s work → Tie z F first p w img chain.none
   loose-begin p w img s work t = record { disks = t .disks; reads = t .reads; reached = off z F first p (t .reached); named = t .named; names = tt; order = tt }
 
+  loose-on : (p : View Sector) (w : World Sector) (img : List ℕ) (s : State) (work : List ℕ) → Going p w img s work → Tie z F first p w img chain.none
+  loose-on p w img s work g = let t = g .refills in record { disks = t .disks; reads = t .reads; reached = off z F first p (t .reached); named = t .named; names = tt; order = tt }
+
   pub loose : (p : View Sector) (w : World Sector) (img : List ℕ) (h : Held) → Bound p w img h → Tie z F first p w img chain.none
   loose p w img none t = t
   loose p w img (has s work) (inl t) = loose-tie p w img (chain.has s) t
   loose p w img (has s work) (inr (inl t)) = loose-write p w img s work t
-  loose p w img (has s work) (inr (inr t)) = loose-begin p w img s work t
+  loose p w img (has s work) (inr (inr (inl t))) = loose-begin p w img s work t
+  loose p w img (has s work) (inr (inr (inr t))) = loose-on p w img s work t
 
   -- a request that begins anew
   anew : (p : View Sector) (w : World Sector) (img : List ℕ) (h : Held) (b : Begun) (work : List ℕ) → Bound p w img h → Tie z F first p w img (handed chain.none b) → Bound p w img (held h b work)
@@ -250,10 +273,11 @@ module _ (z : Shelf) (F : Family z) (first : Machine Sector) where
       by Done n = inl n
       by (Refused why) n = t
 
-  -- no request of these two is at rest
-  not-rest : (p : View Sector) (w : World Sector) (img : List ℕ) (s : State) (work : List ℕ) → Laying p w img s work ⊎ Readying p w img s work → isIdle (s .kind) ≡ true → ⊥
+  -- no request of these is at rest
+  not-rest : (p : View Sector) (w : World Sector) (img : List ℕ) (s : State) (work : List ℕ) → Busy p w img s work → isIdle (s .kind) ≡ true → ⊥
   not-rest p w img s work (inl t) e = false≢true (sym (ap isIdle (t .writes .kind)) ∙ e)
-  not-rest p w img s work (inr t) e = false≢true (sym (ap isIdle (t .kind)) ∙ e)
+  not-rest p w img s work (inr (inl t)) e = false≢true (sym (ap isIdle (t .kind)) ∙ e)
+  not-rest p w img s work (inr (inr t)) e = false≢true (sym (ap isIdle (t .refills .kind)) ∙ e)
 
   -- taking out
   out-bound : (p : View Sector) (w : World Sector) (img : List ℕ) (s : State) (work : List ℕ) (d : ℕ) → Allowed z F (outs (takeOutOf s d img (length work))) → Bound p w img (has s work)
@@ -291,6 +315,7 @@ module _ (z : Shelf) (F : Family z) (first : Machine Sector) where
           let y = asks-to z F first img (t .reads) r _ (begin d) accepted (b .2) (accepted-none z F first p) (λ q x n. absurd (List·Memᴰ·not-nil n)) in
           inr
           (inr
+          (inl
           (record {
             before = ownOf z s (s .now);
             same-label = refl;
@@ -304,12 +329,38 @@ module _ (z : Shelf) (F : Family z) (first : Machine Sector) where
             fair = b .0;
             kind = refl;
             sized = g .whole ∙ ap (λ (x : Geometry). workBytes (x .n) (x .c)) (shelf-geometry z (s .now) own);
-          }))
+          })))
       by (Refused why) e = inl t
   begin-bound p w img s work d (inr t) = by (beginAnswer (s .now) (s .kind) (s .absent) img d (length work)) refl
     where
       by : (o : Outcome) → beginAnswer (s .now) (s .kind) (s .absent) img d (length work) ≡ o → Bound p w img (held (has s work) (begun o s (began s d img)) work)
       by Done e = absurd (not-rest p w img s work t (begin-goes (s .now) (s .kind) (s .absent) img d (length work) e .at-rest))
+      by (Refused why) e = inr t
+
+  -- going on with a rebuild
+  on-bound : (p : View Sector) (w : World Sector) (img : List ℕ) (s : State) (work : List ℕ) (b : ℕ) → s .now .mark < stripesOf (geometry z) → Bound p w img (has s work) → Bound p w img (held (has s work) (onOf s b img (length work)) work)
+  on-bound p w img s work b below (inl t) = by (onAnswer (s .now) (s .kind) (s .absent) img (length work)) refl
+    where
+      own : ours z (s .now) ≡ true
+      own = ⊎-elim (λ (f : Fair z s [] img × (plain (s .kind) ≡ true)). f .0 .ours-now) (λ (q : (s .kind ≡ Idle) × (ours z (s .now) ≡ true)). q .1) (t .order .1)
+
+      by : (o : Outcome) → onAnswer (s .now) (s .kind) (s .absent) img (length work) ≡ o → Bound p w img (held (has s work) (begun o s (wentOn s b img)) work)
+      by Done e =
+          let r : Reached z F first p w (idle (ownOf z s (s .now))) = subst (Reached z F first p w) (rests z s img (idle-is z F first p (s .kind) (on-rests (s .now) (s .kind) (s .absent) img (length work) e))) (t .reached) in
+          let dark : (d : ℕ) → d < slots z → inMask (s .absent) d ≡ true → Label.looked (size z) (labelOf z (s .now)) d ≡ true → ⊥ = λ d i a q. rest-dark p w (ownOf z s (s .now)) r d (beyond-below (slots z) (s .absent) d i ∙ a) q in
+          let n : Refilling z F first p w img (onOf s b img (length work) .state) work = on-kept z F first p w img s b work t (ap (λ (o : Outcome). begun o s (wentOn s b img) .outcome) e) below in
+          inr
+          (inr
+          (inr
+          (record {
+            refills = subst (λ (o : Outcome). Refilling z F first p w img (begun o s (wentOn s b img) .state) work) e n;
+            sized = on-sized z img (t .disks) s own b work e below dark;
+          })))
+      by (Refused why) e = inl t
+  on-bound p w img s work b below (inr t) = by (onAnswer (s .now) (s .kind) (s .absent) img (length work)) refl
+    where
+      by : (o : Outcome) → onAnswer (s .now) (s .kind) (s .absent) img (length work) ≡ o → Bound p w img (held (has s work) (begun o s (wentOn s b img)) work)
+      by Done e = absurd (not-rest p w img s work t (on-rests (s .now) (s .kind) (s .absent) img (length work) e))
       by (Refused why) e = inr t
 
   -- ---- a write is asked for
@@ -364,7 +415,7 @@ module _ (z : Shelf) (F : Family z) (first : Machine Sector) where
       where
         by : (o : Outcome) → asked ≡ o → AfterWrite o s b given img work s' then → (q : View Sector) × SawAsked o (b / z .k) (b % z .k) (sectorsOf (z .c) given) p q × Bound q w img (has s' then)
         by Done e a =
-            ⊎-elim (λ (x : Tie z F first p w img (chain.has s)). accepted-write e a x) (λ (x : Laying p w img s work ⊎ Readying p w img s work). absurd (not-rest p w img s work x (rest-of e))) t
+            ⊎-elim (λ (x : Tie z F first p w img (chain.has s)). accepted-write e a x) (λ (x : Busy p w img s work). absurd (not-rest p w img s work x (rest-of e))) t
         by (Refused why) e a = (p, refl, subst (λ (x : State). Bound p w img (has x then)) (sym (a .0)) (subst (λ (x : List ℕ). Bound p w img (has s x)) (sym (a .1)) t))
 
   -- ---- a repair
@@ -550,11 +601,6 @@ module _ (z : Shelf) (F : Family z) (first : Machine Sector) where
           (y .0, inr (y .1), y .2, n)) (d .first)
 
   -- of begin
-  saw-label : (l : List (Action Sector)) (o o' : Own) (f : Image Sector) (r : Reply Sector) → programOf z (doing labelling l o o') f step .1 ≡ r → (p q : View Sector) → Answered (z .c) step r p q → q ≡ p
-  unfolding program-by
-  saw-label [] o o' f r m p q h = subst (λ (x : Reply Sector). Answered (z .c) step x p q) (sym m) h
-  saw-label (x ∷ l) o o' f r m p q h = subst (λ (x : Reply Sector). Answered (z .c) step x p q) (sym m) h
-
   step-begin : (p : View Sector) (w : World Sector) (img : List ℕ) (s : State) (work : List ℕ) (m : Move) (w' : World Sector) (t : Readying p w img s work) → TiedLabel z (t .before) s work img m → Heard z w (m .stepped .answer) (m .image) w'
       → (q : View Sector) × (q ≡ p) × Bound q w' (m .image) (has (m .stepped .state) work)
   step-begin p w img s work m w' t d h =
@@ -562,13 +608,14 @@ module _ (z : Shelf) (F : Family z) (first : Machine Sector) where
       let y = asks-to z F first img (t .reads) (t .reached) (d .after) step (d .reply) (d .steps) (step-some z F first p (d .reply) (m .stepped .answer) (d .answers)) (λ e x n. step-leaves z F first p (d .reply) (m .stepped .answer) (d .answers) e x _ n) in
       let n = subst (λ (y : Memory Sector × Reply Sector). Always (effect w (y .1)) (Named z) × Names z (leftIn z (y .0))) (d .steps) (step-names z M (curOf z img) w (off z F first p (t .reached) .keeps .sane) (t .named) (t .names)) in (
         y .0,
-        saw-label (toDo z s work img) (t .before) (ownOf z s (s .next)) (curOf z img) (d .reply) (ap (λ (b : Memory Sector × Reply Sector). b .1) (d .steps)) p (y .0) (y .1),
+        saw-label z F first (toDo z s work img) (t .before) (ownOf z s (s .next)) (curOf z img) (d .reply) (ap (λ (b : Memory Sector × Reply Sector). b .1) (d .steps)) p (y .0) (y .1),
         subst (λ (x : World Sector). Bound (y .0) x (m .image) (has (m .stepped .state) work)) (heard-is z F first p w w' (m .image) (d .reply) (m .stepped .answer) (d .answers) (d .acts w (t .reads)) h)
             (⊎-elim
             (λ (g : Fair z (m .stepped .state) work (m .image) × (m .stepped .state .kind ≡ s .kind) × (m .stepped .state .now ≡ s .now) × (m .stepped .state .absent ≡ s .absent)
             × (d .after ≡ doing labelling (toDo z (m .stepped .state) work (m .image)) (t .before) (ownOf z (m .stepped .state) (m .stepped .state .next)))).
             inr
             (inr
+            (inl
             (record {
               before = t .before;
               same-label = t .same-label ∙ ap (labelOf z) (sym (g .2));
@@ -582,7 +629,7 @@ module _ (z : Shelf) (F : Family z) (first : Machine Sector) where
               fair = g .0;
               kind = g .1 ∙ t .kind;
               sized = t .sized;
-            })))
+            }))))
             (λ (g : (m ≡ finished s img) × (d .after ≡ idle (ownOf z s (s .next)))).
             let k : m .stepped .state .kind ≡ Idle = ap (λ (x : Move). x .stepped .state .kind) (g .0) in
             let e : d .after ≡ memoryOf z (m .stepped .state) [] (m .image) = g .1 ∙ ap (λ (x : Move). idle (ownOf z (x .stepped .state) (x .stepped .state .now))) (sym (g .0)) ∙ sym (rests z (m .stepped .state) (m .image) k) in
@@ -595,6 +642,19 @@ module _ (z : Shelf) (F : Family z) (first : Machine Sector) where
               names = subst (λ (x : Memory Sector). Names z (leftIn z x)) e (n .1);
               order = (ap (ours z) (d .settles) ∙ t .next-ours, inr (k, ap (λ (x : Move). ours z (x .stepped .state .now)) (g .0) ∙ t .next-ours));
             })) (d .goes-on)),
+      )
+
+  -- of a rebuild
+  step-on : (p : View Sector) (w : World Sector) (img : List ℕ) (s : State) (work : List ℕ) (w' : World Sector) → Going p w img s work → ((q : View Sector) (a : Answer) → q ≡ p → SawStep (s .kind) a p q)
+      → Heard z w (stepMove s work img .stepped .answer) (stepMove s work img .image) w'
+      → (q : View Sector) × SawStep (s .kind) (stepMove s work img .stepped .answer) p q × Bound q w' (stepMove s work img .image) (has (stepMove s work img .stepped .state) work)
+  step-on p w img s work w' t saw h =
+      let m : Move = stepMove s work img in
+      let y = fill-kept z F first p w img s work w' (t .refills) h in (
+        y .1,
+        saw (y .1) (m .stepped .answer) (y .3),
+        ⊎-elim (λ (x : Refilling z F first (y .1) w' (m .image) (m .stepped .state) work). inr (inr (inr (record { refills = x; sized = t .sized }))))
+            (λ (x : Tie z F first (y .1) w' (m .image) (chain.has (m .stepped .state))). inl x) (y .4),
       )
 
   step-bound : (p : View Sector) (w : World Sector) (img : List ℕ) (s : State) (work : List ℕ) (w' : World Sector) → Bound p w img (has s work)
@@ -615,7 +675,7 @@ module _ (z : Shelf) (F : Family z) (first : Machine Sector) where
           let d = step-goes s img work (t .fair .in-range) e in
           subst (λ (m : Move). Heard z w (m .stepped .answer) (m .image) w' → (q : View Sector) × SawStep (s .kind) (m .stepped .answer) p q × Bound q w' (m .image) (has (m .stepped .state) work)) (sym d)
           (λ i. let y = step-write p w img s work (stepMove s work img) w' t (write-tied z (t .written) s work img (t .writes) (t .fair)) i in (y .0, kind-is (y .0) (stepMove s work img .stepped .answer) (y .1), y .2)) h
-  step-bound p w img s work w' (inr (inr t)) h = by (otherWork (s .now) (length img) (length work)) refl
+  step-bound p w img s work w' (inr (inr (inl t))) h = by (otherWork (s .now) (length img) (length work)) refl
     where
       kind-is : (q : View Sector) (a : Answer) → q ≡ p → SawStep (s .kind) a p q
       kind-is q a x = subst (λ (k : Kind). SawStep k a p q) (sym (t .kind)) x
@@ -624,11 +684,24 @@ module _ (z : Shelf) (F : Family z) (first : Machine Sector) where
       by true e =
           let d = step-short s img work (t .fair .in-range) e in
           subst (λ (m : Move). Heard z w (m .stepped .answer) (m .image) w' → (q : View Sector) × SawStep (s .kind) (m .stepped .answer) p q × Bound q w' (m .image) (has (m .stepped .state) work)) (sym d)
-          (λ i. (p, saw-refused (s .kind) BadBuffer p, subst (λ (x : World Sector). Bound p x img (has s work)) (sym i) (inr (inr t)))) h
+          (λ i. (p, saw-refused (s .kind) BadBuffer p, subst (λ (x : World Sector). Bound p x img (has s work)) (sym i) (inr (inr (inl t))))) h
       by false e =
           let d = step-goes s img work (t .fair .in-range) e in
           subst (λ (m : Move). Heard z w (m .stepped .answer) (m .image) w' → (q : View Sector) × SawStep (s .kind) (m .stepped .answer) p q × Bound q w' (m .image) (has (m .stepped .state) work)) (sym d)
           (λ i. let y = step-begin p w img s work (stepMove s work img) w' t (label-tied z (t .before) s work img (t .fair)) i in (y .0, kind-is (y .0) (stepMove s work img .stepped .answer) (y .1), y .2)) h
+  step-bound p w img s work w' (inr (inr (inr t))) h = by (otherWork (s .now) (length img) (length work)) refl
+    where
+      kind-is : (q : View Sector) (a : Answer) → q ≡ p → SawStep (s .kind) a p q
+      kind-is q a x = subst (λ (k : Kind). SawStep k a p q) (sym (t .refills .kind)) x
+
+      by : (b : Bool) → otherWork (s .now) (length img) (length work) ≡ b → (q : View Sector) × SawStep (s .kind) (stepWith s img work .stepped .answer) p q × Bound q w' (stepWith s img work .image) (has (stepWith s img work .stepped .state) work)
+      by true e =
+          let d = step-short s img work (t .refills .fair .in-range) e in
+          subst (λ (m : Move). Heard z w (m .stepped .answer) (m .image) w' → (q : View Sector) × SawStep (s .kind) (m .stepped .answer) p q × Bound q w' (m .image) (has (m .stepped .state) work)) (sym d)
+          (λ i. (p, saw-refused (s .kind) BadBuffer p, subst (λ (x : World Sector). Bound p x img (has s work)) (sym i) (inr (inr (inr t))))) h
+      by false e =
+          let d = step-goes s img work (t .refills .fair .in-range) e in
+          subst (λ (m : Move). Heard z w (m .stepped .answer) (m .image) w' → (q : View Sector) × SawStep (s .kind) (m .stepped .answer) p q × Bound q w' (m .image) (has (m .stepped .state) work)) (sym d) (step-on p w img s work w' t kind-is) h
 
   -- ---- A CALL KEEPS THE TIE, and the view goes on as it may
 
@@ -638,6 +711,7 @@ module _ (z : Shelf) (F : Family z) (first : Machine Sector) where
   call-bound (starts {w} {img} {h} s g absent work sits) ok p t = (p, refl, anew p w img h (startOf s g absent img (length work)) work t (start-any z F first p w img chain.none s g absent (length work) sits ok (loose p w img h t)))
   call-bound (takes-out {w} {img} {s} {work} d) ok p t = (p, refl, out-bound p w img s work d ok t)
   call-bound (begins {w} {img} {s} {work} d) ok p t = (p, refl, begin-bound p w img s work d t)
+  call-bound (ons {w} {img} {s} {work} b below) ok p t = (p, refl, on-bound p w img s work b below t)
   call-bound (writes {w} {img} {s} {work} b given s' then x y e) ok p t = write-bound p w img s work b given s' then x y e t
   call-bound (repairs {w} {img} {s} {work} t b then r) ok p h = (p, refl, repair-bound p w img s work t b then r h)
   call-bound (steps {w} {w'} {img} {s} {work} heard) ok p t = step-bound p w img s work w' t heard

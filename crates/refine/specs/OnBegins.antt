@@ -167,10 +167,15 @@ module _ (z : Shelf) (img : List ℕ) (disks : Disks z img) (s : State) (own : o
   T-is : stripesOf (geometryOf l) ≡ stripesOf (geometry z)
   T-is = ap stripesOf geo
 
+  -- the work area is the shelf's
+  pub on-sized : length work ≡ workBytes (slots z) (z .c)
+  unfolding sized
+  on-sized = eqb-true (length work) (workBytes (l .k + l .m) (l .c)) (passed .room) ∙ ap (λ (g : Geometry). workBytes (g .n) (g .c)) geo
+
   room : slots z * (z .c * sectorBytes) ≤ length work
-  unfolding sized workBytes
+  unfolding workBytes
   room =
-      let e : length work ≡ workBytes (slots z) (z .c) = eqb-true (length work) (workBytes (l .k + l .m) (l .c)) (passed .room) ∙ ap (λ (g : Geometry). workBytes (g .n) (g .c)) geo in
+      let e : length work ≡ workBytes (slots z) (z .c) = on-sized in
       let q : workBytes (slots z) (z .c) ≡ 2 * slots z * z .c * sectorBytes =
       when (leb leastN (slots z) && (leb (slots z) mostN && stripLength (z .c))) _ _
       (both (leb leastN (slots z)) _ (le-leb leastN (slots z) (limits z .0 .least)) (both (leb (slots z) mostN) _ (le-leb (slots z) mostN (few-slots z)) (strips-fit z))) in

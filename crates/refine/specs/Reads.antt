@@ -64,6 +64,7 @@ use Rattle.refine.specs.WriteList.{strip-same}
 use Rattle.refine.specs.Sees.{seenSlots, there-believed, there-lying}
 use Rattle.refine.specs.Chain.{Reached, Tie, asks-to}
 use Rattle.refine.specs.Chain as chain
+use Rattle.refine.specs.Refills.{Refilling}
 use Rattle.refine.specs.Hosts.{has, Laying, Readying, Bound}
 
 -- no refusal, and nothing accepted
@@ -346,28 +347,24 @@ module _ (z : Shelf) (F : Family z) (first-one : Machine Sector) (p : View Secto
           (ap (λ (x : Bool). (doing (storing u) a o (ownOf z s (s .next)), meanwhile (size z) (no-sets (slots z)) (labels z) (records z) (any-code z) stamps (any-sectors z) (storing u) o f T I (first (record { why = BAD_BLOCK; holds = not x } ∷ []))))
           (may-read z img (t .disks) (s .now) own (s .absent) b work buf shows-it))
 
-  -- while begin is under way: the program reads as before it, without the slot if it was absent; none of the slot's strips is believed then
-  pub read-beginning : Readying z F first-one p w img s work → Right (s .kind)
-  unfolding read program-by mask seenOf laidBy
-  read-beginning t = subst Right (sym (t .kind)) shown
+  -- while the program changes labels, it reads as before: with the label as it was, and without the slots that were absent
+  read-before : (o : Own) (acts : List (Action Sector)) → Disks z img → w .cur ≡ curOf z img → ours z (s .now) ≡ true → o .now ≡ labelOf z (s .now)
+      → ((d : ℕ) → d < slots z → inMask (s .absent) d ≡ true → o .absent d ≡ true) → Reached z F first-one p w (doing labelling acts o (ownOf z s (s .next)))
+      → shownOf (s .now) (s .absent) 0 img work b ≡ stripBytes (list-of p (b / s .now .k) (b % s .now .k)) (z .c)
+  unfolding read program-by mask seenOf
+  read-before o acts disks reads own same-label more-absent reached = shown
     where
-      own : ours z (s .now) ≡ true
-      own = t .fair .ours-now
-
       T : ℕ
       T = b / s .now .k
 
       I : ℕ
       I = b % s .now .k
 
-      o : Own
-      o = t .before
-
       A : ℕ → Bool
       A = beyond (slots z) (inMask (s .absent))
 
       m : Memory Sector
-      m = doing labelling (toDo z s work img) o (ownOf z s (s .next))
+      m = doing labelling acts o (ownOf z s (s .next))
 
       before-dark : (p : View Sector) → Reached z F first-one p w m → (d : ℕ) → o .absent d ≡ true → Label.looked (size z) (o .now) d ≡ true → ⊥
       before-dark (sure v) r d a q = r .keeps .reads .0 .dark d a q
@@ -375,10 +372,10 @@ module _ (z : Shelf) (F : Family z) (first-one : Machine Sector) (p : View Secto
       before-dark (kept-write v') r d a q = r .keeps .reads
 
       was-dark : (d : ℕ) → o .absent d ≡ true → Label.looked (size z) (labelOf z (s .now)) d ≡ true → ⊥
-      was-dark d a q = before-dark p (t .reached) d a (ap (λ (x : Label.Label). Label.looked (size z) x d) (t .same-label) ∙ q)
+      was-dark d a q = before-dark p reached d a (ap (λ (x : Label.Label). Label.looked (size z) x d) same-label ∙ q)
 
       dark : (d : ℕ) → d < slots z → inMask (s .absent) d ≡ true → Label.looked (size z) (labelOf z (s .now)) d ≡ true → ⊥
-      dark d i a q = was-dark d (t .more-absent d i a) q
+      dark d i a q = was-dark d (more-absent d i a) q
 
       bad : ℕ → Bool
       bad = missing (size z) (no-sets (slots z)) (records z) (any-code z) (labelOf z (s .now)) T
@@ -404,24 +401,37 @@ module _ (z : Shelf) (F : Family z) (first-one : Machine Sector) (p : View Secto
       same-read : X A ≡ X (o .absent)
       same-read =
           fun-ext
-          (λ j. blocks-blind z T bad (λ d i. seenOf z A img (strip d T i)) I j (omega (arith, in-k z img (t .disks) (s .now) own (s .absent) b work buf shows-it)) (λ d i. seenOf z (o .absent) img (strip d T i))
+          (λ j. blocks-blind z T bad (λ d i. seenOf z A img (strip d T i)) I j (omega (arith, in-k z img disks (s .now) own (s .absent) b work buf shows-it)) (λ d i. seenOf z (o .absent) img (strip d T i))
           (λ d h e. seen-here A d j (λ a. dark d h (sym (beyond-below (slots z) (s .absent) d h) ∙ a) (looks d e)) ∙ sym (seen-here (o .absent) d j (λ a. was-dark d a (looks d e)))))
 
       Y : ℕ → Sector
       Y = read (size z) (no-sets (slots z)) (records z) (any-code z) (o .now) (seenOf z (o .absent) img) T I
 
-      shown : Right Beginning
+      shown : shownOf (s .now) (s .absent) 0 img work b ≡ stripBytes (list-of p T I) (z .c)
       shown =
-          shown-read z img (t .disks) (s .now) own (s .absent) b work buf shows-it dark
-          ∙ ap (λ (x : ℕ → Sector). stripBytes x (z .c)) (same-read ∙ ap (λ (x : Label.Label). read (size z) (no-sets (slots z)) (records z) (any-code z) x (seenOf z (o .absent) img) T I) (sym (t .same-label)))
-          ∙ given-entry z img (t .disks) (s .now) own (s .absent) b work buf shows-it F first-one p w (t .reads) m Y (t .reached)
+          shown-read z img disks (s .now) own (s .absent) b work buf shows-it dark
+          ∙ ap (λ (x : ℕ → Sector). stripBytes x (z .c)) (same-read ∙ ap (λ (x : Label.Label). read (size z) (no-sets (slots z)) (records z) (any-code z) x (seenOf z (o .absent) img) T I) (sym same-label))
+          ∙ given-entry z img disks (s .now) own (s .absent) b work buf shows-it F first-one p w reads m Y reached
           (ap (λ (x : Bool). (m, meanwhile (size z) (no-sets (slots z)) (labels z) (records z) (any-code z) stamps (any-sectors z) labelling o (seenOf z (o .absent) img) T I (first (record { why = BAD_BLOCK; holds = not x } ∷ []))))
-          (may-read z img (t .disks) (s .now) own (s .absent) b work buf shows-it))
+          (may-read z img disks (s .now) own (s .absent) b work buf shows-it))
+
+  -- while begin is under way: the slot may have been absent before; none of its strips is believed then
+  pub read-beginning : Readying z F first-one p w img s work → Right (s .kind)
+  unfolding laidBy
+  read-beginning t = subst Right (sym (t .kind)) (read-before (t .before) (toDo z s work img) (t .disks) (t .reads) (t .fair .ours-now) (t .same-label) (t .more-absent) (t .reached))
+
+  -- while a rebuild is under way: the slot's strips below the mark are believed, as before it, and no other one of them
+  pub read-filling : Refilling z F first-one p w img s work → Right (s .kind)
+  unfolding laidBy
+  read-filling t =
+      subst Right (sym (t .kind))
+      (read-before (t .before) (toDo z s work img) (t .disks) (t .reads) (t .fair .ours-now) (t .same-label) (λ d i a. ap (λ (x : ℕ → Bool). x d) (t .same-absent) ∙ beyond-below (slots z) (s .absent) d i ∙ a) (t .reached))
 
   -- A READ, whenever it answers Done, shows the view's entry
   pub read-right : Bound z F first-one p w img (has s work) → afterRead Done s b img work buf ≡ stripBytes (list-of p (b / z .k) (b % z .k)) (z .c)
   read-right (inl t) =
       let own = ⊎-elim (λ (f : Fair z s [] img × (plain (s .kind) ≡ true)). f .0 .ours-now) (λ (q : (s .kind ≡ Idle) × (ours z (s .now) ≡ true)). q .1) (t .order .1) in
       read-plain t ∙ ap (λ (k : ℕ). stripBytes (list-of p (b / k) (b % k)) (z .c)) (sym (same-says (fieldsOf z 0 (noLabel z)) (s .now) own .same-k))
-  read-right (inr (inr t)) = read-beginning t ∙ ap (λ (k : ℕ). stripBytes (list-of p (b / k) (b % k)) (z .c)) (sym (same-says (fieldsOf z 0 (noLabel z)) (s .now) (t .fair .ours-now) .same-k))
+  read-right (inr (inr (inl t))) = read-beginning t ∙ ap (λ (k : ℕ). stripBytes (list-of p (b / k) (b % k)) (z .c)) (sym (same-says (fieldsOf z 0 (noLabel z)) (s .now) (t .fair .ours-now) .same-k))
+  read-right (inr (inr (inr t))) = read-filling (t .refills) ∙ ap (λ (k : ℕ). stripBytes (list-of p (b / k) (b % k)) (z .c)) (sym (same-says (fieldsOf z 0 (noLabel z)) (s .now) (t .refills .fair .ours-now) .same-k))
   read-right (inr (inl t)) = read-writing t ∙ ap (λ (k : ℕ). stripBytes (list-of p (b / k) (b % k)) (z .c)) (sym (same-says (fieldsOf z 0 (noLabel z)) (s .now) (t .fair .ours-now) .same-k))

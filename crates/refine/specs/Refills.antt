@@ -3,18 +3,19 @@
 use mathlib.Core.Path.{_≡_, refl, sym, ap, subst, _∙_}
 use mathlib.Core.Logic.{_⊎_, inl, inr, ⊎-elim}
 use mathlib.Core.Bool.{true}
-use mathlib.Core.List.{List, [], List·Memᴰ·not-nil}
+use mathlib.Core.List.{List, [], _∷_, List·Memᴰ·not-nil}
 use Prim.Native.Nat.{ℕ, _*_, _≤_, _<_}
 use lib.ListN.{length}
 use Rattle.disk.specs.Limits.{sectorBytes}
 use Rattle.disk.specs.Geometry.{stripesOf}
 use Rattle.disk.specs.Mask.{inMask}
 use Rattle.disk.specs.declared.refusal.Outcome.the-variants.{Done}
-use Rattle.protocol.specs.World.{World, Action, Always}
+use Rattle.protocol.specs.World.{Image, World, Action, Always}
 use Rattle.protocol.specs.Label.{looked}
 use Rattle.protocol.specs.Program.{Own, Memory, idle, doing, labelling, Reply, accepted, rebuild-on, step, beyond, asked-on}
 use Rattle.protocol.specs.Machine.{Machine, View, sure, open-write, kept-write, effect, Answered}
 use Rattle.protocol.specs.Pairs.{no-sets}
+use Rattle.protocol.specs.Even.{program-by}
 use Rattle.codecs.specs.Sector.{Sector}
 use Rattle.codecs.specs.Shelf.{Shelf, slots, geometry, size}
 use Rattle.codecs.specs.Labels.{labelOf, labels, ours}
@@ -31,7 +32,7 @@ use Rattle.refine.specs.Disks.{Disks, curOf, seenOf}
 use Rattle.refine.specs.Rounds.{beyond-below}
 use Rattle.refine.specs.ToDo.{toDo}
 use Rattle.refine.specs.Steps.{Fair}
-use Rattle.refine.specs.Tied.{ownOf, memoryOf, plain}
+use Rattle.refine.specs.Tied.{ownOf, memoryOf, plain, programOf}
 use Rattle.refine.specs.Requests.{goes}
 use Rattle.refine.specs.Relabels.{TiedLabel, label-tied}
 use Rattle.refine.specs.FillList.{fill-memory, fill-work, fill-same}
@@ -40,9 +41,11 @@ use Rattle.refine.specs.Named.{Named, Names, leftIn, on-names, step-name
 use Rattle.refine.specs.Chain.{Heard, has, Reached, Tie, asks-to, rests, off, accepted-none, idle-is, step-some, step-leaves, heard-is}
 
 module _ (z : Shelf) (F : Family z) (first : Machine Sector) where
-  -- a rebuild is under way; `before` is what the program knew when it began
+  -- a rebuild is under way; `before` is what the program knew when it began: the same label, and the same absent slots
   pub record Refilling (p : View Sector) (w : World Sector) (img : List ℕ) (s : State) (work : List ℕ) : Type 1 where
     pub before : Own
+    pub same-label : before .now ≡ labelOf z (s .now)
+    pub same-absent : before .absent ≡ beyond (slots z) (inMask (s .absent))
     pub disks : Disks z img
     pub reads : w .cur ≡ curOf z img
     pub reached : Reached z F first p w (doing labelling (toDo z s work img) before (ownOf z s (s .next)))
@@ -96,6 +99,8 @@ module _ (z : Shelf) (F : Family z) (first : Machine Sector) where
       begun =
           record {
             before = o;
+            same-label = refl;
+            same-absent = refl;
             disks = t .disks;
             reads = t .reads;
             reached = subst (λ (q : View Sector). Reached z F first q w after) (asked .1) (asked .2);
@@ -112,6 +117,8 @@ module _ (z : Shelf) (F : Family z) (first : Machine Sector) where
       let same : toDo z s work img ≡ toDo z s other img = fill-same z s work other img (t .kind) in
       record {
         before = t .before;
+        same-label = t .same-label;
+        same-absent = t .same-absent;
         disks = t .disks;
         reads = t .reads;
         reached = subst (λ (l : List (Action Sector)). Reached z F first p w (doing labelling l (t .before) (ownOf z s (s .next)))) same (t .reached);
@@ -122,12 +129,18 @@ module _ (z : Shelf) (F : Family z) (first : Machine Sector) where
         kind = t .kind;
       }
 
-  -- A STEP is the program's: the rebuild goes on, or is done and all is at rest
+  -- a step of a request that changes labels leaves the view
+  pub saw-label : (l : List (Action Sector)) (o o' : Own) (f : Image Sector) (r : Reply Sector) → programOf z (doing labelling l o o') f step .1 ≡ r → (p q : View Sector) → Answered (z .c) step r p q → q ≡ p
+  unfolding program-by
+  saw-label [] o o' f r m p q h = subst (λ (x : Reply Sector). Answered (z .c) step x p q) (sym m) h
+  saw-label (x ∷ l) o o' f r m p q h = subst (λ (x : Reply Sector). Answered (z .c) step x p q) (sym m) h
+
+  -- A STEP is the program's, and the view stays: the rebuild goes on, or is done and all is at rest
   pub fill-kept : (p : View Sector) (w : World Sector) (img : List ℕ) (s : State) (work : List ℕ) (w' : World Sector) → Refilling p w img s work
       → Heard z w (stepMove s work img .stepped .answer) (stepMove s work img .image) w'
-      → (reply : Reply Sector) × (q : View Sector) × Answered (z .c) step reply p q
+      → (reply : Reply Sector) × (q : View Sector) × Answered (z .c) step reply p q × (q ≡ p)
       × (Refilling q w' (stepMove s work img .image) (stepMove s work img .stepped .state) work ⊎ Tie z F first q w' (stepMove s work img .image) (has (stepMove s work img .stepped .state)))
-  fill-kept p w img s work w' t h = (d .reply, y .0, y .1, subst Next same (⊎-elim (λ x. inl (on (x .0, x .1, x .4))) (λ x. inr (done x)) (d .goes-on)))
+  fill-kept p w img s work w' t h = (d .reply, y .0, y .1, stays, subst Next same (⊎-elim (λ x. inl (on x)) (λ x. inr (done x)) (d .goes-on)))
     where
       m : Move
       m = stepMove s work img
@@ -145,23 +158,28 @@ module _ (z : Shelf) (F : Family z) (first : Machine Sector) where
           subst (λ (x : Memory Sector × Reply Sector). Always (effect w (x .1)) (Named z) × Names z (leftIn z (x .0))) (d .steps)
           (step-names z (doing labelling (toDo z s work img) (t .before) (ownOf z s (s .next))) (curOf z img) w (off z F first p (t .reached) .keeps .sane) (t .named) (t .names))
 
+      stays : y .0 ≡ p
+      stays = saw-label (toDo z s work img) (t .before) (ownOf z s (s .next)) (curOf z img) (d .reply) (ap (λ (b : Memory Sector × Reply Sector). b .1) (d .steps)) p (y .0) (y .1)
+
       same : effect w (d .reply) ≡ w'
       same = heard-is z F first p w w' (m .image) (d .reply) (m .stepped .answer) (d .answers) (d .acts w (t .reads)) h
 
       Next : World Sector → Type 1
       Next v = Refilling (y .0) v (m .image) (m .stepped .state) work ⊎ Tie z F first (y .0) v (m .image) (has (m .stepped .state))
 
-      on : Fair z (m .stepped .state) work (m .image) × (m .stepped .state .kind ≡ s .kind)
+      on : Fair z (m .stepped .state) work (m .image) × (m .stepped .state .kind ≡ s .kind) × (m .stepped .state .now ≡ s .now) × (m .stepped .state .absent ≡ s .absent)
           × (d .after ≡ doing labelling (toDo z (m .stepped .state) work (m .image)) (t .before) (ownOf z (m .stepped .state) (m .stepped .state .next)))
           → Refilling (y .0) (effect w (d .reply)) (m .image) (m .stepped .state) work
       on x =
           record {
             before = t .before;
+            same-label = t .same-label ∙ ap (labelOf z) (sym (x .2));
+            same-absent = t .same-absent ∙ ap (λ (a : ℕ). beyond (slots z) (inMask a)) (sym (x .3));
             disks = x .0 .disks;
             reads = d .acts w (t .reads);
-            reached = subst (Reached z F first (y .0) (effect w (d .reply))) (x .2) (y .2);
+            reached = subst (Reached z F first (y .0) (effect w (d .reply))) (x .4) (y .2);
             named = n .0;
-            names = subst (λ (v : Memory Sector). Names z (leftIn z v)) (x .2) (n .1);
+            names = subst (λ (v : Memory Sector). Names z (leftIn z v)) (x .4) (n .1);
             own-next = ap (ours z) (d .settles) ∙ t .own-next;
             fair = x .0;
             kind = x .1 ∙ t .kind;
