@@ -3,20 +3,22 @@
 use mathlib.Core.Path.{_≡_, refl, sym, ap, ap₂, subst, _∙_}
 use mathlib.Core.Logic.{⊎-elim, inl, inr}
 use mathlib.Core.Bool.{Bool, true, false, cond, not, _&&_, _||_, false≢true}
-use mathlib.Core.List.{List, [], _++_, append-assoc, List·Memᴰ, List·Memᴰ·not-nil, List·Memᴰ·append-cases}
+use mathlib.Core.List.{List, [], _++_, append-assoc, List·Memᴰ, List·Memᴰ·not-nil, List·Memᴰ·append-cases, Memᴰ·append-right}
 use Prim.Native.Nat.{ℕ, zero, suc, _-_, _≤_, _<_}
 use native.Mathlib.Omega.{arith}
-use lib.Dec.{ltb}
+use lib.Dec.{eqb, ltb}
 use lib.ListN.{length}
-use borrow.Author.Tests.{lt-ltb}
+use borrow.Author.Tests.{eqb-true, lt-ltb}
 use Rattle.disk.specs.Mask.{inMask}
 use Rattle.disk.specs.declared.geometry.Geometry.{Geometry}
-use Rattle.disk.specs.declared.refusal.Refusal.the-variants.{BadImage, NotNow}
+use Rattle.disk.specs.declared.refusal.Refusal.the-variants.{BadImage, BadBuffer, NotNow}
 use Rattle.disk.specs.declared.refusal.Outcome.{Outcome}
 use Rattle.disk.specs.declared.refusal.Outcome.the-variants.{Done, Refused}
 use Rattle.label.specs.Bytes.{allZero}
 use Rattle.redo.specs.Decide.{believed}
+use Rattle.rounds.specs.Survey.{surveyOf}
 use Rattle.rounds.specs.declared.plan.Survey.{Survey}
+use Rattle.rounds.specs.declared.plan.Survey.the-variants as survey
 use Rattle.protocol.specs.World.{Action, World, Possible, Sane, Always, always-cur}
 use Rattle.protocol.specs.Label.{copy, Aged, plainly-out}
 use Rattle.protocol.specs.Decide.{Rest}
@@ -30,6 +32,7 @@ use Rattle.codecs.specs.Shelf.{Shelf, slots, geometry, size}
 use Rattle.codecs.specs.Labels.{ours, labelOf, labels}
 use Rattle.codecs.specs.Records.{records}
 use Rattle.codecs.specs.Media.{stamps}
+use Rattle.shards.specs.Quorum.{fewOf}
 use Rattle.shelf.specs.declared.state.State.{State}
 use Rattle.shelf.specs.declared.state.Stepped.{Stepped}
 use Rattle.shelf.specs.declared.state.Kind.{Kind}
@@ -37,10 +40,15 @@ use Rattle.shelf.specs.declared.state.Kind.the-variants.{Nothing, Idle, Creatin
 use Rattle.shelf.specs.State.{rested}
 use Rattle.shelf.specs.Limits.{mostStages}
 use Rattle.requests.specs.Begun.{workBytes, begun}
-use Rattle.requests.specs.Create.{shelfFits, created, createOf}
-use Rattle.requests.specs.Start.{bySurvey, startOf}
+use Rattle.requests.specs.Create.{shelfFits, createAnswer, created, createOf}
+use Rattle.requests.specs.Start.{started, bySurvey, startOf}
 use Rattle.requests.specs.Step.{stepWith}
-use Rattle.requests.specs.TakeOut.{plainlyOut, outNow}
+use Rattle.requests.specs.TakeOut.{plainlyOut, outNow, takeAnswer, tookOut}
+use Rattle.requests.specs.Accepted.{passed, take-done}
+use Rattle.requests.specs.declared.begun.Begun.{Begun}
+use Rattle.rebuilds.specs.Begin.{beginAnswer, began}
+use Rattle.rebuilds.specs.On.{onAnswer, wentOn}
+use Rattle.blocks.specs.Write.{writeAnswer, AfterWrite}
 use Rattle.requests.specs.Ready.{isIdle}
 use Rattle.refine.specs.Family.{Family, codeIn, sectorsIn, KeepsIn}
 use Rattle.refine.specs.Disks.{Disks, curOf}
@@ -50,13 +58,13 @@ use Rattle.refine.specs.Steps.{Fair}
 use Rattle.refine.specs.Rounds.{beyond-below}
 use Rattle.refine.specs.Accepts.{plain-is, all-zeros}
 use Rattle.refine.specs.Ends.{nth, EndsAfter, request-ends}
-use Rattle.refine.specs.Other.{Sits, otherCode, start-other, create-late}
+use Rattle.refine.specs.Other.{Sits, otherCode, same-numbers, start-other, create-late}
 use Rattle.refine.specs.Named.{copy-ours}
 use Rattle.refine.specs.Holds.{Wanted, NoLies, HeldTrue, no-lies, held-true}
-use Rattle.refine.specs.Chain.{Tie, rests}
+use Rattle.refine.specs.Chain.{Allowed, outs, Tie, rests, start-any-passed, out-passed}
 use Rattle.refine.specs.Chain as chain
 use Rattle.refine.specs.Refills.{rest-dark}
-use Rattle.refine.specs.Hosts.{Held, has, Time, at, HostCalls, steps, HostChain, stays, goes-on, sets-call, sets, Laying, Bound, loose, call-bound}
+use Rattle.refine.specs.Hosts.{Held, none, has, Time, at, held, HostCalls, creates, starts, creates-late, takes-out, begins, ons, writes, repairs, steps, cut, dies, HostChain, stays, goes-on, sets-call, sets, Bound, BoundAt, loose, not-rest, repair-changes-nothing, call-bound, chain-bound}
 use Rattle.refine.specs.HostHolds.{bound-followed, write-carried-out, begin-carried-out, rebuild-carried-out, bound-rests}
 
 -- a state at rest, or with a request under way that began at rest: every one but create and start-up, which have no label of their own yet
@@ -243,3 +251,117 @@ module _ (z : Shelf) (F : Family z) (first : Machine Sector) where
       let r = steps-on (e .0) p w img s work t in
       let y = subst (λ (x : Stepped). (c : HostChain z (at w img (has s work)) (at (r .0) (nth work (e .0) s img .image) (has (x .state) work))) × (sets c ≡ [])) (e .1 .ends) (r .1, r .2) in
       (r .0, nth work (e .0) s img .image, y .0, y .1)
+
+-- ---- WHAT HOLDS AT EVERY MOMENT OF A CHAIN
+
+-- the work area that the caller holds has the size that the requests ask for
+abbrev Room : Shelf → Held → Type 0
+Room z none = Unit {0}
+Room z (has s work) = length work ≡ workBytes (slots z) (z .c)
+
+abbrev pub Sized : Shelf → Time → Type 0
+Sized z (at w img h) = Room z h
+
+module _ (z : Shelf) (first : Machine Sector) where
+  -- at this moment the tie holds, for some family and some view
+  abbrev pub SomeBound : Time → Type 1
+  SomeBound t = (F : Family z) × (p : View Sector) × BoundAt z F first p t
+
+  -- at every moment of the chain
+  abbrev pub Along : {a b : Time} → HostChain z a b → Type 1
+  Along {a} stays = SomeBound a
+  Along {b = b} (goes-on c x) = Along c × SomeBound b
+
+  pub along-in : (F : Family z) {a b : Time} (c : HostChain z a b) → Allowed z F (sets c) → (p : View Sector) → BoundAt z F first p a → Along c
+  along-in F stays ok p t = (F, p, t)
+  along-in F (goes-on c x) ok p t = (along-in F c (λ s m. ok s (Memᴰ·append-right (sets-call x) m)) p t, let y = chain-bound z F first (goes-on c x) ok p t in (F, y .0, y .2))
+
+  along-end : {a b : Time} (c : HostChain z a b) → Along c → SomeBound b
+  along-end stays t = t
+  along-end (goes-on c x) t = t .1
+
+  -- ---- the work area
+
+  -- a request that was accepted with it
+  taken : (h : Held) (o : Outcome) (s x : State) (work : List ℕ) → (o ≡ Done → length work ≡ workBytes (slots z) (z .c)) → Room z h → Room z (held h (begun o s x) work)
+  taken h Done s x work is t = is refl
+  taken h (Refused why) s x work is t = t
+
+  create-sized : (img work : List ℕ) → createAnswer (z .k) (z .m) (z .c) (z .sectors) img (length work) ≡ Done → length work ≡ workBytes (slots z) (z .c)
+  unfolding createAnswer
+  create-sized img work e =
+      let p = passed (shelfFits (z .k) (z .m) (z .c) (z .sectors) (length img)) _ BadImage e in
+      eqb-true (length work) (workBytes (slots z) (z .c)) (passed (eqb (length work) (workBytes (slots z) (z .c))) Done BadBuffer (passed (allZero img) _ NotNow (p .1) .1) .0)
+
+  start-sized : (img : List ℕ) (h : Held) (s : State) (absent : ℕ) (work : List ℕ) → Room z h → Room z (held h (startOf s (geometry z) absent img (length work)) work)
+  start-sized img h s absent work t = by (surveyOf (geometry z) img absent)
+    where
+      by : (x : Survey) → Room z (held h (bySurvey x s (geometry z) absent img (length work)) work)
+      by (survey.Refused why) = t
+      by (survey.Plan p) = room (eqb (length work) (workBytes (slots z) (z .c))) refl
+        where
+          room : (b : Bool) → eqb (length work) (workBytes (slots z) (z .c)) ≡ b
+              → Room z (held h (cond b (record { state = started (geometry z) absent p img; outcome = Done }) (record { state = s; outcome = Refused BadBuffer })) work)
+          room true e = eqb-true (length work) (workBytes (slots z) (z .c)) e
+          room false e = t
+
+  -- while a write is under way
+  write-sized : (F : Family z) (p : View Sector) (w : World Sector) (img : List ℕ) (s : State) (work : List ℕ) → s .kind ≡ Writing → Bound z F first p w img (has s work) → length work ≡ workBytes (slots z) (z .c)
+  write-sized F p w img s work k (inl t) =
+      ⊎-elim (λ (f : Fair z s [] img × (plain (s .kind) ≡ true)). absurd (false≢true (sym (ap plain k) ∙ f .1))) (λ (q : (s .kind ≡ Idle) × (ours z (s .now) ≡ true)). absurd (false≢true (sym (ap isIdle k) ∙ ap isIdle (q .0)))) (t .order .1)
+  write-sized F p w img s work k (inr (inl t)) = t .sized
+  write-sized F p w img s work k (inr (inr (inl t))) = t .sized
+  write-sized F p w img s work k (inr (inr (inr t))) = t .sized
+
+  call-sized : {a b : Time} (x : HostCalls z a b) → SomeBound a → SomeBound b → Sized z a → Sized z b
+  call-sized (creates {w} {img} {h} s work) n n' t = taken h (createAnswer (z .k) (z .m) (z .c) (z .sectors) img (length work)) s _ work (create-sized img work) t
+  call-sized (creates-late {w} {img} {h} s k m c S number work e) n n' t =
+      subst (λ (o : Outcome). Room z (held h (begun o s (created k m c S number)) work)) (sym (create-late k m c S img (length work) e)) t
+  call-sized (starts {w} {img} {h} s g absent work sits) n n' t =
+      ⊎-elim (λ (e : g ≡ geometry z). subst (λ (x : Geometry). Room z (held h (startOf s x absent img (length work)) work)) (sym e) (start-sized img h s absent work t))
+      (λ (other : g ≡ geometry z → ⊥). subst (λ (x : Begun). Room z (held h x work)) (sym (bound-elsewhere z (n .0) first (n .1) w img h (n .2) s g absent (length work) other sits)) t) (same-numbers z g)
+  call-sized (takes-out {w} {img} {s} {work} d) n n' t = taken (has s work) (takeAnswer (s .now) (s .kind) (s .absent) img d (length work)) s (tookOut s d) work (λ e. t) t
+  call-sized (begins {w} {img} {s} {work} d) n n' t = taken (has s work) (beginAnswer (s .now) (s .kind) (s .absent) img d (length work)) s (began s d img) work (λ e. t) t
+  call-sized (ons {w} {img} {s} {work} b below) n n' t = taken (has s work) (onAnswer (s .now) (s .kind) (s .absent) img (length work)) s (wentOn s b img) work (λ e. t) t
+  call-sized (writes {w} {img} {s} {work} b given s' then x y e) n n' t = by (writeAnswer (s .now) (s .kind) (s .absent) (s .count) img b (length given) (length work)) e
+    where
+      by : (o : Outcome) → AfterWrite o s b given img work s' then → length then ≡ workBytes (slots z) (z .c)
+      by Done a = write-sized (n' .0) (n' .1) w img s' then (ap (λ (x : State). x .kind) (a .becomes)) (n' .2)
+      by (Refused why) a = ap length (a .1) ∙ t
+  call-sized (repairs {w} {img} {s} {work} u b then r) n n' t = ap length (repair-changes-nothing z (n .0) first (n .1) w img s work u b then r (n .2) .1) ∙ t
+  call-sized (steps heard) n n' t = t
+  call-sized (cut left d p) n n' t = tt
+  call-sized dies n n' t = tt
+
+  -- THE WORK AREA THAT THE CALLER HOLDS has the size that the requests ask for
+  pub chain-sized : {a b : Time} (c : HostChain z a b) → Along c → Sized z a → Sized z b
+  chain-sized stays n t = t
+  chain-sized (goes-on c x) n t = call-sized x (along-end c (n .0)) (n .1) (chain-sized c (n .0) t)
+
+  -- ---- THE SETS THAT A CHAIN LEAVES OUT are of at most m slots each
+
+  call-passed : {a b : Time} (x : HostCalls z a b) → SomeBound a → (s : ℕ → Bool) → List·Memᴰ s (sets-call x) → fewOf z s ≡ true
+  call-passed (creates s work) n a m = absurd (List·Memᴰ·not-nil m)
+  call-passed (creates-late s k m c S number work e) n a i = absurd (List·Memᴰ·not-nil i)
+  call-passed (starts {w} {img} {h} s g absent work sits) n a m =
+      start-any-passed z (n .0) first (n .1) w img chain.none s g absent (length work) sits (loose z (n .0) first (n .1) w img h (n .2)) a m
+  call-passed (takes-out {w} {img} {s} {work} d) n a m = by (n .2)
+    where
+      by : Bound z (n .0) first (n .1) w img (has s work) → fewOf z a ≡ true
+      by (inl t) = out-passed z (n .0) first (n .1) w img s d (length work) t a m
+      by (inr t) = refused (takeAnswer (s .now) (s .kind) (s .absent) img d (length work)) refl m
+        where
+          refused : (o : Outcome) → takeAnswer (s .now) (s .kind) (s .absent) img d (length work) ≡ o → List·Memᴰ a (outs (begun o s (tookOut s d))) → fewOf z a ≡ true
+          refused Done e i = absurd (not-rest z (n .0) first (n .1) w img s work t (take-done (s .now) (s .kind) (s .absent) img d (length work) e .1 .at-rest))
+          refused (Refused why) e i = absurd (List·Memᴰ·not-nil i)
+  call-passed (begins d) n a m = absurd (List·Memᴰ·not-nil m)
+  call-passed (ons b below) n a m = absurd (List·Memᴰ·not-nil m)
+  call-passed (writes b given s' then x y e) n a m = absurd (List·Memᴰ·not-nil m)
+  call-passed (repairs t b then r) n a m = absurd (List·Memᴰ·not-nil m)
+  call-passed (steps heard) n a m = absurd (List·Memᴰ·not-nil m)
+  call-passed (cut left d p) n a m = absurd (List·Memᴰ·not-nil m)
+  call-passed dies n a m = absurd (List·Memᴰ·not-nil m)
+
+  pub chain-passed : {a b : Time} (c : HostChain z a b) → Along c → (s : ℕ → Bool) → List·Memᴰ s (sets c) → fewOf z s ≡ true
+  chain-passed stays n s m = absurd (List·Memᴰ·not-nil m)
+  chain-passed (goes-on c x) n s m = ⊎-elim (λ i. call-passed x (along-end c (n .0)) s i) (λ i. chain-passed c (n .0) s i) (List·Memᴰ·append-cases (sets-call x) m)

@@ -44,3 +44,4 @@ pub mod Reads
 pub mod HostHolds
 pub mod HostTrue
 pub mod Serves
+pub mod Promise
