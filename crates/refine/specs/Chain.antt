@@ -8,8 +8,8 @@
 use mathlib.Core.Path.{_≡_, refl, sym, ap, ap₂, subst, _∙_}
 use mathlib.Core.Logic.{_⊎_, ⊎-elim, inl, inr}
 use mathlib.Core.Bool.{Bool, true, false, cond, _&&_, true≢false, false≢true}
-use mathlib.Core.List.{List, [], _∷_, _++_, append-assoc, List·Memᴰ, List·Memᴰ·head, List·Memᴰ·not-nil, List·Memᴰ·cases-cons, List·Memᴰ·append-cases, Memᴰ·append-left, Memᴰ·append-right}
-use Prim.Native.Nat.{ℕ, zero, suc, _<_}
+use mathlib.Core.List.{List, [], _∷_, _++_, List·Memᴰ, List·Memᴰ·head, List·Memᴰ·not-nil, List·Memᴰ·cases-cons}
+use Prim.Native.Nat.{ℕ, _<_}
 use lib.Dec.{eqb, leb, ltb}
 use lib.ListN.{length}
 use Rattle.disk.specs.Mask.{inMask}
@@ -40,13 +40,13 @@ use Rattle.protocol.specs.Shaped.{Shaped, AllShaped, shaped, zeros-shaped}
 use Rattle.protocol.specs.Promise.{zeros-off, simulate}
 use Rattle.protocol.specs.Even.{is-accepted}
 use Rattle.protocol.specs.Even as even
-use Rattle.protocol.specs.Pairs.{AnyTwo, no-sets}
+use Rattle.protocol.specs.Pairs.{no-sets}
 use Rattle.codecs.specs.Sector.{Sector, zeros}
 use Rattle.codecs.specs.Shelf.{Shelf, slots, geometry, size}
 use Rattle.codecs.specs.Labels.{ours, labels}
 use Rattle.codecs.specs.Records.{records}
 use Rattle.codecs.specs.Media.{stamps}
-use Rattle.shards.specs.Quorum.{fewOf, quorum}
+use Rattle.shards.specs.Quorum.{fewOf}
 use Rattle.shards.specs.Even.{any-code, any-sectors, ShelfRuns}
 use Rattle.shelf.specs.Act.{Move, refuses}
 use Rattle.shelf.specs.Step.{underWay, sound, walk, stepMove, finished}
@@ -65,7 +65,7 @@ use Rattle.requests.specs.Step.{otherWork, stepWith, step-short, step-goes, ste
 use Rattle.requests.specs.Accepted.{create-done, take-done}
 use Rattle.requests.specs.Ready.{isIdle}
 use Rattle.requests.specs.declared.begun.Begun.{Begun}
-use Rattle.refine.specs.Family.{Family, codeIn, sectorsIn, ZerosIn, HappensIn, KeepsIn, leavesOf, program-in, every-few, parts-few, in-parts}
+use Rattle.refine.specs.Family.{Family, codeIn, sectorsIn, ZerosIn, HappensIn, KeepsIn, leavesOf, program-in}
 use Rattle.refine.specs.Places.{sectorOf, inside, place-one}
 use Rattle.refine.specs.Disks.{Disks, curOf}
 use Rattle.refine.specs.Labels.{Led}
@@ -74,7 +74,6 @@ use Rattle.refine.specs.ToDo.{toDo}
 use Rattle.refine.specs.Steps.{Fair}
 use Rattle.refine.specs.Tied.{ownOf, writeIn, writeMemory, memoryOf, memoryBy, plain, Same, programOf, Tied, step-tied}
 use Rattle.refine.specs.Requests.{goes, first-ours, create-begins, out-ours, out-begins}
-use Rattle.refine.specs.Ends.{nth}
 use Rattle.refine.specs.StartBegins.{start-begins}
 use Rattle.refine.specs.Accepts.{all-zeros, create-accepted, start-leaves, start-few, start-accepted, start-real, out-leaves, out-few, out-accepted}
 use Rattle.refine.specs.Other.{Sits, same-numbers, start-other, create-late}

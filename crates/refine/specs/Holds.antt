@@ -1,13 +1,13 @@
 -- WHAT IS TRUE OF THE DISKS, in the words of the bytes: what it means that no label on any disk lies, also while a write is under way, and that a label has its shape; each follows from the protocol's
--- words for it (`Truthful` and `OwnTrue` of its Kept, `Shape`). And no step names an absent slot, in any state. Assumes nothing.
+-- words for it (`Truthful` and `OwnTrue` of its Kept, `Shape`). Assumes nothing.
 use mathlib.Core.Path.{_≡_, refl, sym, ap, ap₂, subst, _∙_}
 use mathlib.Core.Logic.{_⊎_, ⊎-elim, inl, inr}
-use mathlib.Core.Bool.{Bool, true, false, cond, _&&_}
+use mathlib.Core.Bool.{Bool, true, false, cond}
 use mathlib.Core.List.{List}
 use Prim.Native.Nat.{ℕ, suc, _+_, _≤_, _<_}
 use native.Mathlib.Nat.{mod-eq-of-lt}
 use native.Mathlib.Omega.{arith}
-use lib.ListN.{length, replicate}
+use lib.ListN.{replicate}
 use borrow.Author.Tests.{ne-eqb}
 use Rattle.disk.specs.Limits.{sectorBytes}
 use Rattle.disk.specs.Geometry.{stripOf, stripesOf}
@@ -20,7 +20,7 @@ use Rattle.label.specs.declared.codec.Decoded.{Decoded}
 use Rattle.label.specs.declared.codec.Decoded.the-variants.{Valid, Nothing}
 use Rattle.label.proofs.Fits.{fits-says}
 use Rattle.label.proofs.Counts.{copy-says}
-use Rattle.record.specs.Stamp.{stampAt, zeroStamp, StampFits}
+use Rattle.record.specs.Stamp.{stampAt, StampFits}
 use Rattle.record.specs.Tail.{tailAt}
 use Rattle.record.specs.Log.{restoreOf}
 use Rattle.record.specs.declared.stamp.Stamp.{Stamp}
@@ -44,15 +44,6 @@ use Rattle.codecs.specs.Order.{sector-stamp, stamp-one, zero-number}
 use Rattle.codecs.specs.Media.{stamps}
 use Rattle.shards.specs.Quorum.{fewOf}
 use Rattle.shards.specs.Even.{any-code}
-use Rattle.shelf.specs.Laws.{Legal, step-one}
-use Rattle.shelf.specs.Act.{Move, refuses}
-use Rattle.shelf.specs.Step.{sound, stepMove}
-use Rattle.shelf.specs.declared.state.State.{State}
-use Rattle.shelf.specs.declared.state.Answer.{Answer}
-use Rattle.shelf.specs.declared.state.Answer.the-variants as answer
-use Rattle.disk.specs.declared.refusal.Refusal.the-variants.{BadBuffer}
-use Rattle.label.specs.Fields.{geometryOf}
-use Rattle.requests.specs.Step.{otherWork, stepWith}
 use Rattle.refine.specs.Family.{Family, codeIn, sectorsIn}
 use Rattle.refine.specs.Places.{label-inside, log-inside, strip-is-inside}
 use Rattle.refine.specs.Places as places
@@ -97,12 +88,13 @@ abbrev pub Truthful : Shelf → View Sector → ℕ → (ℕ → Bool) → List 
 Truthful z p stripe changes img a = (d t : ℕ) → believed (geometry z) a d t ≡ true → StripTrue z p stripe changes img d t
 
 -- NO LABEL LIES: there is a settled generation, which every disk has but few (at most m); and each label on any disk, of this
--- generation or a newer one, is true, with one write under way at most, whose stripe and slots these are
+-- generation or a newer one, calls few slots out and is true, with one write under way at most, whose stripe and slots these are
 pub record NoLies (z : Shelf) (p : View Sector) (img : List ℕ) : Type 0 where
   pub settled : ℕ
   pub out : ℕ → Bool
   pub few-out : fewOf z out ≡ true
   pub everyone : (d : ℕ) → d < slots z → out d ≡ false → 0 < settled → (s : ℕ) × (a : bytes.Label) × (copyOf (geometry z) img d s ≡ Valid a) × (settled ≤ a .generation)
+  pub few : (d s : ℕ) (a : bytes.Label) → d < slots z → s < 2 → copyOf (geometry z) img d s ≡ Valid a → settled ≤ a .generation → fewOf z (inMask (a .out)) ≡ true
   pub stripe : ℕ
   pub changes : ℕ → Bool
   pub elsewhere : Elsewhere z p stripe changes
@@ -119,30 +111,6 @@ pub record HeldTrue (z : Shelf) (p : View Sector) (w : World Sector) (a : bytes.
 pub record Follows (z : Shelf) (img : List ℕ) (d : ℕ) : Type 0 where
   pub calm : (s : ℕ) → s < 2 → (sector (z .sectors) img d s ≡ replicate sectorBytes 0) ⊎ ((a : bytes.Label) × (copyOf (geometry z) img d s ≡ Valid a))
   pub follow : (a b : bytes.Label) → copyOf (geometry z) img d 0 ≡ Valid a → copyOf (geometry z) img d 1 ≡ Valid b → (a .generation ≡ suc (b .generation)) ⊎ (b .generation ≡ suc (a .generation))
-
--- ---- STEPS
-
--- the slot that a step's answer names
-abbrev pub Touches : Answer → ℕ → Type 0
-Touches (answer.Put d to) e = d ≡ e
-Touches (answer.Flush d) e = d ≡ e
-Touches answer.Done e = ⊥
-Touches (answer.Refused why) e = ⊥
-
--- NO STEP TOUCHES AN ABSENT SLOT, in any state, whatever the image and the work area hold
-pub absent-untouched : (s : State) (img work : List ℕ) (e : ℕ) → Touches (stepWith s img work .stepped .answer) e → inMask (s .absent) e ≡ false
-unfolding stepWith
-absent-untouched s img work e = by (sound s && otherWork (s .now) (length img) (length work))
-  where
-    touched : (a : Answer) (after : List ℕ) → Legal a (s .absent) (geometryOf (s .now)) img after → Touches a e → inMask (s .absent) e ≡ false
-    touched (answer.Put d to) after h t = ap (inMask (s .absent)) (sym t) ∙ h .present
-    touched (answer.Flush d) after h t = ap (inMask (s .absent)) (sym t) ∙ h .present
-    touched answer.Done after h t = absurd t
-    touched (answer.Refused why) after h t = absurd t
-
-    by : (b : Bool) → Touches (cond b (refuses s BadBuffer img) (stepMove s work img) .stepped .answer) e → inMask (s .absent) e ≡ false
-    by true t = absurd t
-    by false t = touched (stepMove s work img .stepped .answer) (stepMove s work img .image) (step-one s work img) t
 
 -- ---- FROM THE PROTOCOL'S WORDS
 
@@ -223,14 +191,19 @@ module _ (z : Shelf) (F : Family z) where
             out = h .out;
             few-out = F .few (h .out) (h .few-out);
             everyone = λ d i o pos. let y = h .everyone d i o in let c = copy-there d (y .0) (h .q) i pos (y .1) in (sectorOf (y .0), c .0, c .1, c .2);
+            few = λ d s a i l e g.
+                subst (λ (x : ℕ → Bool). fewOf z x ≡ true) (ap (λ (y : Label). y .out) (copy-label d s a i l e)) (F .few (copy (labels z) (curOf z img) d (side s l .0) .out) (h .few d (side s l .0) i (born d s a i l e) (since d s a i l e g)));
             stripe = h .written .stripe;
             changes = h .written .changes;
             elsewhere = elsewhere-of p (h .written) (h .between);
-            right = λ d s a i l e g.
-                let q = copy-label d s a i l e in
-                believes p (h .written) (copy (labels z) (curOf z img) d (side s l .0)) a q
-                (h .right d (side s l .0) i (omega (arith, ap (λ (y : Label). y .generation) q, fits-says a (copy-says (geometry z) img d s a e .fit) .from-one)) (omega (arith, ap (λ (y : Label). y .generation) q)));
+            right = λ d s a i l e g. believes p (h .written) (copy (labels z) (curOf z img) d (side s l .0)) a (copy-label d s a i l e) (h .right d (side s l .0) i (born d s a i l e) (since d s a i l e g));
           }
+        where
+          born : (d s : ℕ) (a : bytes.Label) → d < slots z → (l : s < 2) → copyOf (geometry z) img d s ≡ Valid a → 0 < copy (labels z) (curOf z img) d (side s l .0) .generation
+          born d s a i l e = omega (arith, ap (λ (y : Label). y .generation) (copy-label d s a i l e), fits-says a (copy-says (geometry z) img d s a e .fit) .from-one)
+
+          since : (d s : ℕ) (a : bytes.Label) → d < slots z → (l : s < 2) → copyOf (geometry z) img d s ≡ Valid a → h .q ≤ a .generation → h .q ≤ copy (labels z) (curOf z img) d (side s l .0) .generation
+          since d s a i l e g = omega (arith, g, ap (λ (y : Label). y .generation) (copy-label d s a i l e))
 
       pub shape-of : (d : ℕ) → d < slots z → Shape (labels z) (curOf z img) d → Follows z img d
       unfolding places.sectorOf places.copySector

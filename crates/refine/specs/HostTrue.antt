@@ -26,7 +26,7 @@ use Rattle.protocol.specs.Host.{Host, table}
 use Rattle.protocol.specs.Program.{Own, Memory, idle, doing, logging, storing, labelling}
 use Rattle.protocol.specs.Machine.{Machine, View, sure, open-write, kept-write}
 use Rattle.protocol.specs.Machine as machine
-use Rattle.protocol.specs.Kept.{OwnTrue, truthful, own-rests, own-true}
+use Rattle.protocol.specs.Kept.{truthful, own-rests, own-true}
 use Rattle.codecs.specs.Sector.{Sector, zeros}
 use Rattle.codecs.specs.Shelf.{Shelf, slots, geometry, size}
 use Rattle.codecs.specs.Labels.{ours, labelOf, labels}

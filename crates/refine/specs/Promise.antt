@@ -2,8 +2,8 @@
 -- the caller in between. No label on any disk lies, names another shelf or loses its shape; the state's own label is true, whatever a cut leaves; no step touches an absent slot; what was accepted is
 -- carried out. For every shelf, where any two of the sets of slots that the labels call out which accepted start-ups and take-outs settle leave a slot out in common; for k > m nothing is asked
 -- (`nothing-asked`). (Where they leave none, no start-up can tell what was written: the protocol's Limits.) What reads show meanwhile is in Serves. Assumes nothing.
-use mathlib.Core.Path.{_≡_, refl, ap, subst, _∙_}
-use mathlib.Core.Bool.{Bool, true, false, cond}
+use mathlib.Core.Path.{_≡_, refl, sym, ap, subst, _∙_}
+use mathlib.Core.Bool.{Bool, true, false, cond, _&&_}
 use mathlib.Core.List.{List, [], _++_, List·Memᴰ, List·Memᴰ·not-nil}
 use Prim.Native.Nat.{ℕ, zero, suc, _*_, _<_}
 use native.Mathlib.Omega.{arith}
@@ -19,6 +19,7 @@ use Rattle.disk.specs.declared.geometry.Geometry.{Geometry}
 use Rattle.disk.specs.declared.refusal.Refusal.the-variants.{BadImage, BadBuffer, NotNow}
 use Rattle.disk.specs.declared.refusal.Outcome.{Outcome}
 use Rattle.disk.specs.declared.refusal.Outcome.the-variants.{Done, Refused}
+use Rattle.label.specs.Fields.{geometryOf}
 use Rattle.label.specs.Newest.{copyOf}
 use Rattle.label.specs.Bytes.{allZero}
 use Rattle.label.specs.declared.fields.Label as bytes
@@ -33,29 +34,55 @@ use Rattle.codecs.specs.Sector.{Sector, bytes-zeros}
 use Rattle.codecs.specs.Shelf.{Shelf, slots, geometry, limits, few-data, few-parity}
 use Rattle.codecs.specs.Labels.{ours, labelOf}
 use Rattle.shards.specs.Quorum.{quorum}
+use Rattle.shelf.specs.Laws.{Legal, step-one}
+use Rattle.shelf.specs.Act.{refuses}
+use Rattle.shelf.specs.Step.{sound, stepMove}
 use Rattle.shelf.specs.declared.state.State.{State}
+use Rattle.shelf.specs.declared.state.Answer.{Answer}
+use Rattle.shelf.specs.declared.state.Answer.the-variants as answer
 use Rattle.shelf.specs.declared.state.Kind.the-variants.{Idle}
 use Rattle.shelf.specs.State.{rested}
 use Rattle.requests.specs.Begun.{workBytes, begun}
 use Rattle.requests.specs.Create.{shardsFit, shelfFits, createAnswer, created, createOf}
 use Rattle.requests.specs.Start.{startOf}
-use Rattle.requests.specs.Step.{stepWith}
+use Rattle.requests.specs.Step.{otherWork, stepWith}
 use Rattle.requests.specs.TakeOut.{plainlyOut, outNow}
 use Rattle.refine.specs.Family.{Family, every-few, parts-few, in-parts}
 use Rattle.refine.specs.Disks.{Disks, image-fits, curOf}
 use Rattle.refine.specs.Ends.{EndsAfter}
 use Rattle.refine.specs.Other.{Sits, otherCode}
 use Rattle.refine.specs.Chain.{Heard, blocks, fresh, fresh-tie}
-use Rattle.refine.specs.Holds.{Wanted, NoLies, HeldTrue, Follows, Touches}
-use Rattle.refine.specs.Holds as holds
+use Rattle.refine.specs.Holds.{Wanted, NoLies, HeldTrue, Follows}
 use Rattle.refine.specs.Hosts.{Held, none, has, Time, at, held, creates, HostChain, stays, goes-on, sets, BoundAt}
 use Rattle.refine.specs.HostHolds.{bound-labels, bound-shaped, bound-followed}
-use Rattle.refine.specs.HostTrue.{fromRest, bound-possible, bound-elsewhere, bound-honest, bound-own, bound-rests-true, bound-absent-out, bound-same-out, bound-labelled, bound-create-again, bound-carried-out, bound-comes-to-rest, chained-on, sets-on, Along, along-in, chain-sized, chain-passed}
+use Rattle.refine.specs.HostTrue.{fromRest, bound-possible, bound-elsewhere, bound-honest, bound-own, bound-rests-true, bound-absent-out, bound-same-out, bound-labelled, bound-create-again, bound-carried-out, bound-comes-to-rest, chained-on, sets-on, along-in, chain-sized, chain-passed}
 use Rattle.refine.specs.Serves.{Served, served-bound}
+
+-- ---- STEPS
+
+-- the slot that a step's answer names
+abbrev pub Touches : Answer → ℕ → Type 0
+Touches (answer.Put d to) e = d ≡ e
+Touches (answer.Flush d) e = d ≡ e
+Touches answer.Done e = ⊥
+Touches (answer.Refused why) e = ⊥
 
 -- NO STEP TOUCHES AN ABSENT SLOT, in any state, whatever the image and the work area hold
 pub absent-untouched : (s : State) (img work : List ℕ) (e : ℕ) → Touches (stepWith s img work .stepped .answer) e → inMask (s .absent) e ≡ false
-absent-untouched = holds.absent-untouched
+unfolding stepWith
+absent-untouched s img work e = by (sound s && otherWork (s .now) (length img) (length work))
+  where
+    touched : (a : Answer) (after : List ℕ) → Legal a (s .absent) (geometryOf (s .now)) img after → Touches a e → inMask (s .absent) e ≡ false
+    touched (answer.Put d to) after h t = ap (inMask (s .absent)) (sym t) ∙ h .present
+    touched (answer.Flush d) after h t = ap (inMask (s .absent)) (sym t) ∙ h .present
+    touched answer.Done after h t = absurd t
+    touched (answer.Refused why) after h t = absurd t
+
+    by : (b : Bool) → Touches (cond b (refuses s BadBuffer img) (stepMove s work img) .stepped .answer) e → inMask (s .absent) e ≡ false
+    by true t = absurd t
+    by false t = touched (stepMove s work img .stepped .answer) (stepMove s work img .image) (step-one s work img) t
+
+-- ---- CHAINS OF CALLS, from an image of zeros on
 
 module _ (z : Shelf) (first : List ℕ) (disks : Disks z first) (blank : allZero first ≡ true) where
   -- what may happen before: chains from disks that hold zeros, with nothing in their caches and no state, to here
