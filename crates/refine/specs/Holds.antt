@@ -192,18 +192,18 @@ module _ (z : Shelf) (F : Family z) where
             few-out = F .few (h .out) (h .few-out);
             everyone = λ d i o pos. let y = h .everyone d i o in let c = copy-there d (y .0) (h .q) i pos (y .1) in (sectorOf (y .0), c .0, c .1, c .2);
             few = λ d s a i l e g.
-                subst (λ (x : ℕ → Bool). fewOf z x ≡ true) (ap (λ (y : Label). y .out) (copy-label d s a i l e)) (F .few (copy (labels z) (curOf z img) d (side s l .0) .out) (h .few d (side s l .0) i (born d s a i l e) (since d s a i l e g)));
+                subst (λ (x : ℕ → Bool). fewOf z x ≡ true) (ap (λ (y : Label). y .out) (copy-label d s a i l e)) (F .few (copy (labels z) (curOf z img) d (side s l .0) .out) (h .few d (side s l .0) i (omega (arith, born d s a e, age d s a i l e)) (omega (arith, g, age d s a i l e))));
             stripe = h .written .stripe;
             changes = h .written .changes;
             elsewhere = elsewhere-of p (h .written) (h .between);
-            right = λ d s a i l e g. believes p (h .written) (copy (labels z) (curOf z img) d (side s l .0)) a (copy-label d s a i l e) (h .right d (side s l .0) i (born d s a i l e) (since d s a i l e g));
+            right = λ d s a i l e g. believes p (h .written) (copy (labels z) (curOf z img) d (side s l .0)) a (copy-label d s a i l e) (h .right d (side s l .0) i (omega (arith, born d s a e, age d s a i l e)) (omega (arith, g, age d s a i l e)));
           }
         where
-          born : (d s : ℕ) (a : bytes.Label) → d < slots z → (l : s < 2) → copyOf (geometry z) img d s ≡ Valid a → 0 < copy (labels z) (curOf z img) d (side s l .0) .generation
-          born d s a i l e = omega (arith, ap (λ (y : Label). y .generation) (copy-label d s a i l e), fits-says a (copy-says (geometry z) img d s a e .fit) .from-one)
+          age : (d s : ℕ) (a : bytes.Label) → d < slots z → (l : s < 2) → copyOf (geometry z) img d s ≡ Valid a → copy (labels z) (curOf z img) d (side s l .0) .generation ≡ a .generation
+          age d s a i l e = ap (λ (y : Label). y .generation) (copy-label d s a i l e)
 
-          since : (d s : ℕ) (a : bytes.Label) → d < slots z → (l : s < 2) → copyOf (geometry z) img d s ≡ Valid a → h .q ≤ a .generation → h .q ≤ copy (labels z) (curOf z img) d (side s l .0) .generation
-          since d s a i l e g = omega (arith, g, ap (λ (y : Label). y .generation) (copy-label d s a i l e))
+          born : (d s : ℕ) (a : bytes.Label) → copyOf (geometry z) img d s ≡ Valid a → 0 < a .generation
+          born d s a e = fits-says a (copy-says (geometry z) img d s a e .fit) .from-one
 
       pub shape-of : (d : ℕ) → d < slots z → Shape (labels z) (curOf z img) d → Follows z img d
       unfolding places.sectorOf places.copySector

@@ -55,7 +55,7 @@ use Rattle.refine.specs.Chain.{Heard, blocks, fresh, fresh-tie}
 use Rattle.refine.specs.Holds.{Wanted, NoLies, HeldTrue, Follows}
 use Rattle.refine.specs.Hosts.{Held, none, has, Time, at, held, creates, HostChain, stays, goes-on, sets, BoundAt}
 use Rattle.refine.specs.HostHolds.{bound-labels, bound-shaped, bound-followed}
-use Rattle.refine.specs.HostTrue.{fromRest, bound-possible, bound-elsewhere, bound-honest, bound-own, bound-rests-true, bound-absent-out, bound-same-out, bound-labelled, bound-create-again, bound-carried-out, bound-comes-to-rest, chained-on, sets-on, along-in, chain-sized, chain-passed}
+use Rattle.refine.specs.HostTrue.{fromRest, bound-possible, bound-elsewhere, bound-honest, bound-own, bound-rests-true, bound-absent-out, bound-same-out, bound-labelled, bound-create-again, bound-carried-out, bound-comes-to-rest, chained-on, sets-on, Along, along-in, chain-sized, chain-passed}
 use Rattle.refine.specs.Serves.{Served, served-bound}
 
 -- ---- STEPS
@@ -97,9 +97,13 @@ module _ (z : Shelf) (first : List ℕ) (disks : Disks z first) (blank : allZero
       quorum z more .meet s t (chain-passed z (fresh z first disks blank) c n s i) (chain-passed z (fresh z first disks blank) c n t j)
 
   module _ {w : World Sector} {img : List ℕ} {h : Held} (chain : ComesTo (at w img h)) (two : AnyTwo (slots z) (sets chain)) where
-    -- the tie with the protocol's machine
+    -- the tie with the protocol's machine, here
     tie : (F : Family z) × (p : View Sector) × Served chain (sure blocks) p × BoundAt z F (fresh z first disks blank) p (at w img h)
     tie = let F = parts-few z (sets chain) two in let y = served-bound z first disks blank F chain (in-parts z (sets chain) two) in (F, y .0, y .1, y .2)
+
+    -- and at every moment before
+    ties : Along z (fresh z first disks blank) chain
+    ties = let F = parts-few z (sets chain) two in along-in z (fresh z first disks blank) F chain (in-parts z (sets chain) two) (sure blocks) (fresh-tie z first disks blank F)
 
     -- THE HOST'S VIEW at this moment: one of those that Serves speaks of
     pub view : View Sector
@@ -164,9 +168,7 @@ module _ (z : Shelf) (first : List ℕ) (disks : Disks z first) (blank : allZero
 
     -- THE WORK AREA has the size that the requests ask for
     pub room-kept : length work ≡ workBytes (slots z) (z .c)
-    room-kept =
-        let F = parts-few z (sets chain) two in
-        chain-sized z (fresh z first disks blank) chain (along-in z (fresh z first disks blank) F chain (in-parts z (sets chain) two) (sure blocks) (fresh-tie z first disks blank F)) tt
+    room-kept = chain-sized z (fresh z first disks blank) chain (ties chain two) tt
 
     -- A REQUEST UNDER WAY IS CARRIED OUT by its steps, whichever it is: some actions, and then it is done; none of them is refused
     pub carried-out : (s .kind ≡ Idle → ⊥) → (n : ℕ) × EndsAfter n work s img
