@@ -8,7 +8,7 @@ use Prim.Native.Nat.{ℕ, suc, _+_, _≤_, _<_}
 use native.Mathlib.Nat.{mod-eq-of-lt}
 use native.Mathlib.Omega.{arith}
 use lib.ListN.{replicate}
-use borrow.Author.Tests.{ne-eqb}
+use borrow.Author.Tests.{ne-eqb, lt-ltb}
 use Rattle.disk.specs.Limits.{sectorBytes}
 use Rattle.disk.specs.Geometry.{stripOf, stripesOf}
 use Rattle.disk.specs.Image.{sector}
@@ -24,7 +24,7 @@ use Rattle.record.specs.Stamp.{stampAt, StampFits}
 use Rattle.record.specs.Tail.{tailAt}
 use Rattle.record.specs.Log.{restoreOf}
 use Rattle.record.specs.declared.stamp.Stamp.{Stamp}
-use Rattle.redo.specs.Decide.{believed, logAt, completeWith}
+use Rattle.redo.specs.Decide.{plainlyOut, looked, believed, logAt, completeWith}
 use Rattle.redo.specs.Laws.{looked-below, believed-looked, believed-below}
 use Rattle.redo.specs.Complete.{stamps-complete}
 use Rattle.protocol.specs.World.{label, log, strip, World, Possible, Always}
@@ -86,6 +86,11 @@ Elsewhere z (kept-write v') stripe changes = Unit {0}
 -- every strip that the label believes is true: each one of a slot that it calls healthy, and each one below the mark of the slot that it calls being rebuilt
 abbrev pub Truthful : Shelf → View Sector → ℕ → (ℕ → Bool) → List ℕ → bytes.Label → Type 0
 Truthful z p stripe changes img a = (d t : ℕ) → believed (geometry z) a d t ≡ true → StripTrue z p stripe changes img d t
+
+-- each strip of a slot that is not out is believed
+pub healthy-believed : (z : Shelf) (a : bytes.Label) (d t : ℕ) → d < slots z → t < stripesOf (geometry z) → inMask (a .out) d ≡ false → believed (geometry z) a d t ≡ true
+unfolding believed looked plainlyOut
+healthy-believed z a d t i l e = rw (e, lt-ltb d (slots z) i, lt-ltb t (stripesOf (geometry z)) l)
 
 -- NO LABEL LIES: there is a settled generation, which every disk has but few (at most m); and each label on any disk, of this
 -- generation or a newer one, calls few slots out and is true, with one write under way at most, whose stripe and slots these are

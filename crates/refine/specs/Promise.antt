@@ -5,7 +5,7 @@
 use mathlib.Core.Path.{_≡_, refl, sym, ap, subst, _∙_}
 use mathlib.Core.Bool.{Bool, true, false, cond, _&&_}
 use mathlib.Core.List.{List, [], _++_, List·Memᴰ, List·Memᴰ·not-nil}
-use Prim.Native.Nat.{ℕ, zero, suc, _*_, _<_}
+use Prim.Native.Nat.{ℕ, zero, suc, _*_, _≤_, _<_}
 use native.Mathlib.Omega.{arith}
 use lib.Dec.{leb}
 use lib.ListN.{length, length-replicate, replicate}
@@ -15,6 +15,7 @@ use Rattle.disk.specs.Tests.{both}
 use Rattle.disk.specs.Image.{fitsImage}
 use Rattle.disk.specs.Image as image
 use Rattle.disk.specs.Mask.{inMask}
+use Rattle.disk.specs.Geometry.{stripesOf}
 use Rattle.disk.specs.declared.geometry.Geometry.{Geometry}
 use Rattle.disk.specs.declared.refusal.Refusal.the-variants.{BadImage, BadBuffer, NotNow}
 use Rattle.disk.specs.declared.refusal.Outcome.{Outcome}
@@ -52,7 +53,7 @@ use Rattle.refine.specs.Disks.{Disks, image-fits, curOf}
 use Rattle.refine.specs.Ends.{EndsAfter}
 use Rattle.refine.specs.Other.{Sits, otherCode}
 use Rattle.refine.specs.Chain.{Heard, blocks, fresh, fresh-tie}
-use Rattle.refine.specs.Holds.{Wanted, NoLies, HeldTrue, Follows}
+use Rattle.refine.specs.Holds.{Wanted, StripTrue, NoLies, HeldTrue, Follows, healthy-believed}
 use Rattle.refine.specs.Hosts.{Held, none, has, Time, at, held, creates, HostChain, stays, goes-on, sets, BoundAt}
 use Rattle.refine.specs.HostHolds.{bound-labels, bound-shaped, bound-followed}
 use Rattle.refine.specs.HostTrue.{fromRest, bound-possible, bound-elsewhere, bound-honest, bound-own, bound-rests-true, bound-absent-out, bound-same-out, bound-labelled, bound-create-again, bound-carried-out, bound-comes-to-rest, chained-on, sets-on, Along, along-in, chain-sized, chain-passed}
@@ -126,6 +127,13 @@ module _ (z : Shelf) (first : List ℕ) (disks : Disks z first) (blank : allZero
     pub honest-labels : (left : List ℕ) → Disks z left → Possible w (curOf z left) → NoLies z view left
     unfolding view
     honest-labels = bound-honest z (tie .0) (fresh z first disks blank) (tie .1) w img h (tie .3)
+
+    -- so no slot is called healthy before each of its strips is: whatever a cut leaves, of a slot that such a label does not call out each strip is what the list asks for, or it is one that the write
+    -- under way changes, and the slot's log holds the new one whole
+    pub healthy-labels : (left : List ℕ) (here : Disks z left) (possible : Possible w (curOf z left)) (d s : ℕ) (a : bytes.Label) → d < slots z → s < 2 → copyOf (geometry z) left d s ≡ Valid a
+        → honest-labels left here possible .settled ≤ a .generation → (e t : ℕ) → e < slots z → t < stripesOf (geometry z) → inMask (a .out) e ≡ false
+        → StripTrue z view (honest-labels left here possible .stripe) (honest-labels left here possible .changes) left e t
+    healthy-labels left here possible d s a i l c g e t j u o = honest-labels left here possible .right d s a i l c g e t (healthy-believed z a e t j u o)
 
     -- NO DISK NAMES ANOTHER SHELF
     pub own-labels : (left : List ℕ) → Disks z left → Possible w (curOf z left) → (d s : ℕ) (a : bytes.Label) → d < slots z → s < 2 → copyOf (geometry z) left d s ≡ Valid a → ours z a ≡ true
