@@ -4,7 +4,7 @@
 -- the first one left out, a start-up that leaves out the second cannot tell (no-telling, in Limits).
 use Prim.Native.Nat.{ℕ, _<_}
 use mathlib.Core.Path.{_≡_, refl, ap, subst, _∙_}
-use mathlib.Core.Bool.{Bool, true, false}
+use mathlib.Core.Bool.{Bool, true, false, cond}
 use mathlib.Core.Logic.{⊎-elim}
 use mathlib.Core.List.{List, [], _∷_, _++_, List·Memᴰ, List·Memᴰ·head, List·Memᴰ·not-nil, List·Memᴰ·cases-cons, List·Memᴰ·append-cases, Memᴰ·append-left, Memᴰ·append-right}
 use native.Mathlib.Omega.{arith}
@@ -35,6 +35,24 @@ labels-for z C W W' Q f few h =
           let e : copy C f d b .generation ≡ Q .generation = omega (arith, g, h .cap d b i) in
           record { few-out = ap (W' .few) (y .same-out e) ∙ few; same-out = y .same-out; narrow = y .narrow };
     }
+
+-- ---- moments of rest
+
+-- the program is ready: its label is settled
+abbrev pub at-rest : {X : Type 0} → Machine X → Bool
+at-rest (at w nothing) = false
+at-rest (at w (idle o)) = true
+at-rest (at w (doing k l o o')) = false
+
+-- the set of slots that this label calls out
+abbrev pub settled-out : {X : Type 0} → Machine X → List (ℕ → Bool)
+settled-out (at w nothing) = []
+settled-out (at w (idle o)) = o .now .out ∷ []
+settled-out (at w (doing k l o o')) = []
+
+more-of : (b : Bool) {l : List (ℕ → Bool)} {t : ℕ → Bool} → List·Memᴰ t (cond b [] l) → List·Memᴰ t l
+more-of true j = absurd (List·Memᴰ·not-nil j)
+more-of false j = j
 
 module _ {X : Type 0} (z : Size) (C : LabelCodec X (z .n)) (K : RecordCodec X) (E : Code X (z .n) (K .c) (no-sets (z .n))) (S : Stamps) (R : Medium z (no-sets (z .n)) C K E S) (test : (ℕ → Bool) → Bool) (ok : Mends test E) where
   -- a family whose sets pass the test
@@ -83,22 +101,10 @@ module _ {X : Type 0} (z : Size) (C : LabelCodec X (z .n)) (K : RecordCodec X) (
   abbrev left-then : {m m' : Machine X} {l : List (Event X)} → RunsTo m l m' → List (ℕ → Bool)
   left-then r = left-by z (no-sets (z .n)) C K E S R test r
 
-  -- at rest: the set of slots that the settled label calls out
-  abbrev pub settled-out : Machine X → List (ℕ → Bool)
-  settled-out (at w nothing) = []
-  settled-out (at w (idle o)) = o .now .out ∷ []
-  settled-out (at w (doing k l o o')) = []
-
-  -- no more sets once the machine is at rest
-  abbrev pub unless-rest : Machine X → List (ℕ → Bool) → List (ℕ → Bool)
-  unless-rest (at w nothing) l = l
-  unless-rest (at w (idle o)) l = []
-  unless-rest (at w (doing k l' o o')) l = l
-
   -- the sets that are left out from here up to the next moment of rest
   abbrev pub ahead : {m m' : Machine X} {l : List (Event X)} → RunsTo m l m' → List (ℕ → Bool)
   ahead stays = []
-  ahead (goes {m' = m'} s r) = left-now s ++ unless-rest m' (ahead r)
+  ahead (goes {m' = m'} s r) = left-now s ++ cond (at-rest m') [] (ahead r)
 
   -- at every moment of the run any two of them, with the set that is settled there, leave a slot out
   abbrev pub AnyTwoSince : {m m' : Machine X} {l : List (Event X)} → RunsTo m l m' → Type 0
@@ -106,14 +112,9 @@ module _ {X : Type 0} (z : Size) (C : LabelCodec X (z .n)) (K : RecordCodec X) (
   AnyTwoSince (goes {m = m} s r) = AnyTwo (z .n) (settled-out m ++ ahead (goes s r)) × AnyTwoSince r
 
   -- they are among all that are left out
-  until-in : (m : Machine X) {l : List (ℕ → Bool)} {t : ℕ → Bool} → List·Memᴰ t (unless-rest m l) → List·Memᴰ t l
-  until-in (at w nothing) j = j
-  until-in (at w (idle o)) j = absurd (List·Memᴰ·not-nil j)
-  until-in (at w (doing k l o o')) j = j
-
   ahead-left : {m m' : Machine X} {l : List (Event X)} (r : RunsTo m l m') (t : ℕ → Bool) → List·Memᴰ t (ahead r) → List·Memᴰ t (left-then r)
   ahead-left stays t j = j
-  ahead-left (goes {m' = m'} s r) t j = ⊎-elim (λ k. Memᴰ·append-left (left-then r) k) (λ k. Memᴰ·append-right (left-now s) (ahead-left r t (until-in m' k))) (List·Memᴰ·append-cases (left-now s) j)
+  ahead-left (goes {m' = m'} s r) t j = ⊎-elim (λ k. Memᴰ·append-left (left-then r) k) (λ k. Memᴰ·append-right (left-now s) (ahead-left r t (more-of (at-rest m') k))) (List·Memᴰ·append-cases (left-now s) j)
 
   -- ---- one event
 
@@ -164,7 +165,7 @@ module _ {X : Type 0} (z : Size) (C : LabelCodec X (z .n)) (K : RecordCodec X) (
     -- the next machine is not at rest, and the family stays; or it is, and the next family takes over
     on : (W : Quorum (z .n)) (sub : Passing W) (m : Machine X) {m' : Machine X} {l : List (Event X)} (r : RunsTo m l m')
         → ((W' : Quorum (z .n)) (sub' : Passing W') → Shared (W' .few) (ahead r) → (p : View X) → InvariantFor W' sub' m p → (q : View X) × Views (K .c) p l q)
-        → Shared (W .few) (unless-rest m (ahead r)) → Shared test (ahead r) → AnyTwoSince r → (p : View X) → InvariantFor W sub m p → (q : View X) × Views (K .c) p l q
+        → Shared (W .few) (cond (at-rest m) [] (ahead r)) → Shared test (ahead r) → AnyTwoSince r → (p : View X) → InvariantFor W sub m p → (q : View X) × Views (K .c) p l q
     on W sub (at w nothing) r then h pass two p i = then W sub h p i
     on W sub (at w (doing k l o o')) r then h pass two p i = then W sub h p i
     on W sub (at w (idle o)) r then h pass two (open-write v v') i = absurd i
@@ -180,7 +181,7 @@ module _ {X : Type 0} (z : Size) (C : LabelCodec X (z .n)) (K : RecordCodec X) (
     along : (W : Quorum (z .n)) (sub : Passing W) {m m' : Machine X} {l : List (Event X)} (r : RunsTo m l m') → Shared (W .few) (ahead r) → AnyTwoSince r → (p : View X) → InvariantFor W sub m p → (q : View X) × Views (K .c) p l q
     along W sub stays h two p i = (p, same)
     along W sub (goes {m' = m'} s r) h two p i =
-        let y = one-event W sub s (λ t j. h t (Memᴰ·append-left (unless-rest m' (ahead r)) j)) p i in
+        let y = one-event W sub s (λ t j. h t (Memᴰ·append-left (cond (at-rest m') [] (ahead r)) j)) p i in
         let v = on W sub m' r (λ W' sub' h' p' i'. along W' sub' r h' (two .1) p' i') (λ t j. h t (Memᴰ·append-right (left-now s) j)) (λ t j. all-passed z (no-sets (z .n)) C K E S R test r t (ahead-left r t j)) (two .1) (y .0) (y .2) in
         (v .0, views-on (y .1) (v .1))
 
