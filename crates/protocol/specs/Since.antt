@@ -144,14 +144,6 @@ module _ {X : Type 0} (z : Size) (C : LabelCodec X (z .n)) (K : RecordCodec X) (
   few-here W sub (at w (idle o)) (kept-write v') i t j = absurd i
   few-here W sub (at w (idle o)) (sure v) i t j = ⊎-elim (λ e. ap (W .few) e ∙ ready-few W sub v w o (i .0) (i .1)) (λ k. absurd (List·Memᴰ·not-nil k)) (List·Memᴰ·cases-cons j)
 
-  -- where all sets that are left out are in one family, any two leave a slot out
-  family-along : (W : Quorum (z .n)) (sub : Passing W) {m m' : Machine X} {l : List (Event X)} (r : RunsTo m l m') → Shared (W .few) (left-then r) → (p : View X) → InvariantFor W sub m p → AnyTwoSince r
-  family-along W sub stays h p i = tt
-  family-along W sub (goes {m = m} s r) h p i =
-      let y = one-event W sub s (λ t j. h t (Memᴰ·append-left (left-then r) j)) p i in
-      let all : Shared (W .few) (settled-out m ++ ahead (goes s r)) = λ t j. ⊎-elim (few-here W sub m p i t) (λ k. h t (ahead-left (goes s r) t k)) (List·Memᴰ·append-cases (settled-out m) j) in
-      (λ a b j k. W .meet a b (all a j) (all b k), family-along W sub r (λ t j. h t (Memᴰ·append-right (left-now s) j)) (y .0) (y .2))
-
   -- ---- the promise
 
   module _ (part : Parts (z .n) test) (none : test (λ d. false) ≡ true) (some : 0 < z .n) where
@@ -192,6 +184,14 @@ module _ {X : Type 0} (z : Size) (C : LabelCodec X (z .n)) (K : RecordCodec X) (
         let W = tested-parts test part none some (ahead r) all in
         let sub = parts-pass test part none some (ahead r) all in
         along W sub r (λ t j. in-parts test part none some (ahead r) all t j (all-passed z (no-sets (z .n)) C K E S R test r t (ahead-left r t j))) two (sure (λ t i j. K .zeros)) (begins W sub (none-in test part none some (ahead r) all) w sane h)
+
+    -- where all sets that are left out are in one family, any two leave a slot out
+    family-along : (W : Quorum (z .n)) (sub : Passing W) {m m' : Machine X} {l : List (Event X)} (r : RunsTo m l m') → Shared (W .few) (left-then r) → (p : View X) → InvariantFor W sub m p → AnyTwoSince r
+    family-along W sub stays h p i = tt
+    family-along W sub (goes {m = m} s r) h p i =
+        let y = one-event W sub s (λ t j. h t (Memᴰ·append-left (left-then r) j)) p i in
+        let all : Shared (W .few) (settled-out m ++ ahead (goes s r)) = λ t j. ⊎-elim (few-here W sub m p i t) (λ k. h t (ahead-left (goes s r) t k)) (List·Memᴰ·append-cases (settled-out m) j) in
+        (λ a b j k. W .meet a b (all a j) (all b k), family-along W sub r (λ t j. h t (Memᴰ·append-right (left-now s) j)) (y .0) (y .2))
 
     -- it is less than to ask it of all sets of the history
     pub pairs-since : (w : World X) → Sane w → Always w (Zeros z (no-sets (z .n)) C K E S R) → {m : Machine X} {l : List (Event X)} (r : RunsTo (at w nothing) l m) → AnyTwo (z .n) (left-then r) → AnyTwoSince r
