@@ -65,8 +65,7 @@ module _ {X : Type 0} (z : Size) (C : LabelCodec X (z .n)) (K : RecordCodec X) (
   abbrev ReadyFor : (W : Quorum (z .n)) → Passing W → Host X → World X → Own → Type 0
   ReadyFor W sub = Ready z W C K (code-of z C K E S R test ok W sub) S (medium-for z C K E S R test ok W sub)
 
-  -- AT REST ANOTHER FAMILY CAN BE CHOSEN: any that has the set which the settled label calls out
-  pub ready-for : (W : Quorum (z .n)) (sub : Passing W) (W' : Quorum (z .n)) (sub' : Passing W') (v : Host X) (w : World X) (o : Own) → W' .few (o .now .out) ≡ true → ReadyFor W sub v w o → ReadyFor W' sub' v w o
+  ready-for : (W : Quorum (z .n)) (sub : Passing W) (W' : Quorum (z .n)) (sub' : Passing W') (v : Host X) (w : World X) (o : Own) → W' .few (o .now .out) ≡ true → ReadyFor W sub v w o → ReadyFor W' sub' v w o
   unfolding table
   ready-for W sub W' sub' v w o few h =
       record {
@@ -83,9 +82,17 @@ module _ {X : Type 0} (z : Size) (C : LabelCodec X (z .n)) (K : RecordCodec X) (
         dark = h .dark;
       }
 
-  -- that set is in the family for which the invariant holds
-  pub ready-few : (W : Quorum (z .n)) (sub : Passing W) (v : Host X) (w : World X) (o : Own) → Sane w → ReadyFor W sub v w o → W .few (o .now .out) ≡ true
-  ready-few W sub v w o sane h = always-cur (Rest z W C K (h .history) (h .u) (o .now) (table z W K (code-of z C K E S R test ok W sub) v)) w sane (h .rest) .labels .few-Q
+  -- AT REST ANOTHER FAMILY CAN BE CHOSEN: any that has the set which the settled label calls out
+  pub rest-for : (W : Quorum (z .n)) (sub : Passing W) (W' : Quorum (z .n)) (sub' : Passing W') (w : World X) (o : Own) (p : View X) → W' .few (o .now .out) ≡ true → InvariantFor W sub (at w (idle o)) p → InvariantFor W' sub' (at w (idle o)) p
+  rest-for W sub W' sub' w o (sure v) few i = (i .0, ready-for W sub W' sub' v w o few (i .1))
+  rest-for W sub W' sub' w o (open-write v v') few i = i
+  rest-for W sub W' sub' w o (kept-write v') few i = i
+
+  -- the family for which the invariant holds has it
+  pub rest-few : (W : Quorum (z .n)) (sub : Passing W) (w : World X) (o : Own) (p : View X) → InvariantFor W sub (at w (idle o)) p → W .few (o .now .out) ≡ true
+  rest-few W sub w o (sure v) i = always-cur (Rest z W C K (i .1 .history) (i .1 .u) (o .now) (table z W K (code-of z C K E S R test ok W sub) v)) w (i .0) (i .1 .rest) .labels .few-Q
+  rest-few W sub w o (open-write v v') i = absurd i
+  rest-few W sub w o (kept-write v') i = absurd i
 
   -- ---- WHAT IS ASKED
 
@@ -140,9 +147,7 @@ module _ {X : Type 0} (z : Size) (C : LabelCodec X (z .n)) (K : RecordCodec X) (
   few-here : (W : Quorum (z .n)) (sub : Passing W) (m : Machine X) (p : View X) → InvariantFor W sub m p → Shared (W .few) (settled-out m)
   few-here W sub (at w nothing) p i t j = absurd (List·Memᴰ·not-nil j)
   few-here W sub (at w (doing k l o o')) p i t j = absurd (List·Memᴰ·not-nil j)
-  few-here W sub (at w (idle o)) (open-write v v') i t j = absurd i
-  few-here W sub (at w (idle o)) (kept-write v') i t j = absurd i
-  few-here W sub (at w (idle o)) (sure v) i t j = ⊎-elim (λ e. ap (W .few) e ∙ ready-few W sub v w o (i .0) (i .1)) (λ k. absurd (List·Memᴰ·not-nil k)) (List·Memᴰ·cases-cons j)
+  few-here W sub (at w (idle o)) p i t j = ⊎-elim (λ e. ap (W .few) e ∙ rest-few W sub w o p i) (λ k. absurd (List·Memᴰ·not-nil k)) (List·Memᴰ·cases-cons j)
 
   -- ---- the promise
 
@@ -160,15 +165,13 @@ module _ {X : Type 0} (z : Size) (C : LabelCodec X (z .n)) (K : RecordCodec X) (
         → Shared (W .few) (cond (at-rest m) [] (ahead r)) → Shared test (ahead r) → AnyTwoSince r → (p : View X) → InvariantFor W sub m p → (q : View X) × Views (K .c) p l q
     on W sub (at w nothing) r then h pass two p i = then W sub h p i
     on W sub (at w (doing k l o o')) r then h pass two p i = then W sub h p i
-    on W sub (at w (idle o)) r then h pass two (open-write v v') i = absurd i
-    on W sub (at w (idle o)) r then h pass two (kept-write v') i = absurd i
-    on W sub (at w (idle o)) r then h pass two (sure v) i =
+    on W sub (at w (idle o)) r then h pass two p i =
         let l = o .now .out ∷ ahead r in
-        let few = few-here W sub (at w (idle o)) (sure v) i in
+        let few = few-here W sub (at w (idle o)) p i in
         let all : AnyTwo (z .n) l = two-here r (λ s t a b. W .meet s t (few s a) (few t b)) two in
         let W' = tested-parts test part none some l all in
-        then W' (parts-pass test part none some l all) (λ s j. in-parts test part none some l all s (Memᴰ·append-right (o .now .out ∷ []) j) (pass s j)) (sure v)
-        (i .0, ready-for W sub W' (parts-pass test part none some l all) v w o (in-parts test part none some l all (o .now .out) (List·Memᴰ·head refl) (sub (o .now .out) (few (o .now .out) (List·Memᴰ·head refl)))) (i .1))
+        then W' (parts-pass test part none some l all) (λ s j. in-parts test part none some l all s (Memᴰ·append-right (o .now .out ∷ []) j) (pass s j)) p
+        (rest-for W sub W' (parts-pass test part none some l all) w o p (in-parts test part none some l all (o .now .out) (List·Memᴰ·head refl) (sub (o .now .out) (rest-few W sub w o p i))) i)
 
     along : (W : Quorum (z .n)) (sub : Passing W) {m m' : Machine X} {l : List (Event X)} (r : RunsTo m l m') → Shared (W .few) (ahead r) → AnyTwoSince r → (p : View X) → InvariantFor W sub m p → (q : View X) × Views (K .c) p l q
     along W sub stays h two p i = (p, same)

@@ -274,7 +274,7 @@ module _ (z : Shelf) (F : Family z) (first : Machine Sector) where
       by (Refused why) n = t
 
   -- no request of these is at rest
-  not-rest : (p : View Sector) (w : World Sector) (img : List ℕ) (s : State) (work : List ℕ) → Busy p w img s work → isIdle (s .kind) ≡ true → ⊥
+  pub not-rest : (p : View Sector) (w : World Sector) (img : List ℕ) (s : State) (work : List ℕ) → Busy p w img s work → isIdle (s .kind) ≡ true → ⊥
   not-rest p w img s work (inl t) e = false≢true (sym (ap isIdle (t .writes .kind)) ∙ e)
   not-rest p w img s work (inr (inl t)) e = false≢true (sym (ap isIdle (t .kind)) ∙ e)
   not-rest p w img s work (inr (inr t)) e = false≢true (sym (ap isIdle (t .refills .kind)) ∙ e)

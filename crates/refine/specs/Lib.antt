@@ -43,4 +43,5 @@ pub mod Mends
 pub mod Hosts
 pub mod Reads
 pub mod HostHolds
+pub mod Since
 pub mod Serves

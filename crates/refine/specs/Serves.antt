@@ -1,8 +1,8 @@
 -- THE PROMISE TO THE HOST. Along every chain of calls from an image of zeros on there is a view of the host's, at first all blocks
 -- zeros, which each call changes only as its answer says, and at every moment a read that answers Done shows the view's entry, and a
--- repair is refused, since it finds nothing to mend. For every shelf, where any two of the sets of slots that the chain leaves out leave
--- a slot out in common; for k > m nothing is asked. And what the list's entries are: those of a write that is acknowledged are the bytes
--- given, all others stay. Assumes nothing.
+-- repair is refused, since it finds nothing to mend. For every shelf, where any two of the sets of slots that the chain leaves out from
+-- one moment of rest to the next leave a slot out in common (`AnyTwoSince`); for k > m nothing is asked. And what the list's entries are:
+-- those of a write that is acknowledged are the bytes given, all others stay. Assumes nothing.
 use mathlib.Core.Path.{_≡_, refl, sym, ap, subst, _∙_}
 use mathlib.Core.Bool.{Bool, true, false, cond}
 use mathlib.Core.List.{List, Memᴰ·append-left, Memᴰ·append-right}
@@ -51,19 +51,21 @@ module _ (z : Shelf) (F : Family z) (first : Machine Sector) where
   reads-as (at w img none) p h = tt
   reads-as (at w img (has s work)) p h = λ b buf ok. read-right z F first p w img s b work buf ok h
 
-  served-in : {a b : Time} (c : HostChain z a b) → Allowed z F (sets c) → (p : View Sector) → BoundAt z F first p a → (q : View Sector) × Served c p q × BoundAt z F first q b
-  served-in {a} stays ok p t = (p, (refl, reads-as a p t), t)
-  served-in {b = b} (goes-on c x) ok p t =
-      let y = served-in c (λ s m. ok s (Memᴰ·append-right (sets-call x) m)) p t in
-      let r = call-bound z F first x (λ s m. ok s (Memᴰ·append-left (sets c) m)) (y .0) (y .2) in
-      (r .0, (y .0, y .1, r .1, reads-as b (r .0) (r .2)), r .2)
+module _ (z : Shelf) (first : Machine Sector) where
+  served-in : (F : Family z) {a b : Time} (c : HostChain z a b) → Suits z first c F → (p : View Sector) → ((G : Family z) → BoundAt z G first p a) → (q : View Sector) × Served c p q × BoundAt z F first q b
+  served-in F {a} stays ok p t = (p, (refl, reads-as z F first a p (t F)), t F)
+  served-in F {b = b} (goes-on c x) ok p t =
+      let G = ok .0 in
+      let y = served-in G c (ok .2) p t in
+      let r = call-bound z G first x (ok .1) (y .0) (y .2) in
+      (r .0, (y .0, y .1, r .1, reads-as z G first b (r .0) (r .2)), ok .3 (r .0) (r .2))
 
 -- ---- FROM ZEROS ON
 
 module _ (z : Shelf) (img : List ℕ) (disks : Disks z img) (blank : allZero img ≡ true) where
   -- the view, and the tie with the protocol's machine (HostHolds says what else follows from it)
-  pub served-bound : (F : Family z) {b : Time} (c : HostChain z (at (after (curOf z img)) img none) b) → Allowed z F (sets c) → (p : View Sector) × Served c (sure blocks) p × BoundAt z F (fresh z img disks blank) p b
-  served-bound F c ok = served-in z F (fresh z img disks blank) c ok (sure blocks) (fresh-tie z img disks blank F)
+  pub served-bound : (F : Family z) {b : Time} (c : HostChain z (at (after (curOf z img)) img none) b) → Suits z (fresh z img disks blank) c F → (p : View Sector) × Served c (sure blocks) p × BoundAt z F (fresh z img disks blank) p b
+  served-bound F c ok = served-in z (fresh z img disks blank) F c ok (sure blocks) (fresh-tie z img disks blank)
 
   -- at rest it is a list
   pub served-rests : (F : Family z) {w : World Sector} {left : List ℕ} {s : State} {work : List ℕ} (c : HostChain z (at (after (curOf z img)) img none) (at w left (has s work))) → Allowed z F (sets c) → s .kind ≡ Idle
