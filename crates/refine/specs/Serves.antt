@@ -5,7 +5,7 @@
 -- those of a write that is acknowledged are the bytes given, all others stay. Assumes nothing.
 use mathlib.Core.Path.{_≡_, refl, sym, ap, subst, _∙_}
 use mathlib.Core.Bool.{Bool, true, false, cond}
-use mathlib.Core.List.{List, Memᴰ·append-left, Memᴰ·append-right}
+use mathlib.Core.List.{List}
 use Prim.Native.Nat.{ℕ, _+_, _*_, _<_, _/_, _%_}
 use native.Mathlib.Nat.{div-add-mod'}
 use lib.Dec.{eqb}
@@ -18,21 +18,21 @@ use Rattle.label.specs.Bytes.{allZero}
 use Rattle.protocol.specs.World.{World, after}
 use Rattle.protocol.specs.Host.{Host, one-block, set-block, replace}
 use Rattle.protocol.specs.Machine.{Machine, View, sure, list-of}
-use Rattle.protocol.specs.Pairs.{AnyTwo}
 use Rattle.codecs.specs.Sector.{Sector, Bytes}
-use Rattle.codecs.specs.Shelf.{Shelf, slots}
+use Rattle.codecs.specs.Shelf.{Shelf}
 use Rattle.codecs.specs.Records.{stripBytes}
 use Rattle.shelf.specs.declared.state.State.{State}
 use Rattle.shelf.specs.declared.state.Kind.the-variants.{Idle}
 use Rattle.requests.specs.declared.begun.Begun.{Begun}
 use Rattle.blocks.specs.Read.{readAnswer, afterRead}
 use Rattle.scrubs.specs.Repair.{Repairs}
-use Rattle.refine.specs.Family.{Family, every-few, parts-few, in-parts}
+use Rattle.refine.specs.Family.{Family, every-few}
 use Rattle.refine.specs.Disks.{Disks, curOf}
 use Rattle.refine.specs.Sees.{sectorsOf, sectors-strip}
-use Rattle.refine.specs.Chain.{Allowed, blocks, fresh, fresh-tie}
-use Rattle.refine.specs.Hosts.{none, has, Time, at, HostChain, stays, goes-on, sets-call, sets, Saw, BoundAt, repair-refused-there, repair-changes-nothing, call-bound}
+use Rattle.refine.specs.Chain.{blocks, fresh, fresh-tie}
+use Rattle.refine.specs.Hosts.{none, has, Time, at, HostChain, stays, goes-on, Saw, BoundAt, repair-refused-there, repair-changes-nothing, call-bound}
 use Rattle.refine.specs.HostHolds.{bound-rests}
+use Rattle.refine.specs.Since.{AnyTwoSince, Suits, one-suits, some-family}
 use Rattle.refine.specs.Reads.{read-right}
 
 -- at this moment every read that answers Done shows the entry of the view p
@@ -68,7 +68,7 @@ module _ (z : Shelf) (img : List ℕ) (disks : Disks z img) (blank : allZero img
   served-bound F c ok = served-in z (fresh z img disks blank) F c ok (sure blocks) (fresh-tie z img disks blank)
 
   -- at rest it is a list
-  pub served-rests : (F : Family z) {w : World Sector} {left : List ℕ} {s : State} {work : List ℕ} (c : HostChain z (at (after (curOf z img)) img none) (at w left (has s work))) → Allowed z F (sets c) → s .kind ≡ Idle
+  pub served-rests : (F : Family z) {w : World Sector} {left : List ℕ} {s : State} {work : List ℕ} (c : HostChain z (at (after (curOf z img)) img none) (at w left (has s work))) → Suits z (fresh z img disks blank) c F → s .kind ≡ Idle
       → (v : Host Sector) × Served c (sure blocks) (sure v)
   served-rests F {w} {left} {s} {work} c ok e =
       let y = served-bound F c ok in
@@ -76,15 +76,21 @@ module _ (z : Shelf) (img : List ℕ) (disks : Disks z img) (blank : allZero img
       (r .0, subst (λ (p : View Sector). Served c (sure blocks) p) (r .1) (y .1))
 
   -- FOR EVERY SHELF
-  pub any-reads-right : {b : Time} (c : HostChain z (at (after (curOf z img)) img none) b) → AnyTwo (slots z) (sets c) → (p : View Sector) × Served c (sure blocks) p
-  any-reads-right c two = let y = served-bound (parts-few z (sets c) two) c (in-parts z (sets c) two) in (y .0, y .1)
+  pub bound-since : {b : Time} (c : HostChain z (at (after (curOf z img)) img none) b) → AnyTwoSince c → (F : Family z) × (p : View Sector) × Served c (sure blocks) p × BoundAt z F (fresh z img disks blank) p b
+  bound-since c two =
+      let f = some-family z (fresh z img disks blank) c two in
+      let y = served-bound (f .0) c (f .1) in
+      (f .0, y .0, y .1, y .2)
+
+  pub any-reads-right : {b : Time} (c : HostChain z (at (after (curOf z img)) img none) b) → AnyTwoSince c → (p : View Sector) × Served c (sure blocks) p
+  any-reads-right c two = let y = bound-since c two in (y .1, y .2)
 
   -- FOR k > m
   pub reads-right : z .m < z .k → {b : Time} (c : HostChain z (at (after (curOf z img)) img none) b) → (p : View Sector) × Served c (sure blocks) p
-  reads-right more c = let y = served-bound (every-few z more) c (λ s m e. e) in (y .0, y .1)
+  reads-right more c = let y = served-bound (every-few z more) c (one-suits z (fresh z img disks blank) (every-few z more) c (λ s m e. e)) in (y .0, y .1)
 
   -- A REPAIR IS REFUSED at every moment, since it finds nothing to mend, and changes nothing
-  repair-served : (F : Family z) {w : World Sector} {left : List ℕ} {s : State} {work : List ℕ} (c : HostChain z (at (after (curOf z img)) img none) (at w left (has s work))) → Allowed z F (sets c)
+  repair-served : (F : Family z) {w : World Sector} {left : List ℕ} {s : State} {work : List ℕ} (c : HostChain z (at (after (curOf z img)) img none) (at w left (has s work))) → Suits z (fresh z img disks blank) c F
       → (t : ℕ) (b : Begun) (then : List ℕ) → Repairs s t left work b then → ((why : Refusal) × (b .outcome ≡ Refused why)) × (b .state ≡ s) × (then ≡ work)
   repair-served F {w} {left} {s} {work} c ok t b then r =
       let y = served-bound F c ok in
@@ -92,14 +98,14 @@ module _ (z : Shelf) (img : List ℕ) (disks : Disks z img) (blank : allZero img
       (repair-refused-there z F (fresh z img disks blank) (y .0) w left s work t b then r (y .2), same .0, same .1)
 
   -- for every shelf
-  pub any-repair-refused : {w : World Sector} {left : List ℕ} {s : State} {work : List ℕ} (c : HostChain z (at (after (curOf z img)) img none) (at w left (has s work))) → AnyTwo (slots z) (sets c)
+  pub any-repair-refused : {w : World Sector} {left : List ℕ} {s : State} {work : List ℕ} (c : HostChain z (at (after (curOf z img)) img none) (at w left (has s work))) → AnyTwoSince c
       → (t : ℕ) (b : Begun) (then : List ℕ) → Repairs s t left work b then → ((why : Refusal) × (b .outcome ≡ Refused why)) × (b .state ≡ s) × (then ≡ work)
-  any-repair-refused c two = repair-served (parts-few z (sets c) two) c (in-parts z (sets c) two)
+  any-repair-refused c two = let f = some-family z (fresh z img disks blank) c two in repair-served (f .0) c (f .1)
 
   -- for k > m
   pub repairs-refused : z .m < z .k → {w : World Sector} {left : List ℕ} {s : State} {work : List ℕ} (c : HostChain z (at (after (curOf z img)) img none) (at w left (has s work)))
       → (t : ℕ) (b : Begun) (then : List ℕ) → Repairs s t left work b then → ((why : Refusal) × (b .outcome ≡ Refused why)) × (b .state ≡ s) × (then ≡ work)
-  repairs-refused more c = repair-served (every-few z more) c (λ s m e. e)
+  repairs-refused more c = repair-served (every-few z more) c (one-suits z (fresh z img disks blank) (every-few z more) c (λ s m e. e))
 
 -- ---- THE ENTRIES
 

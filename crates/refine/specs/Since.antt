@@ -1,25 +1,29 @@
 -- WHAT IS ASKED OF THE WORLD ALONG A CHAIN OF CALLS, for shelves with k <= m: from each moment of rest up to the next one, any two of the sets of slots that accepted start-ups and take-outs leave out,
 -- and the set that the state's label calls out at the first, leave a slot out in common. (A state at rest has its label settled; what was left out before no longer matters.) And a family of sets for
 -- each call of such a chain, so that all is kept from call to call. Assumes nothing.
-use mathlib.Core.Path.{_≡_, refl, sym, subst}
+use mathlib.Core.Path.{_≡_, refl, sym, ap, subst, _∙_}
 use mathlib.Core.Bool.{Bool, true, false, cond}
-use mathlib.Core.Logic.{inl, inr}
-use mathlib.Core.List.{List, [], _∷_, _++_, List·Memᴰ·head, List·Memᴰ·not-nil, Memᴰ·append-left, Memᴰ·append-right}
+use mathlib.Core.Logic.{⊎-elim, inl, inr}
+use mathlib.Core.List.{List, [], _∷_, _++_, List·Memᴰ·head, List·Memᴰ·tail, List·Memᴰ·not-nil, List·Memᴰ·cases-cons, List·Memᴰ·append-cases, Memᴰ·append-left, Memᴰ·append-right}
 use Prim.Native.Nat.{ℕ}
 use Rattle.disk.specs.Mask.{inMask}
 use Rattle.protocol.specs.World.{World}
-use Rattle.protocol.specs.Program.{Memory, idle}
+use Rattle.protocol.specs.Write.{both}
+use Rattle.protocol.specs.Label.{Quorum}
+use Rattle.protocol.specs.Program.{idle}
 use Rattle.protocol.specs.Machine.{Machine, View}
-use Rattle.protocol.specs.Pairs.{AnyTwo}
+use Rattle.protocol.specs.Even.{Shared}
+use Rattle.protocol.specs.Pairs.{AnyTwo, parts-of, with-none, some-is}
 use Rattle.codecs.specs.Sector.{Sector}
-use Rattle.codecs.specs.Shelf.{Shelf, slots}
+use Rattle.codecs.specs.Shelf.{Shelf, slots, some-slots}
+use Rattle.shards.specs.Quorum.{fewOf}
 use Rattle.shelf.specs.declared.state.State.{State}
 use Rattle.requests.specs.Ready.{isIdle}
 use Rattle.refine.specs.Family.{Family, parts-few, in-parts, keeps-for, keeps-few}
 use Rattle.refine.specs.Tied.{memoryOf, ownOf}
 use Rattle.refine.specs.Chain.{Allowed, rests, Reached, Tie, idle-is}
 use Rattle.refine.specs.Chain as chain
-use Rattle.refine.specs.Hosts.{none, has, Time, at, HostChain, stays, goes-on, sets-call, sets, Bound, BoundAt, not-rest}
+use Rattle.refine.specs.Hosts.{none, has, Time, at, HostChain, stays, goes-on, sets-call, sets, Bound, BoundAt, not-rest, chain-bound}
 
 -- ---- WHAT IS ASKED
 
@@ -44,15 +48,20 @@ module _ (z : Shelf) (first : Machine Sector) where
   reached-for : (F F' : Family z) (p : View Sector) (w : World Sector) (s : State) → F' .sets .few (inMask (s .now .out)) ≡ true → Reached z F first p w (idle (ownOf z s (s .now))) → Reached z F' first p w (idle (ownOf z s (s .now)))
   reached-for F F' p w s few r = record { events = r .events; runs = r .runs; keeps = keeps-for z F F' w (ownOf z s (s .now)) p few (r .keeps); tidy = r .tidy }
 
+  -- the family for which the tie holds has it
+  rests-in : (F : Family z) (p : View Sector) (w : World Sector) (img : List ℕ) (s : State) → isIdle (s .kind) ≡ true → Tie z F first p w img (chain.has s) → Reached z F first p w (idle (ownOf z s (s .now))) × (F .sets .few (inMask (s .now .out)) ≡ true)
+  rests-in F p w img s e t =
+      let r : Reached z F first p w (idle (ownOf z s (s .now))) = subst (Reached z F first p w) (rests z s img (idle-is z F first p (s .kind) e)) (t .reached) in
+      (r, keeps-few z F w (ownOf z s (s .now)) p (r .keeps))
+
   tie-for : (F F' : Family z) (p : View Sector) (w : World Sector) (img : List ℕ) (s : State) → isIdle (s .kind) ≡ true → Allowed z F' (inMask (s .now .out) ∷ []) → Tie z F first p w img (chain.has s) → Tie z F' first p w img (chain.has s)
   tie-for F F' p w img s e ok t =
-      let m : memoryOf z s [] img ≡ idle (ownOf z s (s .now)) = rests z s img (idle-is z F first p (s .kind) e) in
-      let r : Reached z F first p w (idle (ownOf z s (s .now))) = subst (Reached z F first p w) m (t .reached) in
-      let few = ok (inMask (s .now .out)) (List·Memᴰ·head refl) (F .few (inMask (s .now .out)) (keeps-few z F w (ownOf z s (s .now)) p (r .keeps))) in
+      let r = rests-in F p w img s e t in
+      let few = ok (inMask (s .now .out)) (List·Memᴰ·head refl) (F .few (inMask (s .now .out)) (r .1)) in
       record {
         disks = t .disks;
         reads = t .reads;
-        reached = subst (Reached z F' first p w) (sym m) (reached-for F F' p w s few r);
+        reached = subst (Reached z F' first p w) (sym (rests z s img (idle-is z F first p (s .kind) e))) (reached-for F F' p w s few (r .0));
         named = t .named;
         names = t .names;
         order = t .order;
@@ -95,4 +104,38 @@ module _ (z : Shelf) (first : Machine Sector) where
   some-family (goes-on c x) two =
       let l = sets-call x ++ since c in
       let F = parts-few z l (two .1) in
-      (F, F, (λ s m. in-parts z l (two .1) s (Memᴰ·append-left (since c) m)), since-suits c (two .0) F (λ s m. in-parts z l (two .1) s (Memᴰ·append-right (sets-call x) m)), λ q h. h)
+      (F, (F, (λ s m. in-parts z l (two .1) s (Memᴰ·append-left (since c) m)), since-suits c (two .0) F (λ s m. in-parts z l (two .1) s (Memᴰ·append-right (sets-call x) m)), λ q h. h))
+
+  -- ---- it is less than to ask it of all sets of the chain
+
+  settled-in : (F : Family z) (W : Quorum (slots z)) → ((s : ℕ → Bool) → F .sets .few s ≡ true → W .few s ≡ true) → (b : Time) (l : List (ℕ → Bool)) (q : View Sector) → BoundAt z F first q b → Shared (W .few) l → Shared (W .few) (settles b l)
+  settled-in F W wide (at w img none) l q t h = h
+  settled-in F W wide (at w img (has s work)) l q t h = by (isIdle (s .kind)) refl t
+    where
+      by : (i : Bool) → isIdle (s .kind) ≡ i → Bound z F first q w img (has s work) → Shared (W .few) (cond i (inMask (s .now .out) ∷ []) l)
+      by true e (inl t) = λ a m. ⊎-elim (λ x. ap (W .few) x ∙ wide (inMask (s .now .out)) (rests-in F q w img s e t .1)) (λ n. absurd (List·Memᴰ·not-nil n)) (List·Memᴰ·cases-cons m)
+      by true e (inr t) = absurd (not-rest z F first q w img s work t e)
+      by false e t = h
+
+  -- along a chain whose sets are all in F, or in a wider family where they are of more than m slots
+  module _ (F : Family z) (W : Quorum (slots z)) (wide : (s : ℕ → Bool) → F .sets .few s ≡ true → W .few s ≡ true) (p : View Sector) where
+    since-in : {a b : Time} (c : HostChain z a b) → Allowed z F (sets c) → Shared (W .few) (sets c) → BoundAt z F first p a → Shared (W .few) (since c)
+    since-in {b = b} stays ok h t = settled-in F W wide b [] p t (λ s m. absurd (List·Memᴰ·not-nil m))
+    since-in {b = b} (goes-on c x) ok h t =
+        let y = chain-bound z F first (goes-on c x) ok p t in
+        let r = since-in c (λ s m. ok s (Memᴰ·append-right (sets-call x) m)) (λ s m. h s (Memᴰ·append-right (sets-call x) m)) t in
+        settled-in F W wide b (sets-call x ++ since c) (y .0) (y .2) (λ s m. ⊎-elim (λ n. h s (Memᴰ·append-left (sets c) n)) (λ n. r s n) (List·Memᴰ·append-cases (sets-call x) m))
+
+    two-since : {a b : Time} (c : HostChain z a b) → Allowed z F (sets c) → Shared (W .few) (sets c) → BoundAt z F first p a → AnyTwoSince c
+    two-since stays ok h t = tt
+    two-since (goes-on c x) ok h t =
+        let ok' : Allowed z F (sets c) = λ s m. ok s (Memᴰ·append-right (sets-call x) m) in
+        let h' : Shared (W .few) (sets c) = λ s m. h s (Memᴰ·append-right (sets-call x) m) in
+        let all : Shared (W .few) (sets-call x ++ since c) = λ s m. ⊎-elim (λ n. h s (Memᴰ·append-left (sets c) n)) (λ n. since-in c ok' h' t s n) (List·Memᴰ·append-cases (sets-call x) m) in
+        (two-since c ok' h' t, λ a b i j. W .meet a b (all a i) (all b j))
+
+  pub pairs-since : {a b : Time} (c : HostChain z a b) → (p : View Sector) → ((F : Family z) → BoundAt z F first p a) → AnyTwo (slots z) (sets c) → AnyTwoSince c
+  pairs-since c p t two =
+      let l = sets c in
+      let W = parts-of (slots z) ((λ d. false) ∷ l) (with-none (slots z) (some-slots z) l two) in
+      two-since (parts-few z l two) W (λ s e. both (fewOf z s) (W .few s) e .1) p c (in-parts z l two) (λ s m. some-is (slots z) s s ((λ d. false) ∷ l) (List·Memᴰ·tail m) (λ d i e. e)) (t (parts-few z l two))
