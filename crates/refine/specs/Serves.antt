@@ -18,21 +18,22 @@ use Rattle.label.specs.Bytes.{allZero}
 use Rattle.protocol.specs.World.{World, after}
 use Rattle.protocol.specs.Host.{Host, one-block, set-block, replace}
 use Rattle.protocol.specs.Machine.{Machine, View, sure, list-of}
+use Rattle.protocol.specs.Pairs.{AnyTwo}
 use Rattle.codecs.specs.Sector.{Sector, Bytes}
-use Rattle.codecs.specs.Shelf.{Shelf}
+use Rattle.codecs.specs.Shelf.{Shelf, slots}
 use Rattle.codecs.specs.Records.{stripBytes}
 use Rattle.shelf.specs.declared.state.State.{State}
 use Rattle.shelf.specs.declared.state.Kind.the-variants.{Idle}
 use Rattle.requests.specs.declared.begun.Begun.{Begun}
 use Rattle.blocks.specs.Read.{readAnswer, afterRead}
 use Rattle.scrubs.specs.Repair.{Repairs}
-use Rattle.refine.specs.Family.{Family, every-few}
+use Rattle.refine.specs.Family.{Family, every-few, parts-few, in-parts}
 use Rattle.refine.specs.Disks.{Disks, curOf}
 use Rattle.refine.specs.Sees.{sectorsOf, sectors-strip}
-use Rattle.refine.specs.Chain.{blocks, fresh, fresh-tie}
-use Rattle.refine.specs.Hosts.{none, has, Time, at, HostChain, stays, goes-on, Saw, BoundAt, repair-refused-there, repair-changes-nothing, call-bound}
+use Rattle.refine.specs.Chain.{Allowed, blocks, fresh, fresh-tie}
+use Rattle.refine.specs.Hosts.{none, has, Time, at, HostChain, stays, goes-on, sets, Saw, BoundAt, repair-refused-there, repair-changes-nothing, call-bound}
 use Rattle.refine.specs.HostHolds.{bound-rests}
-use Rattle.refine.specs.Since.{AnyTwoSince, Suits, one-suits, some-family}
+use Rattle.refine.specs.Since.{AnyTwoSince, Suits, one-suits, some-family, family-since}
 use Rattle.refine.specs.Reads.{read-right}
 
 -- at this moment every read that answers Done shows the entry of the view p
@@ -64,11 +65,11 @@ module _ (z : Shelf) (first : Machine Sector) where
 
 module _ (z : Shelf) (img : List ℕ) (disks : Disks z img) (blank : allZero img ≡ true) where
   -- the view, and the tie with the protocol's machine (HostHolds says what else follows from it)
-  pub served-bound : (F : Family z) {b : Time} (c : HostChain z (at (after (curOf z img)) img none) b) → Suits z (fresh z img disks blank) c F → (p : View Sector) × Served c (sure blocks) p × BoundAt z F (fresh z img disks blank) p b
-  served-bound F c ok = served-in z (fresh z img disks blank) F c ok (sure blocks) (fresh-tie z img disks blank)
+  pub served-bound : (F : Family z) {b : Time} (c : HostChain z (at (after (curOf z img)) img none) b) → Allowed z F (sets c) → (p : View Sector) × Served c (sure blocks) p × BoundAt z F (fresh z img disks blank) p b
+  served-bound F c ok = served-in z (fresh z img disks blank) F c (one-suits z (fresh z img disks blank) F c ok) (sure blocks) (fresh-tie z img disks blank)
 
   -- at rest it is a list
-  pub served-rests : (F : Family z) {w : World Sector} {left : List ℕ} {s : State} {work : List ℕ} (c : HostChain z (at (after (curOf z img)) img none) (at w left (has s work))) → Suits z (fresh z img disks blank) c F → s .kind ≡ Idle
+  pub served-rests : (F : Family z) {w : World Sector} {left : List ℕ} {s : State} {work : List ℕ} (c : HostChain z (at (after (curOf z img)) img none) (at w left (has s work))) → Allowed z F (sets c) → s .kind ≡ Idle
       → (v : Host Sector) × Served c (sure blocks) (sure v)
   served-rests F {w} {left} {s} {work} c ok e =
       let y = served-bound F c ok in
@@ -79,33 +80,35 @@ module _ (z : Shelf) (img : List ℕ) (disks : Disks z img) (blank : allZero img
   pub bound-since : {b : Time} (c : HostChain z (at (after (curOf z img)) img none) b) → AnyTwoSince c → (F : Family z) × (p : View Sector) × Served c (sure blocks) p × BoundAt z F (fresh z img disks blank) p b
   bound-since c two =
       let f = some-family z (fresh z img disks blank) c two in
-      let y = served-bound (f .0) c (f .1) in
+      let y = served-in z (fresh z img disks blank) (f .0) c (f .1) (sure blocks) (fresh-tie z img disks blank) in
       (f .0, y .0, y .1, y .2)
 
   pub any-reads-right : {b : Time} (c : HostChain z (at (after (curOf z img)) img none) b) → AnyTwoSince c → (p : View Sector) × Served c (sure blocks) p
   any-reads-right c two = let y = bound-since c two in (y .1, y .2)
 
-  -- FOR k > m
+  -- it is less than to ask it of all sets of the chain; so it is where one slot takes part in all of them (one-takes-part)
+  pub pairs-since : {b : Time} (c : HostChain z (at (after (curOf z img)) img none) b) → AnyTwo (slots z) (sets c) → AnyTwoSince c
+  pairs-since c two = family-since z (fresh z img disks blank) (parts-few z (sets c) two) (sure blocks) c (in-parts z (sets c) two) (fresh-tie z img disks blank (parts-few z (sets c) two))
+
+  -- FOR k > m nothing is asked
+  pub nothing-asked : z .m < z .k → {b : Time} (c : HostChain z (at (after (curOf z img)) img none) b) → AnyTwoSince c
+  nothing-asked more c = family-since z (fresh z img disks blank) (every-few z more) (sure blocks) c (λ s m e. e) (fresh-tie z img disks blank (every-few z more))
+
   pub reads-right : z .m < z .k → {b : Time} (c : HostChain z (at (after (curOf z img)) img none) b) → (p : View Sector) × Served c (sure blocks) p
-  reads-right more c = let y = served-bound (every-few z more) c (one-suits z (fresh z img disks blank) (every-few z more) c (λ s m e. e)) in (y .0, y .1)
+  reads-right more c = any-reads-right c (nothing-asked more c)
 
   -- A REPAIR IS REFUSED at every moment, since it finds nothing to mend, and changes nothing
-  repair-served : (F : Family z) {w : World Sector} {left : List ℕ} {s : State} {work : List ℕ} (c : HostChain z (at (after (curOf z img)) img none) (at w left (has s work))) → Suits z (fresh z img disks blank) c F
-      → (t : ℕ) (b : Begun) (then : List ℕ) → Repairs s t left work b then → ((why : Refusal) × (b .outcome ≡ Refused why)) × (b .state ≡ s) × (then ≡ work)
-  repair-served F {w} {left} {s} {work} c ok t b then r =
-      let y = served-bound F c ok in
-      let same = repair-changes-nothing z F (fresh z img disks blank) (y .0) w left s work t b then r (y .2) in
-      (repair-refused-there z F (fresh z img disks blank) (y .0) w left s work t b then r (y .2), same .0, same .1)
-
-  -- for every shelf
   pub any-repair-refused : {w : World Sector} {left : List ℕ} {s : State} {work : List ℕ} (c : HostChain z (at (after (curOf z img)) img none) (at w left (has s work))) → AnyTwoSince c
       → (t : ℕ) (b : Begun) (then : List ℕ) → Repairs s t left work b then → ((why : Refusal) × (b .outcome ≡ Refused why)) × (b .state ≡ s) × (then ≡ work)
-  any-repair-refused c two = let f = some-family z (fresh z img disks blank) c two in repair-served (f .0) c (f .1)
+  any-repair-refused {w} {left} {s} {work} c two t b then r =
+      let y = bound-since c two in
+      let same = repair-changes-nothing z (y .0) (fresh z img disks blank) (y .1) w left s work t b then r (y .3) in
+      (repair-refused-there z (y .0) (fresh z img disks blank) (y .1) w left s work t b then r (y .3), same .0, same .1)
 
   -- for k > m
   pub repairs-refused : z .m < z .k → {w : World Sector} {left : List ℕ} {s : State} {work : List ℕ} (c : HostChain z (at (after (curOf z img)) img none) (at w left (has s work)))
       → (t : ℕ) (b : Begun) (then : List ℕ) → Repairs s t left work b then → ((why : Refusal) × (b .outcome ≡ Refused why)) × (b .state ≡ s) × (then ≡ work)
-  repairs-refused more c = repair-served (every-few z more) c (one-suits z (fresh z img disks blank) (every-few z more) c (λ s m e. e))
+  repairs-refused more c = any-repair-refused c (nothing-asked more c)
 
 -- ---- THE ENTRIES
 

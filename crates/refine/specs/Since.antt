@@ -4,26 +4,30 @@
 use mathlib.Core.Path.{_≡_, refl, sym, ap, subst, _∙_}
 use mathlib.Core.Bool.{Bool, true, false, cond}
 use mathlib.Core.Logic.{⊎-elim, inl, inr}
-use mathlib.Core.List.{List, [], _∷_, _++_, List·Memᴰ·head, List·Memᴰ·tail, List·Memᴰ·not-nil, List·Memᴰ·cases-cons, List·Memᴰ·append-cases, Memᴰ·append-left, Memᴰ·append-right}
+use mathlib.Core.List.{List, [], _∷_, _++_, List·Memᴰ, List·Memᴰ·head, List·Memᴰ·not-nil, List·Memᴰ·cases-cons, List·Memᴰ·append-cases, Memᴰ·append-left, Memᴰ·append-right}
 use Prim.Native.Nat.{ℕ}
+use lib.ListN.{length}
 use Rattle.disk.specs.Mask.{inMask}
+use Rattle.disk.specs.declared.refusal.Outcome.{Outcome}
+use Rattle.disk.specs.declared.refusal.Outcome.the-variants.{Done, Refused}
 use Rattle.protocol.specs.World.{World}
-use Rattle.protocol.specs.Write.{both}
-use Rattle.protocol.specs.Label.{Quorum}
 use Rattle.protocol.specs.Program.{idle}
 use Rattle.protocol.specs.Machine.{Machine, View}
 use Rattle.protocol.specs.Even.{Shared}
-use Rattle.protocol.specs.Pairs.{AnyTwo, parts-of, with-none, some-is}
+use Rattle.protocol.specs.Pairs.{AnyTwo}
 use Rattle.codecs.specs.Sector.{Sector}
-use Rattle.codecs.specs.Shelf.{Shelf, slots, some-slots}
+use Rattle.codecs.specs.Shelf.{Shelf, slots}
 use Rattle.shards.specs.Quorum.{fewOf}
 use Rattle.shelf.specs.declared.state.State.{State}
+use Rattle.requests.specs.Begun.{begun}
+use Rattle.requests.specs.TakeOut.{takeAnswer, tookOut}
+use Rattle.requests.specs.Accepted.{take-done}
 use Rattle.requests.specs.Ready.{isIdle}
 use Rattle.refine.specs.Family.{Family, parts-few, in-parts, keeps-for, keeps-few}
-use Rattle.refine.specs.Tied.{memoryOf, ownOf}
-use Rattle.refine.specs.Chain.{Allowed, rests, Reached, Tie, idle-is}
+use Rattle.refine.specs.Tied.{ownOf}
+use Rattle.refine.specs.Chain.{outs, Allowed, rests, Reached, Tie, idle-is}
 use Rattle.refine.specs.Chain as chain
-use Rattle.refine.specs.Hosts.{none, has, Time, at, HostChain, stays, goes-on, sets-call, sets, Bound, BoundAt, not-rest, chain-bound}
+use Rattle.refine.specs.Hosts.{none, has, Time, at, HostCalls, creates, starts, creates-late, takes-out, begins, ons, writes, repairs, steps, cut, dies, HostChain, stays, goes-on, sets-call, sets, Bound, BoundAt, loose, not-rest, chain-bound}
 
 -- ---- WHAT IS ASKED
 
@@ -106,36 +110,54 @@ module _ (z : Shelf) (first : Machine Sector) where
       let F = parts-few z l (two .1) in
       (F, (F, (λ s m. in-parts z l (two .1) s (Memᴰ·append-left (since c) m)), since-suits c (two .0) F (λ s m. in-parts z l (two .1) s (Memᴰ·append-right (sets-call x) m)), λ q h. h))
 
-  -- ---- it is less than to ask it of all sets of the chain
+  -- ---- where it is so
 
-  settled-in : (F : Family z) (W : Quorum (slots z)) → ((s : ℕ → Bool) → F .sets .few s ≡ true → W .few s ≡ true) → (b : Time) (l : List (ℕ → Bool)) (q : View Sector) → BoundAt z F first q b → Shared (W .few) l → Shared (W .few) (settles b l)
-  settled-in F W wide (at w img none) l q t h = h
-  settled-in F W wide (at w img (has s work)) l q t h = by (isIdle (s .kind)) refl t
+  -- each set that is left out is of at most m slots
+  call-passed : (F : Family z) (p : View Sector) {a b : Time} (x : HostCalls z a b) → BoundAt z F first p a → Shared (fewOf z) (sets-call x)
+  call-passed F p (creates s work) t a m = absurd (List·Memᴰ·not-nil m)
+  call-passed F p (creates-late s k m' c S number work e) t a m = absurd (List·Memᴰ·not-nil m)
+  call-passed F p (starts {w} {img} {h} s g absent work sits) t a m = chain.call-passed z F first p (chain.starts {h = chain.none} s g absent (length work) sits) (loose z F first p w img h t) a m
+  call-passed F p (takes-out {w} {img} {s} {work} d) (inl t) a m = chain.call-passed z F first p (chain.takes-out d (length work)) t a m
+  call-passed F p (takes-out {w} {img} {s} {work} d) (inr t) a m = by (takeAnswer (s .now) (s .kind) (s .absent) img d (length work)) refl m
     where
-      by : (i : Bool) → isIdle (s .kind) ≡ i → Bound z F first q w img (has s work) → Shared (W .few) (cond i (inMask (s .now .out) ∷ []) l)
-      by true e (inl t) = λ a m. ⊎-elim (λ x. ap (W .few) x ∙ wide (inMask (s .now .out)) (rests-in F q w img s e t .1)) (λ n. absurd (List·Memᴰ·not-nil n)) (List·Memᴰ·cases-cons m)
+      by : (o : Outcome) → takeAnswer (s .now) (s .kind) (s .absent) img d (length work) ≡ o → List·Memᴰ a (outs (begun o s (tookOut s d))) → fewOf z a ≡ true
+      by Done e m = absurd (not-rest z F first p w img s work t (take-done (s .now) (s .kind) (s .absent) img d (length work) e .1 .at-rest))
+      by (Refused why) e m = absurd (List·Memᴰ·not-nil m)
+  call-passed F p (begins d) t a m = absurd (List·Memᴰ·not-nil m)
+  call-passed F p (ons b below) t a m = absurd (List·Memᴰ·not-nil m)
+  call-passed F p (writes b given s' then x y e) t a m = absurd (List·Memᴰ·not-nil m)
+  call-passed F p (repairs t' b then r) t a m = absurd (List·Memᴰ·not-nil m)
+  call-passed F p (steps heard) t a m = absurd (List·Memᴰ·not-nil m)
+  call-passed F p (cut left d x) t a m = absurd (List·Memᴰ·not-nil m)
+  call-passed F p dies t a m = absurd (List·Memᴰ·not-nil m)
+
+  -- at rest the label's set is in the family for which all is kept
+  settled-in : (F : Family z) (b : Time) (l : List (ℕ → Bool)) (q : View Sector) → BoundAt z F first q b → Shared (F .sets .few) l → Shared (F .sets .few) (settles b l)
+  settled-in F (at w img none) l q t h = h
+  settled-in F (at w img (has s work)) l q t h = by (isIdle (s .kind)) refl t
+    where
+      by : (i : Bool) → isIdle (s .kind) ≡ i → Bound z F first q w img (has s work) → Shared (F .sets .few) (cond i (inMask (s .now .out) ∷ []) l)
+      by true e (inl t) = λ a m. ⊎-elim (λ x. ap (F .sets .few) x ∙ rests-in F q w img s e t .1) (λ n. absurd (List·Memᴰ·not-nil n)) (List·Memᴰ·cases-cons m)
       by true e (inr t) = absurd (not-rest z F first q w img s work t e)
       by false e t = h
 
-  -- along a chain whose sets are all in F, or in a wider family where they are of more than m slots
-  module _ (F : Family z) (W : Quorum (slots z)) (wide : (s : ℕ → Bool) → F .sets .few s ≡ true → W .few s ≡ true) (p : View Sector) where
-    since-in : {a b : Time} (c : HostChain z a b) → Allowed z F (sets c) → Shared (W .few) (sets c) → BoundAt z F first p a → Shared (W .few) (since c)
-    since-in {b = b} stays ok h t = settled-in F W wide b [] p t (λ s m. absurd (List·Memᴰ·not-nil m))
-    since-in {b = b} (goes-on c x) ok h t =
+  module _ (F : Family z) (p : View Sector) where
+    -- with the sets of the next call
+    with-call : {a b d : Time} (c : HostChain z a b) (x : HostCalls z b d) → Allowed z F (sets (goes-on c x)) → BoundAt z F first p a → Shared (F .sets .few) (since c) → Shared (F .sets .few) (sets-call x ++ since c)
+    with-call c x ok t h s m =
+        let y = chain-bound z F first c (λ s m. ok s (Memᴰ·append-right (sets-call x) m)) p t in
+        ⊎-elim (λ n. ok s (Memᴰ·append-left (sets c) n) (call-passed F (y .0) x (y .2) s n)) (λ n. h s n) (List·Memᴰ·append-cases (sets-call x) m)
+
+    since-in : {a b : Time} (c : HostChain z a b) → Allowed z F (sets c) → BoundAt z F first p a → Shared (F .sets .few) (since c)
+    since-in {b = b} stays ok t = settled-in F b [] p t (λ s m. absurd (List·Memᴰ·not-nil m))
+    since-in {b = b} (goes-on c x) ok t =
         let y = chain-bound z F first (goes-on c x) ok p t in
-        let r = since-in c (λ s m. ok s (Memᴰ·append-right (sets-call x) m)) (λ s m. h s (Memᴰ·append-right (sets-call x) m)) t in
-        settled-in F W wide b (sets-call x ++ since c) (y .0) (y .2) (λ s m. ⊎-elim (λ n. h s (Memᴰ·append-left (sets c) n)) (λ n. r s n) (List·Memᴰ·append-cases (sets-call x) m))
+        settled-in F b (sets-call x ++ since c) (y .0) (y .2) (with-call c x ok t (since-in c (λ s m. ok s (Memᴰ·append-right (sets-call x) m)) t))
 
-    two-since : {a b : Time} (c : HostChain z a b) → Allowed z F (sets c) → Shared (W .few) (sets c) → BoundAt z F first p a → AnyTwoSince c
-    two-since stays ok h t = tt
-    two-since (goes-on c x) ok h t =
-        let ok' : Allowed z F (sets c) = λ s m. ok s (Memᴰ·append-right (sets-call x) m) in
-        let h' : Shared (W .few) (sets c) = λ s m. h s (Memᴰ·append-right (sets-call x) m) in
-        let all : Shared (W .few) (sets-call x ++ since c) = λ s m. ⊎-elim (λ n. h s (Memᴰ·append-left (sets c) n)) (λ n. since-in c ok' h' t s n) (List·Memᴰ·append-cases (sets-call x) m) in
-        (two-since c ok' h' t, λ a b i j. W .meet a b (all a i) (all b j))
-
-  pub pairs-since : {a b : Time} (c : HostChain z a b) → (p : View Sector) → ((F : Family z) → BoundAt z F first p a) → AnyTwo (slots z) (sets c) → AnyTwoSince c
-  pairs-since c p t two =
-      let l = sets c in
-      let W = parts-of (slots z) ((λ d. false) ∷ l) (with-none (slots z) (some-slots z) l two) in
-      two-since (parts-few z l two) W (λ s e. both (fewOf z s) (W .few s) e .1) p c (in-parts z l two) (λ s m. some-is (slots z) s s ((λ d. false) ∷ l) (List·Memᴰ·tail m) (λ d i e. e)) (t (parts-few z l two))
+    -- WHERE ALL SETS OF A CHAIN THAT ARE OF AT MOST m SLOTS ARE IN ONE FAMILY, any two of those since the last rest leave a slot out
+    pub family-since : {a b : Time} (c : HostChain z a b) → Allowed z F (sets c) → BoundAt z F first p a → AnyTwoSince c
+    family-since stays ok t = tt
+    family-since (goes-on c x) ok t =
+        let before : Allowed z F (sets c) = λ s m. ok s (Memᴰ·append-right (sets-call x) m) in
+        let all = with-call c x ok t (since-in c before t) in
+        (family-since c before t, λ a b i j. F .sets .meet a b (all a i) (all b j))
