@@ -524,19 +524,19 @@ module _ (z : Shelf) (F : Family z) (first : Machine Sector) where
   chain-kept (goes-on c x) ok t = call-kept x (λ s m. ok s (Memᴰ·append-left (sets c) m)) (chain-kept c (λ s m. ok s (Memᴰ·append-right (sets-call x) m)) t)
 
   -- THE SETS THAT A CHAIN LEAVES OUT are of at most m slots each
-  start-passed : (v : View Sector) (w : World Sector) (img : List ℕ) (h : Hand) (s : State) (absent room : ℕ) → Tie z F first v w img h → (a : ℕ → Bool) → List·Memᴰ a (outs (startOf s (geometry z) absent img room)) → fewOf z a ≡ true
-  start-passed v w img h s absent room t a = by (surveyOf (geometry z) img absent) refl
+  start-passed : (w : World Sector) (img : List ℕ) (h : Hand) (s : State) (absent room : ℕ) → Tie z F first (sure blocks) w img h → (a : ℕ → Bool) → List·Memᴰ a (outs (startOf s (geometry z) absent img room)) → fewOf z a ≡ true
+  start-passed w img h s absent room t a = by (surveyOf (geometry z) img absent) refl
     where
       by : (x : Survey) → surveyOf (geometry z) img absent ≡ x → List·Memᴰ a (outs (bySurvey x s (geometry z) absent img room)) → fewOf z a ≡ true
       by (survey.Refused why) e m = absurd (List·Memᴰ·not-nil m)
       by (survey.Plan p) e m = fits (eqb room (workBytes (slots z) (z .c))) m
         where
           fits : (b : Bool) → List·Memᴰ a (outs (cond b (record { state = started (geometry z) absent p img; outcome = Done }) (record { state = s; outcome = Refused BadBuffer }))) → fewOf z a ≡ true
-          fits true m = ⊎-elim (λ q. ap (fewOf z) q ∙ start-few z img absent p e (led-by z F first v w img h absent t p e)) (λ n. absurd (List·Memᴰ·not-nil n)) (List·Memᴰ·cases-cons m)
+          fits true m = ⊎-elim (λ q. ap (fewOf z) q ∙ start-few z img absent p e (led-by z F first (sure blocks) w img h absent t p e)) (λ n. absurd (List·Memᴰ·not-nil n)) (List·Memᴰ·cases-cons m)
           fits false m = absurd (List·Memᴰ·not-nil m)
 
-  out-passed : (v : View Sector) (w : World Sector) (img : List ℕ) (s : State) (d room : ℕ) → Tie z F first v w img (has s) → (a : ℕ → Bool) → List·Memᴰ a (outs (takeOutOf s d img room)) → fewOf z a ≡ true
-  out-passed v w img s d room t a = by (takeAnswer (s .now) (s .kind) (s .absent) img d room) refl
+  out-passed : (w : World Sector) (img : List ℕ) (s : State) (d room : ℕ) → Tie z F first (sure blocks) w img (has s) → (a : ℕ → Bool) → List·Memᴰ a (outs (takeOutOf s d img room)) → fewOf z a ≡ true
+  out-passed w img s d room t a = by (takeAnswer (s .now) (s .kind) (s .absent) img d room) refl
     where
       own : ours z (s .now) ≡ true
       own = ⊎-elim (λ (f : Fair z s [] img × (plain (s .kind) ≡ true)). f .0 .ours-now) (λ (q : (s .kind ≡ Idle) × (ours z (s .now) ≡ true)). q .1) (t .order .1)
@@ -545,23 +545,23 @@ module _ (z : Shelf) (F : Family z) (first : Machine Sector) where
       by Done e m = ⊎-elim (λ q. ap (fewOf z) q ∙ out-few z img (t .disks) s own d room e) (λ n. absurd (List·Memᴰ·not-nil n)) (List·Memᴰ·cases-cons m)
       by (Refused why) e m = absurd (List·Memᴰ·not-nil m)
 
-  pub call-passed : (v : View Sector) {a b : Moment} (x : Calls z a b) → On z F first v a → (s : ℕ → Bool) → List·Memᴰ s (sets-call x) → fewOf z s ≡ true
-  call-passed v (creates s room) t a m = absurd (List·Memᴰ·not-nil m)
-  call-passed v (creates-late s k m c S number room e) t a n = absurd (List·Memᴰ·not-nil n)
-  call-passed v (starts {w} {img} {h} s g absent room sits) t a m =
-      ⊎-elim (λ (e : g ≡ geometry z). subst (λ (x : Geometry). List·Memᴰ a (outs (startOf s x absent img room)) → fewOf z a ≡ true) (sym e) (start-passed v w img h s absent room t a))
-      (λ (other : g ≡ geometry z → ⊥). subst (λ (x : Survey). List·Memᴰ a (outs (bySurvey x s g absent img room)) → fewOf z a ≡ true) (sym (start-other z img (t .disks) (ours-in z F first v w img h t) g absent other sits)) (λ n. absurd (List·Memᴰ·not-nil n))) (same-numbers z g) m
-  call-passed v (takes-out {w} {img} {s} d room) t a m = out-passed v w img s d room t a m
-  call-passed v (steps work heard) t a m = absurd (List·Memᴰ·not-nil m)
-  call-passed v (cut left d p) t a m = absurd (List·Memᴰ·not-nil m)
-  call-passed v dies t a m = absurd (List·Memᴰ·not-nil m)
+  pub call-passed : {a b : Moment} (x : Calls z a b) → On z F first (sure blocks) a → (s : ℕ → Bool) → List·Memᴰ s (sets-call x) → fewOf z s ≡ true
+  call-passed (creates s room) t a m = absurd (List·Memᴰ·not-nil m)
+  call-passed (creates-late s k m c S number room e) t a n = absurd (List·Memᴰ·not-nil n)
+  call-passed (starts {w} {img} {h} s g absent room sits) t a m =
+      ⊎-elim (λ (e : g ≡ geometry z). subst (λ (x : Geometry). List·Memᴰ a (outs (startOf s x absent img room)) → fewOf z a ≡ true) (sym e) (start-passed w img h s absent room t a))
+      (λ (other : g ≡ geometry z → ⊥). subst (λ (x : Survey). List·Memᴰ a (outs (bySurvey x s g absent img room)) → fewOf z a ≡ true) (sym (start-other z img (t .disks) (ours-in z F first (sure blocks) w img h t) g absent other sits)) (λ n. absurd (List·Memᴰ·not-nil n))) (same-numbers z g) m
+  call-passed (takes-out {w} {img} {s} d room) t a m = out-passed w img s d room t a m
+  call-passed (steps work heard) t a m = absurd (List·Memᴰ·not-nil m)
+  call-passed (cut left d p) t a m = absurd (List·Memᴰ·not-nil m)
+  call-passed dies t a m = absurd (List·Memᴰ·not-nil m)
 
   pub chain-passed : {a b : Moment} (c : Chain z a b) → Allowed z F (sets c) → On z F first (sure blocks) a → (s : ℕ → Bool) → List·Memᴰ s (sets c) → fewOf z s ≡ true
   chain-passed stays ok t s m = absurd (List·Memᴰ·not-nil m)
   chain-passed (goes-on c x) ok t s m =
       let before : Allowed z F (sets c) = λ a n. ok a (Memᴰ·append-right (sets-call x) n) in
       let there = chain-kept c before t in
-      ⊎-elim (λ n. call-passed (sure blocks) x there s n) (λ n. chain-passed c before t s n) (List·Memᴰ·append-cases (sets-call x) m)
+      ⊎-elim (λ n. call-passed x there s n) (λ n. chain-passed c before t s n) (List·Memᴰ·append-cases (sets-call x) m)
 
   -- and each step can be followed: its answer names a sector of the shelf
   pub heard-by : (w : World Sector) (img : List ℕ) (r : Reply Sector) (a : Answer) → Same z a r → effect w r .cur ≡ curOf z img → (w' : World Sector) × Heard z w a img w'

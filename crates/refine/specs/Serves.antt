@@ -27,13 +27,14 @@ use Rattle.shelf.specs.declared.state.Kind.the-variants.{Idle}
 use Rattle.requests.specs.declared.begun.Begun.{Begun}
 use Rattle.blocks.specs.Read.{readAnswer, afterRead}
 use Rattle.scrubs.specs.Repair.{Repairs}
-use Rattle.refine.specs.Family.{Family, every-few, parts-few, in-parts}
+use Rattle.refine.specs.Family.{Family, every-few, parts-few}
 use Rattle.refine.specs.Disks.{Disks, curOf}
 use Rattle.refine.specs.Sees.{sectorsOf, sectors-strip}
 use Rattle.refine.specs.Chain.{Allowed, blocks, fresh, fresh-tie}
-use Rattle.refine.specs.Hosts.{none, has, Time, at, HostChain, stays, goes-on, sets, Saw, BoundAt, repair-refused-there, repair-changes-nothing, call-bound}
+use Rattle.refine.specs.Hosts.{none, has, Time, at, HostChain, stays, goes-on, sets, Saw, Bound, BoundAt, repair-refused-there, repair-changes-nothing, call-bound}
 use Rattle.refine.specs.HostHolds.{bound-rests}
-use Rattle.refine.specs.Since.{AnyTwoSince, Suits, one-suits, some-family, family-since}
+use Rattle.refine.specs.Since.{AnyTwoSince, Suits, one-suits, some-family}
+use Rattle.refine.specs.Since as Since
 use Rattle.refine.specs.Reads.{read-right}
 
 -- at this moment every read that answers Done shows the entry of the view p
@@ -76,7 +77,7 @@ module _ (z : Shelf) (img : List ℕ) (disks : Disks z img) (blank : allZero img
       let r = bound-rests z F (fresh z img disks blank) (y .0) w left s work e (y .2) in
       (r .0, subst (λ (p : View Sector). Served c (sure blocks) p) (r .1) (y .1))
 
-  -- FOR EVERY SHELF
+  -- FOR EVERY SHELF: the view and the tie, for a family of the sets since the last rest
   pub bound-since : {b : Time} (c : HostChain z (at (after (curOf z img)) img none) b) → AnyTwoSince c → (F : Family z) × (p : View Sector) × Served c (sure blocks) p × BoundAt z F (fresh z img disks blank) p b
   bound-since c two =
       let f = some-family z (fresh z img disks blank) c two in
@@ -86,29 +87,30 @@ module _ (z : Shelf) (img : List ℕ) (disks : Disks z img) (blank : allZero img
   pub any-reads-right : {b : Time} (c : HostChain z (at (after (curOf z img)) img none) b) → AnyTwoSince c → (p : View Sector) × Served c (sure blocks) p
   any-reads-right c two = let y = bound-since c two in (y .1, y .2)
 
-  -- it is less than to ask it of all sets of the chain; so it is where one slot takes part in all of them (one-takes-part)
+  -- it is less than to ask it of all sets of the chain: so it is, for one, where one slot takes part in all of them (one-takes-part)
   pub pairs-since : {b : Time} (c : HostChain z (at (after (curOf z img)) img none) b) → AnyTwo (slots z) (sets c) → AnyTwoSince c
-  pairs-since c two = family-since z (fresh z img disks blank) (parts-few z (sets c) two) (sure blocks) c (in-parts z (sets c) two) (fresh-tie z img disks blank (parts-few z (sets c) two))
+  pairs-since c two = Since.pairs-since z (fresh z img disks blank) (sets c) two c (λ s m. m) (sure blocks) (fresh-tie z img disks blank (parts-few z (sets c) two))
 
-  -- FOR k > m nothing is asked
-  pub nothing-asked : z .m < z .k → {b : Time} (c : HostChain z (at (after (curOf z img)) img none) b) → AnyTwoSince c
-  nothing-asked more c = family-since z (fresh z img disks blank) (every-few z more) (sure blocks) c (λ s m e. e) (fresh-tie z img disks blank (every-few z more))
-
+  -- FOR k > m
   pub reads-right : z .m < z .k → {b : Time} (c : HostChain z (at (after (curOf z img)) img none) b) → (p : View Sector) × Served c (sure blocks) p
-  reads-right more c = any-reads-right c (nothing-asked more c)
+  reads-right more c = let y = served-bound (every-few z more) c (λ s m e. e) in (y .0, y .1)
 
   -- A REPAIR IS REFUSED at every moment, since it finds nothing to mend, and changes nothing
+  repair-bound : (F : Family z) (p : View Sector) (w : World Sector) (left : List ℕ) (s : State) (work : List ℕ) → Bound z F (fresh z img disks blank) p w left (has s work)
+      → (t : ℕ) (b : Begun) (then : List ℕ) → Repairs s t left work b then → ((why : Refusal) × (b .outcome ≡ Refused why)) × (b .state ≡ s) × (then ≡ work)
+  repair-bound F p w left s work h t b then r =
+      let same = repair-changes-nothing z F (fresh z img disks blank) p w left s work t b then r h in
+      (repair-refused-there z F (fresh z img disks blank) p w left s work t b then r h, same .0, same .1)
+
+  -- for every shelf
   pub any-repair-refused : {w : World Sector} {left : List ℕ} {s : State} {work : List ℕ} (c : HostChain z (at (after (curOf z img)) img none) (at w left (has s work))) → AnyTwoSince c
       → (t : ℕ) (b : Begun) (then : List ℕ) → Repairs s t left work b then → ((why : Refusal) × (b .outcome ≡ Refused why)) × (b .state ≡ s) × (then ≡ work)
-  any-repair-refused {w} {left} {s} {work} c two t b then r =
-      let y = bound-since c two in
-      let same = repair-changes-nothing z (y .0) (fresh z img disks blank) (y .1) w left s work t b then r (y .3) in
-      (repair-refused-there z (y .0) (fresh z img disks blank) (y .1) w left s work t b then r (y .3), same .0, same .1)
+  any-repair-refused {w} {left} {s} {work} c two = let y = bound-since c two in repair-bound (y .0) (y .1) w left s work (y .3)
 
   -- for k > m
   pub repairs-refused : z .m < z .k → {w : World Sector} {left : List ℕ} {s : State} {work : List ℕ} (c : HostChain z (at (after (curOf z img)) img none) (at w left (has s work)))
       → (t : ℕ) (b : Begun) (then : List ℕ) → Repairs s t left work b then → ((why : Refusal) × (b .outcome ≡ Refused why)) × (b .state ≡ s) × (then ≡ work)
-  repairs-refused more c = any-repair-refused c (nothing-asked more c)
+  repairs-refused more {w} {left} {s} {work} c = let y = served-bound (every-few z more) c (λ s m e. e) in repair-bound (every-few z more) (y .0) w left s work (y .2)
 
 -- ---- THE ENTRIES
 

@@ -4,30 +4,26 @@
 use mathlib.Core.Path.{_≡_, refl, sym, ap, subst, _∙_}
 use mathlib.Core.Bool.{Bool, true, false, cond}
 use mathlib.Core.Logic.{⊎-elim, inl, inr}
-use mathlib.Core.List.{List, [], _∷_, _++_, List·Memᴰ, List·Memᴰ·head, List·Memᴰ·not-nil, List·Memᴰ·cases-cons, List·Memᴰ·append-cases, Memᴰ·append-left, Memᴰ·append-right}
+use mathlib.Core.List.{List, [], _∷_, _++_, List·Memᴰ, List·Memᴰ·head, List·Memᴰ·tail, List·Memᴰ·not-nil, List·Memᴰ·cases-cons, List·Memᴰ·append-cases, Memᴰ·append-left, Memᴰ·append-right}
 use Prim.Native.Nat.{ℕ}
-use lib.ListN.{length}
 use Rattle.disk.specs.Mask.{inMask}
-use Rattle.disk.specs.declared.refusal.Outcome.{Outcome}
-use Rattle.disk.specs.declared.refusal.Outcome.the-variants.{Done, Refused}
 use Rattle.protocol.specs.World.{World}
+use Rattle.protocol.specs.Write.{both}
+use Rattle.protocol.specs.Label.{Quorum}
 use Rattle.protocol.specs.Program.{idle}
 use Rattle.protocol.specs.Machine.{Machine, View}
 use Rattle.protocol.specs.Even.{Shared}
-use Rattle.protocol.specs.Pairs.{AnyTwo}
+use Rattle.protocol.specs.Pairs.{AnyTwo, parts-of, with-none, some-is}
 use Rattle.codecs.specs.Sector.{Sector}
-use Rattle.codecs.specs.Shelf.{Shelf, slots}
+use Rattle.codecs.specs.Shelf.{Shelf, slots, some-slots}
 use Rattle.shards.specs.Quorum.{fewOf}
 use Rattle.shelf.specs.declared.state.State.{State}
-use Rattle.requests.specs.Begun.{begun}
-use Rattle.requests.specs.TakeOut.{takeAnswer, tookOut}
-use Rattle.requests.specs.Accepted.{take-done}
 use Rattle.requests.specs.Ready.{isIdle}
 use Rattle.refine.specs.Family.{Family, parts-few, in-parts, keeps-for, keeps-few}
 use Rattle.refine.specs.Tied.{ownOf}
-use Rattle.refine.specs.Chain.{outs, Allowed, rests, Reached, Tie, idle-is}
+use Rattle.refine.specs.Chain.{Allowed, rests, Reached, Tie, idle-is}
 use Rattle.refine.specs.Chain as chain
-use Rattle.refine.specs.Hosts.{none, has, Time, at, HostCalls, creates, starts, creates-late, takes-out, begins, ons, writes, repairs, steps, cut, dies, HostChain, stays, goes-on, sets-call, sets, Bound, BoundAt, loose, not-rest, chain-bound}
+use Rattle.refine.specs.Hosts.{none, has, Time, at, HostChain, stays, goes-on, sets-call, sets, Bound, BoundAt, not-rest, chain-bound}
 
 -- ---- WHAT IS ASKED
 
@@ -110,54 +106,33 @@ module _ (z : Shelf) (first : Machine Sector) where
       let F = parts-few z l (two .1) in
       (F, (F, (λ s m. in-parts z l (two .1) s (Memᴰ·append-left (since c) m)), since-suits c (two .0) F (λ s m. in-parts z l (two .1) s (Memᴰ·append-right (sets-call x) m)), λ q h. h))
 
-  -- ---- where it is so
+  -- ---- IT IS LESS THAN TO ASK IT OF ALL SETS OF THE CHAIN: at rest the label calls out a part of one of them, or nothing
 
-  -- each set that is left out is of at most m slots
-  call-passed : (F : Family z) (p : View Sector) {a b : Time} (x : HostCalls z a b) → BoundAt z F first p a → Shared (fewOf z) (sets-call x)
-  call-passed F p (creates s work) t a m = absurd (List·Memᴰ·not-nil m)
-  call-passed F p (creates-late s k m' c S number work e) t a m = absurd (List·Memᴰ·not-nil m)
-  call-passed F p (starts {w} {img} {h} s g absent work sits) t a m = chain.call-passed z F first p (chain.starts {h = chain.none} s g absent (length work) sits) (loose z F first p w img h t) a m
-  call-passed F p (takes-out {w} {img} {s} {work} d) (inl t) a m = chain.call-passed z F first p (chain.takes-out d (length work)) t a m
-  call-passed F p (takes-out {w} {img} {s} {work} d) (inr t) a m = by (takeAnswer (s .now) (s .kind) (s .absent) img d (length work)) refl m
-    where
-      by : (o : Outcome) → takeAnswer (s .now) (s .kind) (s .absent) img d (length work) ≡ o → List·Memᴰ a (outs (begun o s (tookOut s d))) → fewOf z a ≡ true
-      by Done e m = absurd (not-rest z F first p w img s work t (take-done (s .now) (s .kind) (s .absent) img d (length work) e .1 .at-rest))
-      by (Refused why) e m = absurd (List·Memᴰ·not-nil m)
-  call-passed F p (begins d) t a m = absurd (List·Memᴰ·not-nil m)
-  call-passed F p (ons b below) t a m = absurd (List·Memᴰ·not-nil m)
-  call-passed F p (writes b given s' then x y e) t a m = absurd (List·Memᴰ·not-nil m)
-  call-passed F p (repairs t' b then r) t a m = absurd (List·Memᴰ·not-nil m)
-  call-passed F p (steps heard) t a m = absurd (List·Memᴰ·not-nil m)
-  call-passed F p (cut left d x) t a m = absurd (List·Memᴰ·not-nil m)
-  call-passed F p dies t a m = absurd (List·Memᴰ·not-nil m)
+  module _ (l : List (ℕ → Bool)) (two : AnyTwo (slots z) l) where
+    abbrev parts : Quorum (slots z)
+    parts = parts-of (slots z) ((λ d. false) ∷ l) (with-none (slots z) (some-slots z) l two)
 
-  -- at rest the label's set is in the family for which all is kept
-  settled-in : (F : Family z) (b : Time) (l : List (ℕ → Bool)) (q : View Sector) → BoundAt z F first q b → Shared (F .sets .few) l → Shared (F .sets .few) (settles b l)
-  settled-in F (at w img none) l q t h = h
-  settled-in F (at w img (has s work)) l q t h = by (isIdle (s .kind)) refl t
-    where
-      by : (i : Bool) → isIdle (s .kind) ≡ i → Bound z F first q w img (has s work) → Shared (F .sets .few) (cond i (inMask (s .now .out) ∷ []) l)
-      by true e (inl t) = λ a m. ⊎-elim (λ x. ap (F .sets .few) x ∙ rests-in F q w img s e t .1) (λ n. absurd (List·Memᴰ·not-nil n)) (List·Memᴰ·cases-cons m)
-      by true e (inr t) = absurd (not-rest z F first q w img s work t e)
-      by false e t = h
+    settled-in : (b : Time) (r : List (ℕ → Bool)) (q : View Sector) → BoundAt z (parts-few z l two) first q b → Shared (parts .few) r → Shared (parts .few) (settles b r)
+    settled-in (at w img none) r q t h = h
+    settled-in (at w img (has s work)) r q t h = by (isIdle (s .kind)) refl t
+      where
+        by : (i : Bool) → isIdle (s .kind) ≡ i → Bound z (parts-few z l two) first q w img (has s work) → Shared (parts .few) (cond i (inMask (s .now .out) ∷ []) r)
+        by true e (inl t) = λ a m. ⊎-elim (λ x. ap (parts .few) x ∙ both (fewOf z (inMask (s .now .out))) (parts .few (inMask (s .now .out))) (rests-in (parts-few z l two) q w img s e t .1) .1) (λ n. absurd (List·Memᴰ·not-nil n)) (List·Memᴰ·cases-cons m)
+        by true e (inr t) = absurd (not-rest z (parts-few z l two) first q w img s work t e)
+        by false e t = h
 
-  module _ (F : Family z) (p : View Sector) where
-    -- with the sets of the next call
-    with-call : {a b d : Time} (c : HostChain z a b) (x : HostCalls z b d) → Allowed z F (sets (goes-on c x)) → BoundAt z F first p a → Shared (F .sets .few) (since c) → Shared (F .sets .few) (sets-call x ++ since c)
-    with-call c x ok t h s m =
-        let y = chain-bound z F first c (λ s m. ok s (Memᴰ·append-right (sets-call x) m)) p t in
-        ⊎-elim (λ n. ok s (Memᴰ·append-left (sets c) n) (call-passed F (y .0) x (y .2) s n)) (λ n. h s n) (List·Memᴰ·append-cases (sets-call x) m)
+    with-call : (k r r' : List (ℕ → Bool)) → ((s : ℕ → Bool) → List·Memᴰ s (k ++ r) → List·Memᴰ s l) → Shared (parts .few) r' → Shared (parts .few) (k ++ r')
+    with-call k r r' of h s m = ⊎-elim (λ n. some-is (slots z) s s ((λ d. false) ∷ l) (List·Memᴰ·tail (of s (Memᴰ·append-left r n))) (λ d i e. e)) (λ n. h s n) (List·Memᴰ·append-cases k m)
 
-    since-in : {a b : Time} (c : HostChain z a b) → Allowed z F (sets c) → BoundAt z F first p a → Shared (F .sets .few) (since c)
-    since-in {b = b} stays ok t = settled-in F b [] p t (λ s m. absurd (List·Memᴰ·not-nil m))
-    since-in {b = b} (goes-on c x) ok t =
-        let y = chain-bound z F first (goes-on c x) ok p t in
-        settled-in F b (sets-call x ++ since c) (y .0) (y .2) (with-call c x ok t (since-in c (λ s m. ok s (Memᴰ·append-right (sets-call x) m)) t))
+    since-in : {a b : Time} (c : HostChain z a b) → ((s : ℕ → Bool) → List·Memᴰ s (sets c) → List·Memᴰ s l) → (p : View Sector) → BoundAt z (parts-few z l two) first p a → Shared (parts .few) (since c)
+    since-in {b = b} stays of p t = settled-in b [] p t (λ s m. absurd (List·Memᴰ·not-nil m))
+    since-in {b = b} (goes-on c x) of p t =
+        let y = chain-bound z (parts-few z l two) first (goes-on c x) (λ s m. in-parts z l two s (of s m)) p t in
+        settled-in b (sets-call x ++ since c) (y .0) (y .2) (with-call (sets-call x) (sets c) (since c) of (since-in c (λ s m. of s (Memᴰ·append-right (sets-call x) m)) p t))
 
-    -- WHERE ALL SETS OF A CHAIN THAT ARE OF AT MOST m SLOTS ARE IN ONE FAMILY, any two of those since the last rest leave a slot out
-    pub family-since : {a b : Time} (c : HostChain z a b) → Allowed z F (sets c) → BoundAt z F first p a → AnyTwoSince c
-    family-since stays ok t = tt
-    family-since (goes-on c x) ok t =
-        let before : Allowed z F (sets c) = λ s m. ok s (Memᴰ·append-right (sets-call x) m) in
-        let all = with-call c x ok t (since-in c before t) in
-        (family-since c before t, λ a b i j. F .sets .meet a b (all a i) (all b j))
+    pub pairs-since : {a b : Time} (c : HostChain z a b) → ((s : ℕ → Bool) → List·Memᴰ s (sets c) → List·Memᴰ s l) → (p : View Sector) → BoundAt z (parts-few z l two) first p a → AnyTwoSince c
+    pairs-since stays of p t = tt
+    pairs-since (goes-on c x) of p t =
+        let of' : (s : ℕ → Bool) → List·Memᴰ s (sets c) → List·Memᴰ s l = λ s m. of s (Memᴰ·append-right (sets-call x) m) in
+        let all = with-call (sets-call x) (sets c) (since c) of (since-in c of' p t) in
+        (pairs-since c of' p t, λ a b i j. parts .meet a b (all a i) (all b j))
