@@ -40,6 +40,7 @@ pub mod Sees
 pub mod WriteAsked
 pub mod Mends
 pub mod Hosts
+pub mod Since
 pub mod Reads
 pub mod HostHolds
 pub mod HostTrue

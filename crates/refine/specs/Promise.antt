@@ -1,6 +1,6 @@
 -- WHAT EVERY CHAIN OF CALLS KEEPS, in the words of the bytes, from an image of zeros on, whatever is called: create, start, take out, begin, rebuild on, write, repair and step, with power cuts and deaths of
 -- the caller in between. No label on any disk lies, names another shelf or loses its shape; the state's own label is true, whatever a cut leaves; no step touches an absent slot; what was accepted is
--- carried out. For every shelf, where any two of the sets of slots that the labels call out which accepted start-ups and take-outs settle leave a slot out in common; for k > m nothing is asked
+-- carried out. For every shelf, where any two of the sets of slots that accepted start-ups and take-outs leave out from one moment of rest to the next leave a slot out in common (Since); for k > m nothing is asked
 -- (`nothing-asked`). (Where they leave none, no start-up can tell what was written: the protocol's Limits.) What reads show meanwhile is in Serves. Assumes nothing.
 use mathlib.Core.Path.{_≡_, refl, sym, ap, subst, _∙_}
 use mathlib.Core.Bool.{Bool, true, false, cond, _&&_}
@@ -48,7 +48,7 @@ use Rattle.requests.specs.Create.{shardsFit, shelfFits, createAnswer, created, 
 use Rattle.requests.specs.Start.{startOf}
 use Rattle.requests.specs.Step.{otherWork, stepWith}
 use Rattle.requests.specs.TakeOut.{plainlyOut, outNow}
-use Rattle.refine.specs.Family.{Family, every-few, parts-few, in-parts}
+use Rattle.refine.specs.Family.{Family, every-few}
 use Rattle.refine.specs.Disks.{Disks, image-fits, curOf}
 use Rattle.refine.specs.Ends.{EndsAfter}
 use Rattle.refine.specs.Other.{Sits, otherCode}
@@ -57,7 +57,8 @@ use Rattle.refine.specs.Holds.{Wanted, StripTrue, NoLies, HeldTrue, Foll
 use Rattle.refine.specs.Hosts.{Held, none, has, Time, at, held, creates, HostChain, stays, goes-on, sets, BoundAt}
 use Rattle.refine.specs.HostHolds.{bound-labels, bound-shaped, bound-followed}
 use Rattle.refine.specs.HostTrue.{fromRest, bound-possible, bound-elsewhere, bound-honest, bound-own, bound-rests-true, bound-absent-out, bound-same-out, bound-labelled, bound-create-again, bound-carried-out, bound-comes-to-rest, chained-on, sets-on, Along, along-in, chain-sized, chain-passed}
-use Rattle.refine.specs.Serves.{Served, served-bound}
+use Rattle.refine.specs.Since.{AnyTwoSince}
+use Rattle.refine.specs.Serves.{Served, bound-since, pairs-since}
 
 -- ---- STEPS
 
@@ -91,20 +92,21 @@ module _ (z : Shelf) (first : List ℕ) (disks : Disks z first) (blank : allZero
   ComesTo = HostChain z (at (after (curOf z first)) first none)
 
   -- FOR k > m NOTHING IS ASKED: any two sets of at most m slots leave a slot out
-  pub nothing-asked : z .m < z .k → {b : Time} (c : ComesTo b) → AnyTwo (slots z) (sets c)
-  nothing-asked more c s t i j =
+  pub nothing-asked : z .m < z .k → {b : Time} (c : ComesTo b) → AnyTwoSince c
+  nothing-asked more c =
       let F = every-few z more in
       let n = along-in z (fresh z first disks blank) F c (λ a m e. e) (sure blocks) (fresh-tie z first disks blank F) in
-      quorum z more .meet s t (chain-passed z (fresh z first disks blank) c n s i) (chain-passed z (fresh z first disks blank) c n t j)
+      pairs-since z first disks blank c (λ s t i j. quorum z more .meet s t (chain-passed z (fresh z first disks blank) c n s i) (chain-passed z (fresh z first disks blank) c n t j))
 
-  module _ {w : World Sector} {img : List ℕ} {h : Held} (chain : ComesTo (at w img h)) (two : AnyTwo (slots z) (sets chain)) where
-    -- the tie with the protocol's machine, here
+  -- the tie holds at every moment before
+  along : {b : Time} (c : ComesTo b) → AnyTwoSince c → Along z (fresh z first disks blank) c
+  along stays two = let y = bound-since z first disks blank stays two in (y .0, y .1, y .3)
+  along (goes-on c x) two = (along c (two .0), let y = bound-since z first disks blank (goes-on c x) two in (y .0, y .1, y .3))
+
+  module _ {w : World Sector} {img : List ℕ} {h : Held} (chain : ComesTo (at w img h)) (two : AnyTwoSince chain) where
+    -- the tie with the protocol's machine
     tie : (F : Family z) × (p : View Sector) × Served chain (sure blocks) p × BoundAt z F (fresh z first disks blank) p (at w img h)
-    tie = let F = parts-few z (sets chain) two in let y = served-bound z first disks blank F chain (in-parts z (sets chain) two) in (F, y .0, y .1, y .2)
-
-    -- and at every moment before
-    ties : Along z (fresh z first disks blank) chain
-    ties = let F = parts-few z (sets chain) two in along-in z (fresh z first disks blank) F chain (in-parts z (sets chain) two) (sure blocks) (fresh-tie z first disks blank F)
+    tie = bound-since z first disks blank chain two
 
     -- THE HOST'S VIEW at this moment: one of those that Serves speaks of
     pub view : View Sector
@@ -143,7 +145,7 @@ module _ (z : Shelf) (first : List ℕ) (disks : Disks z first) (blank : allZero
     pub shaped-labels : (left : List ℕ) → Disks z left → Possible w (curOf z left) → (d : ℕ) → d < slots z → Follows z left d
     shaped-labels = bound-shaped z (tie .0) (fresh z first disks blank) (tie .1) w img h (tie .3)
 
-  module _ {w : World Sector} {img : List ℕ} {s : State} {work : List ℕ} (chain : ComesTo (at w img (has s work))) (two : AnyTwo (slots z) (sets chain)) where
+  module _ {w : World Sector} {img : List ℕ} {s : State} {work : List ℕ} (chain : ComesTo (at w img (has s work))) (two : AnyTwoSince chain) where
     -- THE STATE'S OWN LABEL IS TRUE at rest, and while a request is under way that began at rest, whatever a cut leaves
     pub state-true : fromRest (s .kind) ≡ true → HeldTrue z (view chain two) w (s .now)
     unfolding view
@@ -176,7 +178,7 @@ module _ (z : Shelf) (first : List ℕ) (disks : Disks z first) (blank : allZero
 
     -- THE WORK AREA has the size that the requests ask for
     pub room-kept : length work ≡ workBytes (slots z) (z .c)
-    room-kept = chain-sized z (fresh z first disks blank) chain (ties chain two) tt
+    room-kept = chain-sized z (fresh z first disks blank) chain (along chain two) tt
 
     -- A REQUEST UNDER WAY IS CARRIED OUT by its steps, whichever it is: some actions, and then it is done; none of them is refused
     pub carried-out : (s .kind ≡ Idle → ⊥) → (n : ℕ) × EndsAfter n work s img
@@ -223,5 +225,5 @@ module _ (z : Shelf) where
         let begun : (c : HostChain z (at (after (curOf z newImage)) newImage none) (at (after (curOf z newImage)) newImage (has (created (z .k) (z .m) (z .c) (z .sectors) (z .number)) work))) × (sets c ≡ []) =
         subst (λ (h : Held). (c : HostChain z (at (after (curOf z newImage)) newImage none) (at (after (curOf z newImage)) newImage h)) × (sets c ≡ [])) create-goes (goes-on stays (creates s work), refl) in
         let none-out : AnyTwo (slots z) (sets (begun .0)) = λ a b i j. absurd (List·Memᴰ·not-nil (subst (λ (l : List (ℕ → Bool)). List·Memᴰ a l) (begun .1) i)) in
-        let y = comes-to-rest z newImage (d .0) (d .1) (begun .0) none-out (λ e. let i : _≡_ {A = ℕ} 0 1 = cc in omega arith) in
+        let y = comes-to-rest z newImage (d .0) (d .1) (begun .0) (pairs-since z newImage (d .0) (d .1) (begun .0) none-out) (λ e. let i : _≡_ {A = ℕ} 0 1 = cc in omega arith) in
         (y .0, y .1, y .2, y .3 ∙ begun .1)
