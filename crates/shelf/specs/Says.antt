@@ -29,16 +29,16 @@ use Rattle.label.proofs.Fits.{Fits, fits-says}
 use Rattle.record.specs.Log.{areaOf, logSector, logAnswer, afterLog, restoreAnswer, afterRestore}
 use Rattle.record.specs.Tail.{tailAnswer, afterTail}
 use Rattle.record.specs.declared.tail.Tail.{Tail}
-use Rattle.shelf.specs.Limits.{mostStages}
+use Rattle.stages.specs.Limits.{mostStages}
 use Rattle.shelf.specs.Kept.{shardAt, keptOf, partOf, recordSector, loggedAnswer, afterLogged}
 use Rattle.strips.specs.Seen.{shardShown}
 use Rattle.strips.specs.Answers.{shownAnswer, afterShown}
 use Rattle.shelf.specs.Fill.{seenSlots, stripeIn, shownFrom, rebuildAnswer, rebuiltSector, afterRebuild}
-use Rattle.shelf.specs.Stage.{slotsOf, stageOf}
+use Rattle.stages.specs.Stage.{slotsOf, stageOf}
 use Rattle.shelf.specs.Act.{refuses, putMove, named, giveMove, byStrip, byRestored, restoreMove, tailOf, byLogged, logMove, byStored, storeMove, inStrips, byRebuilt, fillMove, actMove}
 use Rattle.shelf.specs.Step.{seek, isEnd, finished, onStage, nextSlot, walk, keeps, underWay, sound, stepMove}
-use Rattle.shelf.specs.declared.state.State.{State}
-use Rattle.shelf.specs.declared.stage.Stage.{Stage}
+use Rattle.stages.specs.declared.state.State.{State}
+use Rattle.stages.specs.declared.stage.Stage.{Stage}
 
 -- ---- a test of two
 

@@ -1,12 +1,12 @@
 // The stages of each request, one after the other: a stage goes over its slots in order.
-use crate::state::Kind;
-use crate::state::Marks;
-use crate::state::State;
+use stages::state::Kind;
+use stages::state::Marks;
+use stages::state::State;
 use label::fields::Label;
 ghost use mathlib.Core.Path.{_≡_};
 ghost use Prim.Native.Nat.{_≤_};
 ghost use Rattle.label.specs.Fields.{mostGeneration};
-ghost use Rattle.shelf.specs.Stage.{again, roundStage, slotsOf, lateStage, startStage, createStage, writeStage, lastStage, beginStage, fillStage, stageOf};
+ghost use Rattle.stages.specs.Stage.{again, roundStage, slotsOf, lateStage, startStage, createStage, writeStage, lastStage, beginStage, fillStage, stageOf};
 
 // What is done to each of its slots: a flush; the label, or zeros over its sector; zeros over the record's tail; the strip
 // from the record; the record of the shard that is kept in the work area, and that shard itself; zeros over the whole record;

@@ -2,7 +2,7 @@
 use disk::refusal::Refusal;
 use label::fields::Label;
 ghost use mathlib.Core.Path.{_≡_};
-ghost use Rattle.shelf.specs.State.{moved, rested};
+ghost use Rattle.stages.specs.State.{moved, rested};
 
 // What is under way. Nothing: no shelf is started. Labelling: one label change. Writing: the log, then the strips. Beginning: a
 // disk is readied for its rebuild. Filling: strips of it are rebuilt.

@@ -4,7 +4,7 @@ use native.Mathlib.Omega.{arith}
 use lib.ListN.{length, length-set, getD}
 use borrow.Author.Needs.{needs}
 use borrow.Author.Tests.{eq-eqb, ne-eqb}
-use Rattle.shelf.specs.Stage.{beginStage}
+use Rattle.stages.specs.Stage.{beginStage}
 use Rattle.shelf.proofs.stage.begin_stage.Statement.{statement}
 use Rattle.shelf.proofs.stage.begin_stage.Tie as tie
 use Rattle.shelf.proofs.stage.begin_stage.Reads as reads

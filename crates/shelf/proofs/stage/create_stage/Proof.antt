@@ -1,7 +1,7 @@
 -- One test.
 use borrow.Author.Needs.{needs}
 use borrow.Author.Tests.{eq-eqb, ne-eqb}
-use Rattle.shelf.specs.Stage.{createStage}
+use Rattle.stages.specs.Stage.{createStage}
 use Rattle.shelf.proofs.stage.create_stage.Statement.{statement}
 use Rattle.shelf.proofs.stage.create_stage.Tie as tie
 

@@ -1,4 +1,4 @@
-use Rattle.shelf.specs.Stage.{fillStage}
+use Rattle.stages.specs.Stage.{fillStage}
 use borrow.Author.Tests.{eq-eqb, ne-eqb}
 use Prim.Native.Nat.{ℕ, _≤_, _<_, _-_, _+_, _*_}
 use mathlib.Core.Path.{_≡_}

@@ -3,8 +3,8 @@ use borrow.Author.Needs.{needs}
 use borrow.Author.Tests.{eq-eqb, ne-eqb, le-leb, lt-leb}
 use mathlib.Core.Path.{ap}
 use Rattle.label.specs.declared.fields.Label.{Label}
-use Rattle.shelf.specs.Stage.{lateStage}
-use Rattle.shelf.specs.declared.stage.Stage.the-variants.{Give}
+use Rattle.stages.specs.Stage.{lateStage}
+use Rattle.stages.specs.declared.stage.Stage.the-variants.{Give}
 use Rattle.shelf.proofs.stage.late_stage.Statement.{statement}
 use Rattle.shelf.proofs.stage.late_stage.Tie as tie
 

@@ -1,6 +1,6 @@
 -- One test after the other.
 use borrow.Author.Tests.{eq-eqb, ne-eqb}
-use Rattle.shelf.specs.Stage.{roundStage}
+use Rattle.stages.specs.Stage.{roundStage}
 use Rattle.shelf.proofs.stage.round_stage.Statement.{statement}
 use Rattle.shelf.proofs.stage.round_stage.Tie as tie
 

@@ -1,4 +1,4 @@
-use Rattle.shelf.specs.Stage.{slotsOf}
+use Rattle.stages.specs.Stage.{slotsOf}
 use mathlib.Core.Path.{sym, ap}
 use Prim.Native.Nat.{ℕ, _≤_, _<_, _-_, _+_, _*_}
 use mathlib.Core.Path.{_≡_}

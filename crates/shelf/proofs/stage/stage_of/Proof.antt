@@ -1,5 +1,5 @@
-use Rattle.shelf.specs.declared.state.Kind.{Kind}
-use Rattle.shelf.specs.Stage.{stageAt}
+use Rattle.stages.specs.declared.state.Kind.{Kind}
+use Rattle.stages.specs.Stage.{stageAt}
 use mathlib.Core.Path.{sym, ap, _∙_}
 use Prim.Native.Nat.{ℕ, _≤_, _<_, _-_, _+_, _*_}
 use mathlib.Core.Path.{_≡_}

@@ -5,11 +5,11 @@ use mathlib.Core.List.{List}
 use Prim.Native.Nat.{ℕ, _+_, _-_}
 use native.Mathlib.Omega.{arith}
 use lib.ListN.{length}
-use Rattle.shelf.specs.Limits.{mostStages}
+use Rattle.stages.specs.Limits.{mostStages}
 use Rattle.shelf.specs.Act.{Move, actMove}
 use Rattle.shelf.specs.Step.{seek, walk}
 use Rattle.shelf.specs.Says.{Walking, walk-end, walk-act, walk-on, walk-out}
-use Rattle.shelf.specs.declared.state.State.{State}
+use Rattle.stages.specs.declared.state.State.{State}
 use Rattle.shelf.proofs.step.go.Statement.{statement}
 use Rattle.shelf.proofs.step.go.Tie as tie
 
