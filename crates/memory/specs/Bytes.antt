@@ -10,7 +10,7 @@ use Rattle.disk.specs.declared.refusal.Refusal.{Refusal}
 use Rattle.disk.specs.declared.refusal.Refusal.the-variants.{BadBuffer}
 use Rattle.disk.specs.declared.refusal.Outcome.{Outcome}
 use Rattle.disk.specs.declared.refusal.Outcome.the-variants.{Done, Refused}
-use Rattle.shelf.specs.declared.state.State.{State}
+use Rattle.stages.specs.declared.state.State.{State}
 use Rattle.memory.specs.Words.{words, numbersAt, withWords, length-words, words-append, numbers-append}
 use Rattle.memory.specs.Numbers.{numberCount, labelNumbers, restNumbers, numbersOf, stateOf, StateFits, length-numbers, numbers-back}
 

@@ -9,7 +9,7 @@ use crate::words::numbers_at;
 use crate::words::put_numbers;
 use disk::refusal::Outcome;
 use disk::refusal::Refusal;
-use shelf::state::State;
+use stages::state::State;
 ghost use mathlib.Core.Path.{_≡_};
 ghost use lib.ListN.{length};
 ghost use Rattle.disk.specs.declared.refusal.Outcome.the-variants.{Done};

@@ -1,10 +1,10 @@
 // A state as a row of numbers, in the order of its declaration.
 use crate::words::NUMBERS;
 use label::fields::Label;
-use shelf::state::Cursor;
-use shelf::state::Kind;
-use shelf::state::Marks;
-use shelf::state::State;
+use stages::state::Cursor;
+use stages::state::Kind;
+use stages::state::Marks;
+use stages::state::State;
 ghost use mathlib.Core.Path.{_≡_};
 ghost use Prim.Native.Nat.{_≤_};
 ghost use Rattle.memory.specs.Numbers.{kindNumber, kindOf, boolNumber, labelNumbers, restNumbers, labelOf, marksOf, stateOf};

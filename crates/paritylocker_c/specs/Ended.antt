@@ -3,10 +3,10 @@ use mathlib.Core.Bool.{Bool, true, false, cond}
 use Prim.Native.Nat.{ℕ, _+_, _*_, _%_}
 use lib.Dec.{eqb}
 use Rattle.label.specs.declared.fields.Label.{Label}
-use Rattle.shelf.specs.declared.state.Kind.{Kind}
-use Rattle.shelf.specs.declared.state.Kind.the-variants.{Nothing, Idle, Creating, Starting, Labelling, Writing, Beginning, Filling}
-use Rattle.shelf.specs.declared.state.Marks.{Marks}
-use Rattle.shelf.specs.declared.state.State.{State}
+use Rattle.stages.specs.declared.state.Kind.{Kind}
+use Rattle.stages.specs.declared.state.Kind.the-variants.{Nothing, Idle, Creating, Starting, Labelling, Writing, Beginning, Filling}
+use Rattle.stages.specs.declared.state.Marks.{Marks}
+use Rattle.stages.specs.declared.state.State.{State}
 
 -- strips are being rebuilt
 abbrev pub isFilling : Kind → Bool

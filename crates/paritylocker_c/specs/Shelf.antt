@@ -12,9 +12,9 @@ use Rattle.disk.specs.declared.refusal.Outcome.the-variants as outcome
 use Rattle.memory.specs.Bytes.{stateLength, stateAt, writeAnswer, afterWrite}
 use Rattle.requests.specs.Status.{statusAnswer, afterStatus}
 use Rattle.requests.specs.declared.begun.Begun.{Begun}
-use Rattle.shelf.specs.declared.state.State.{State}
-use Rattle.shelf.specs.declared.state.Answer.{Answer}
-use Rattle.shelf.specs.declared.state.Answer.the-variants.{Put, Flush, Done, Refused}
+use Rattle.stages.specs.declared.state.State.{State}
+use Rattle.stages.specs.declared.state.Answer.{Answer}
+use Rattle.stages.specs.declared.state.Answer.the-variants.{Put, Flush, Done, Refused}
 use Rattle.paritylocker_c.specs.Labels.{numberOfOutcome}
 
 -- the work area counts for nothing where the state can't be kept: a step is then BAD_BUFFER, or refused for another reason

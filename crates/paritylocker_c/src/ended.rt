@@ -1,8 +1,8 @@
 // The number of a request that is done: 3, and of a rebuild how far it is.
 use label::fields::Label;
 use label::fields::NO_SLOT;
-use shelf::state::Kind;
-use shelf::state::Marks;
+use stages::state::Kind;
+use stages::state::Marks;
 ghost use mathlib.Core.Path.{_≡_};
 ghost use Rattle.paritylocker_c.specs.Ended.{isFilling, markReached, rebuiltNumber, numberDone};
 

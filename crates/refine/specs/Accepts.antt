@@ -53,7 +53,7 @@ use Rattle.shards.specs.Quorum.{fewOf, few-mask}
 use Rattle.shards.specs.Parity.{byte-of}
 use Rattle.shards.specs.Parity as Parity
 use Rattle.shards.specs.Even.{any-code, any-sectors}
-use Rattle.shelf.specs.declared.state.State.{State}
+use Rattle.stages.specs.declared.state.State.{State}
 use Rattle.requests.specs.Ready.{isIdle}
 use Rattle.requests.specs.TakeOut.{outWith, plainlyOut, takeAnswer, nextLabel, outed}
 use Rattle.requests.specs.Accepted.{Goes, take-done}

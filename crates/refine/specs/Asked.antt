@@ -18,9 +18,9 @@ use Rattle.codecs.specs.Labels.{labelOf, labels}
 use Rattle.codecs.specs.Records.{counts, records}
 use Rattle.codecs.specs.Media.{stamps}
 use Rattle.shards.specs.Even.{any-code, any-sectors}
-use Rattle.shelf.specs.declared.state.State.{State}
-use Rattle.shelf.specs.declared.state.Kind as state
-use Rattle.shelf.specs.declared.state.Kind.the-variants.{Creating, Starting, Labelling}
+use Rattle.stages.specs.declared.state.State.{State}
+use Rattle.stages.specs.declared.state.Kind as state
+use Rattle.stages.specs.declared.state.Kind.the-variants.{Creating, Starting, Labelling}
 use Rattle.refine.specs.Disks.{curOf, seen-mask}
 use Rattle.refine.specs.ToDo.{toDo}
 use Rattle.refine.specs.Lists.{Says, create-list, change-list}

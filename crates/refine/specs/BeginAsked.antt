@@ -40,7 +40,7 @@ use Rattle.codecs.specs.Media.{stamps}
 use Rattle.shards.specs.Even.{any-code, any-sectors}
 use Rattle.rounds.specs.Slot.{ageUnder, copyAge}
 use Rattle.shelf.specs.Act.{oddSector}
-use Rattle.shelf.specs.declared.state.State.{State}
+use Rattle.stages.specs.declared.state.State.{State}
 use Rattle.requests.specs.Begun.{slotsBut}
 use Rattle.rebuilds.specs.Readied as readied
 use Rattle.rebuilds.specs.Begin.{only, beginMarks, begunLabel, beganWith, began}

@@ -29,9 +29,9 @@ use Rattle.codecs.specs.Records.{records}
 use Rattle.codecs.specs.Media.{stamps, medium}
 use Rattle.shards.specs.Even.{any-code, any-sectors}
 use Rattle.shelf.specs.Step.{sound}
-use Rattle.shelf.specs.declared.state.State.{State}
-use Rattle.shelf.specs.declared.state.Kind.{Kind}
-use Rattle.shelf.specs.declared.state.Kind.the-variants.{Beginning}
+use Rattle.stages.specs.declared.state.State.{State}
+use Rattle.stages.specs.declared.state.Kind.{Kind}
+use Rattle.stages.specs.declared.state.Kind.the-variants.{Beginning}
 use Rattle.requests.specs.Begun.{workBytes}
 use Rattle.requests.specs.Ready.{isIdle, readyOf}
 use Rattle.requests.specs.Accepted.{ready-done}

@@ -43,8 +43,8 @@ use Rattle.redo.specs.Complete.{complete-stamps, stamps-complete, involved-look
 use Rattle.redo.specs.declared.Redo.{Redo}
 use Rattle.redo.specs.declared.Redo.the-variants.{Nothing, Forward, Kill}
 use Rattle.shelf.specs.Act.{named}
-use Rattle.shelf.specs.declared.state.State.{State}
-use Rattle.shelf.specs.declared.state.Kind.the-variants.{Starting}
+use Rattle.stages.specs.declared.state.State.{State}
+use Rattle.stages.specs.declared.state.Kind.the-variants.{Starting}
 use Rattle.requests.specs.Begun.{workBytes, slotsBut, begun, first, accepted, refused}
 use Rattle.requests.specs.Ready.{isIdle, isLabel, hasShelf, holding, readyOf}
 use Rattle.requests.specs.TakeOut.{outAnswer, tookOut, takeOutOf}

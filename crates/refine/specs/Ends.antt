@@ -12,7 +12,7 @@ use Rattle.codecs.specs.Shelf.{Shelf, slots}
 use Rattle.shelf.specs.Act.{Move}
 use Rattle.shelf.specs.Step.{done}
 use Rattle.shelf.specs.Bound.{acted}
-use Rattle.shelf.specs.declared.state.State.{State}
+use Rattle.stages.specs.declared.state.State.{State}
 use Rattle.requests.specs.Begun.{workBytes}
 use Rattle.requests.specs.Step.{stepWith}
 use Rattle.refine.specs.ToDo.{toDo}

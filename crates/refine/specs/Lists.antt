@@ -23,15 +23,15 @@ use Rattle.codecs.specs.Labels.{labelOf, encodeLabel, labels}
 use Rattle.codecs.specs.Records.{records}
 use Rattle.codecs.specs.Media.{stamps}
 use Rattle.shards.specs.Even.{any-code, any-sectors}
-use Rattle.shelf.specs.Limits.{mostStages}
-use Rattle.shelf.specs.State.{moved}
-use Rattle.shelf.specs.Stage.{roundStage, createStage, stageAt, stageOf}
+use Rattle.stages.specs.Limits.{mostStages}
+use Rattle.stages.specs.State.{moved}
+use Rattle.stages.specs.Stage.{roundStage, createStage, stageAt, stageOf}
 use Rattle.shelf.specs.Step.{isEnd}
-use Rattle.shelf.specs.declared.state.State.{State}
-use Rattle.shelf.specs.declared.state.Kind.{Kind}
-use Rattle.shelf.specs.declared.state.Kind.the-variants.{Creating, Labelling}
-use Rattle.shelf.specs.declared.stage.Stage.{Stage}
-use Rattle.shelf.specs.declared.stage.Stage.the-variants.{Flush, Give}
+use Rattle.stages.specs.declared.state.State.{State}
+use Rattle.stages.specs.declared.state.Kind.{Kind}
+use Rattle.stages.specs.declared.state.Kind.the-variants.{Creating, Labelling}
+use Rattle.stages.specs.declared.stage.Stage.{Stage}
+use Rattle.stages.specs.declared.stage.Stage.the-variants.{Flush, Give}
 use Rattle.refine.specs.Disks.{curOf}
 use Rattle.refine.specs.Start.{slots-same}
 use Rattle.refine.specs.ToDo.{slotsFrom, given, underOf, actsOf, leftOf, toDo, stage-same, left-ended, left-at}

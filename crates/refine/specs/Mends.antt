@@ -43,7 +43,7 @@ use Rattle.requests.specs.declared.begun.Begun.{Begun}
 use Rattle.scrubs.specs.Slots.{missingAt, missing, tooFew, noneMissing, allSlots, none-lost}
 use Rattle.scrubs.specs.Answers.{stripeAnswer, first-done, answered-done}
 use Rattle.scrubs.specs.Repair.{stampLeft, mayRepair, mendAnswer, mended, RepairedOf, Repairs}
-use Rattle.shelf.specs.declared.state.State.{State}
+use Rattle.stages.specs.declared.state.State.{State}
 use Rattle.refine.specs.Given.{shelf-geometry}
 use Rattle.refine.specs.Places.{sectorOf, strip-is-inside}
 use Rattle.refine.specs.Disks.{Disks, curOf, cur-bytes}

@@ -42,8 +42,8 @@ use Rattle.shards.specs.Even.{any-code, any-sectors}
 use Rattle.shelf.specs.Act.{named}
 use Rattle.shelf.specs.Step.{sound}
 use Rattle.shelf.specs.Says.{when, unless}
-use Rattle.shelf.specs.declared.state.State.{State}
-use Rattle.shelf.specs.declared.state.Kind.{Kind}
+use Rattle.stages.specs.declared.state.State.{State}
+use Rattle.stages.specs.declared.state.Kind.{Kind}
 use Rattle.requests.specs.Begun.{workBytes, slotsBut}
 use Rattle.requests.specs.Ready.{isIdle, readyOf}
 use Rattle.requests.specs.TakeOut.{nextLabel}

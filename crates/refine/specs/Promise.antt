@@ -20,9 +20,9 @@ use Rattle.protocol.specs.Pairs.{AnyTwo}
 use Rattle.codecs.specs.Sector.{Sector}
 use Rattle.codecs.specs.Shelf.{Shelf, slots, geometry}
 use Rattle.codecs.specs.Labels.{ours, labelOf}
-use Rattle.shelf.specs.declared.state.State.{State}
-use Rattle.shelf.specs.declared.state.Kind.the-variants.{Idle}
-use Rattle.shelf.specs.State.{rested}
+use Rattle.stages.specs.declared.state.State.{State}
+use Rattle.stages.specs.declared.state.Kind.the-variants.{Idle}
+use Rattle.stages.specs.State.{rested}
 use Rattle.requests.specs.Begun.{workBytes}
 use Rattle.requests.specs.Create.{shelfFits, createOf}
 use Rattle.requests.specs.Start.{startOf}

@@ -28,7 +28,7 @@ use Rattle.codecs.specs.Records.{records}
 use Rattle.codecs.specs.Media.{stamps}
 use Rattle.shards.specs.Even.{any-code, any-sectors}
 use Rattle.shelf.specs.Step.{stepMove}
-use Rattle.shelf.specs.declared.state.State.{State}
+use Rattle.stages.specs.declared.state.State.{State}
 use Rattle.requests.specs.Begun.{workBytes, begun, slotsBut}
 use Rattle.requests.specs.Step.{otherWork, stepWith, step-goes}
 use Rattle.requests.specs.Slots as Slots

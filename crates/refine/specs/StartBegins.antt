@@ -38,8 +38,8 @@ use Rattle.codecs.specs.Records.{records}
 use Rattle.codecs.specs.Media.{stamps}
 use Rattle.shards.specs.Even.{any-code, any-sectors}
 use Rattle.shelf.specs.Step.{sound}
-use Rattle.shelf.specs.declared.state.State.{State}
-use Rattle.shelf.specs.declared.state.Kind.the-variants.{Starting}
+use Rattle.stages.specs.declared.state.State.{State}
+use Rattle.stages.specs.declared.state.Kind.the-variants.{Starting}
 use Rattle.requests.specs.Begun.{slotsBut, workBytes, accepted, refused}
 use Rattle.requests.specs.Start.{marksWith, marksBy, started, bySurvey, startOf}
 use Rattle.requests.specs.declared.begun.Begun.{Begun}

@@ -31,14 +31,14 @@ use Rattle.codecs.specs.Labels.{sideOf, labelOf, encodeLabel, labels}
 use Rattle.codecs.specs.Records.{pieceOf, records}
 use Rattle.codecs.specs.Media.{stamps}
 use Rattle.shards.specs.Even.{any-code, any-sectors}
-use Rattle.shelf.specs.Stage as Stage
-use Rattle.shelf.specs.Stage.{roundStage, lateStage, startStage, stageAt}
+use Rattle.stages.specs.Stage as Stage
+use Rattle.stages.specs.Stage.{roundStage, lateStage, startStage, stageAt}
 use Rattle.shelf.specs.Step.{isEnd}
-use Rattle.shelf.specs.declared.state.State.{State}
-use Rattle.shelf.specs.declared.state.Kind.{Kind}
-use Rattle.shelf.specs.declared.state.Kind.the-variants.{Starting}
-use Rattle.shelf.specs.declared.stage.Stage.{Stage}
-use Rattle.shelf.specs.declared.stage.Stage.the-variants.{Flush, Give, Wipe, Restore}
+use Rattle.stages.specs.declared.state.State.{State}
+use Rattle.stages.specs.declared.state.Kind.{Kind}
+use Rattle.stages.specs.declared.state.Kind.the-variants.{Starting}
+use Rattle.stages.specs.declared.stage.Stage.{Stage}
+use Rattle.stages.specs.declared.stage.Stage.the-variants.{Flush, Give, Wipe, Restore}
 use Rattle.refine.specs.Disks.{curOf, seenOf, seen-present}
 use Rattle.refine.specs.ToDo.{slotsFrom, tailAt, rowsFrom, restored, underOf, actsOf, toDo, rows-fresh, stage-over}
 use Rattle.refine.specs.Lists.{Says, slots-are, from-stage, begun, staged, over, flush-is, round-staged}

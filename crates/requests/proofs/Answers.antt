@@ -21,8 +21,8 @@ use Rattle.requests.specs.Begun.{workBytes, accepted, refused, begun, fi
 use Rattle.requests.specs.Ready.{isIdle, hasShelf, holding, readyOf}
 use Rattle.requests.specs.Create.{shelfFits, createAnswer}
 use Rattle.requests.specs.TakeOut.{outWith, outNow, outAnswer}
-use Rattle.shelf.specs.declared.state.State.{State}
-use Rattle.shelf.specs.declared.state.Kind.{Kind}
+use Rattle.stages.specs.declared.state.State.{State}
+use Rattle.stages.specs.declared.state.Kind.{Kind}
 
 pub turned : (o : Outcome) (s t : State) (why : Refusal) → o ≡ Refused why → refused s why ≡ begun o s t
 turned o s t why e = ap (λ (x : Outcome). begun x s t) (sym e)

@@ -30,8 +30,8 @@ use Rattle.requests.specs.Begun.{workBytes, begun, first}
 use Rattle.requests.specs.Ready.{isNothing, isIdle, hasShelf, readyOf}
 use Rattle.requests.specs.Create.{shardsFit, shelfFits, createAnswer, firstLabel, created, createOf}
 use Rattle.requests.specs.TakeOut.{outWith, plainlyOut, outNow, outAnswer, takeAnswer, nextLabel, outed, tookOut, takeOutOf}
-use Rattle.shelf.specs.declared.state.State.{State}
-use Rattle.shelf.specs.declared.state.Kind.{Kind}
+use Rattle.stages.specs.declared.state.State.{State}
+use Rattle.stages.specs.declared.state.Kind.{Kind}
 
 never : (why : Refusal) → Refused why ≡ Done → ⊥
 never why e = let z : _≡_ {A = ℕ} 0 1 = cc in omega arith

@@ -13,9 +13,9 @@ use Rattle.label.specs.Fields.{noSlot}
 use Rattle.label.specs.Bytes.{allZero}
 use Rattle.label.specs.declared.fields.Label.{Label}
 use Rattle.requests.specs.Begun.{workBytes, begun, marksOf}
-use Rattle.shelf.specs.declared.state.State.{State}
-use Rattle.shelf.specs.declared.state.Marks.{Marks}
-use Rattle.shelf.specs.declared.state.Kind.the-variants.{Creating}
+use Rattle.stages.specs.declared.state.State.{State}
+use Rattle.stages.specs.declared.state.Marks.{Marks}
+use Rattle.stages.specs.declared.state.Kind.the-variants.{Creating}
 use Rattle.requests.specs.declared.begun.Begun.{Begun}
 
 -- k data shards and m parity shards

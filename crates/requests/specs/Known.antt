@@ -22,7 +22,7 @@ use Rattle.label.specs.declared.codec.Decoded.the-variants.{Valid, Nothing}
 use Rattle.shelf.specs.Act.{named}
 use Rattle.requests.specs.Ready.{isIdle, hasShelf, sameLabel, isLabel, holding, readyOf}
 use Rattle.requests.specs.Accepted.{passed}
-use Rattle.shelf.specs.declared.state.Kind.{Kind}
+use Rattle.stages.specs.declared.state.Kind.{Kind}
 
 pub same-label : (x y : Label) → sameLabel x y ≡ true → x ≡ y
 unfolding sameLabel sameShelf

@@ -16,8 +16,8 @@ use Rattle.label.specs.declared.fields.Label.{Label}
 use Rattle.label.specs.declared.codec.Decoded.{Decoded}
 use Rattle.label.specs.declared.codec.Decoded.the-variants as decoded
 use Rattle.shelf.specs.Act.{named}
-use Rattle.shelf.specs.declared.state.Kind.{Kind}
-use Rattle.shelf.specs.declared.state.Kind.the-variants.{Nothing, Idle, Creating, Starting, Labelling, Writing, Beginning, Filling}
+use Rattle.stages.specs.declared.state.Kind.{Kind}
+use Rattle.stages.specs.declared.state.Kind.the-variants.{Nothing, Idle, Creating, Starting, Labelling, Writing, Beginning, Filling}
 
 abbrev pub isNothing : Kind → Bool
 isNothing Nothing = true

@@ -18,9 +18,9 @@ use Rattle.rounds.proofs.Plans.{survey-grounds}
 use Rattle.redo.specs.Decide.{redoOf}
 use Rattle.redo.specs.declared.Redo.{Redo}
 use Rattle.redo.specs.declared.Redo.the-variants.{Nothing, Forward, Kill}
-use Rattle.shelf.specs.declared.state.State.{State}
-use Rattle.shelf.specs.declared.state.Marks.{Marks}
-use Rattle.shelf.specs.declared.state.Kind.the-variants.{Starting}
+use Rattle.stages.specs.declared.state.State.{State}
+use Rattle.stages.specs.declared.state.Marks.{Marks}
+use Rattle.stages.specs.declared.state.Kind.the-variants.{Starting}
 use Rattle.requests.specs.Begun.{workBytes, accepted, refused, slotsBut}
 use Rattle.requests.specs.declared.begun.Begun.{Begun}
 

@@ -12,7 +12,7 @@ use Rattle.label.specs.Fields.{geometryOf, fitsOf}
 use Rattle.label.specs.declared.fields.Label.{Label}
 use Rattle.shelf.specs.Act.{Move, refuses}
 use Rattle.shelf.specs.Step.{sound, stepMove}
-use Rattle.shelf.specs.declared.state.State.{State}
+use Rattle.stages.specs.declared.state.State.{State}
 use Rattle.requests.specs.Begun.{workBytes}
 
 -- the image is that of the label's shelf, and the work area is not

@@ -12,10 +12,10 @@ use Rattle.label.specs.Fields.{noSlot, mostGeneration}
 use Rattle.label.specs.declared.fields.Label.{Label}
 use Rattle.requests.specs.Begun.{workBytes, begun, first, slotsBut, marksOf}
 use Rattle.requests.specs.Ready.{isIdle, readyOf}
-use Rattle.shelf.specs.declared.state.State.{State}
-use Rattle.shelf.specs.declared.state.Marks.{Marks}
-use Rattle.shelf.specs.declared.state.Kind.{Kind}
-use Rattle.shelf.specs.declared.state.Kind.the-variants.{Labelling}
+use Rattle.stages.specs.declared.state.State.{State}
+use Rattle.stages.specs.declared.state.Marks.{Marks}
+use Rattle.stages.specs.declared.state.Kind.{Kind}
+use Rattle.stages.specs.declared.state.Kind.the-variants.{Labelling}
 use Rattle.requests.specs.declared.begun.Begun.{Begun}
 
 -- the slots that are out once slot d is; a number that no slot has changes nothing

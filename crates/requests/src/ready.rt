@@ -12,7 +12,7 @@ use label::fields::Label;
 use label::fields::fits;
 use label::newest::disk_label;
 use label::newest::same_shelf;
-use shelf::state::Kind;
+use stages::state::Kind;
 ghost use mathlib.Core.Path.{_≡_};
 ghost use Rattle.label.specs.Newest.{allOf};
 ghost use Rattle.requests.specs.Ready.{isNothing, isIdle, hasShelf, sameLabel, isLabel, holding, readyOf};

@@ -2,9 +2,9 @@
 use mathlib.Core.Bool.{Bool, true, false, cond, _&&_}
 use Prim.Native.Nat.{ℕ}
 use lib.Dec.{leb, eqb}
-use Rattle.shelf.specs.declared.state.State.{State}
-use Rattle.shelf.specs.declared.state.Kind.{Kind}
-use Rattle.shelf.specs.declared.state.Kind.the-variants.{Nothing, Idle, Creating, Starting, Labelling, Writing, Beginning, Filling}
+use Rattle.stages.specs.declared.state.State.{State}
+use Rattle.stages.specs.declared.state.Kind.{Kind}
+use Rattle.stages.specs.declared.state.Kind.the-variants.{Nothing, Idle, Creating, Starting, Labelling, Writing, Beginning, Filling}
 
 abbrev pub isWriting : Kind → Bool
 isWriting Nothing = false

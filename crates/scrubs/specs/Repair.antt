@@ -30,10 +30,10 @@ use Rattle.requests.specs.Begun.{accepted, begun, first}
 use Rattle.requests.specs.Ready.{isIdle, hasShelf, readyOf}
 use Rattle.requests.specs.Accepted.{passed, ready-done}
 use Rattle.requests.specs.declared.begun.Begun.{Begun}
-use Rattle.shelf.specs.declared.state.State.{State}
-use Rattle.shelf.specs.declared.state.Marks.{Marks}
-use Rattle.shelf.specs.declared.state.Kind.{Kind}
-use Rattle.shelf.specs.declared.state.Kind.the-variants.{Writing}
+use Rattle.stages.specs.declared.state.State.{State}
+use Rattle.stages.specs.declared.state.Marks.{Marks}
+use Rattle.stages.specs.declared.state.Kind.{Kind}
+use Rattle.stages.specs.declared.state.Kind.the-variants.{Writing}
 use Rattle.strips.specs.Seen.{shardBytes}
 use Rattle.strips.specs.Whole.{wholeAnswer, stripeSeen, FoundBy}
 use Rattle.strips.specs.declared.whole.Scrubbed.{Scrubbed}

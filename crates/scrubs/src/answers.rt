@@ -9,7 +9,7 @@ use disk::refusal::Refusal;
 use disk::sector::fits_image;
 use label::fields::Label;
 use requests::ready::has_shelf;
-use shelf::state::Kind;
+use stages::state::Kind;
 ghost use mathlib.Core.Path.{_≡_};
 ghost use mathlib.Core.Bool.{true};
 ghost use lib.Dec.{ltb};

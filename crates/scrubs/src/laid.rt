@@ -1,6 +1,6 @@
 // The write under way, where its shards are laid over what the disks hold.
-use shelf::state::Kind;
-use shelf::state::State;
+use stages::state::Kind;
+use stages::state::State;
 ghost use mathlib.Core.Path.{_≡_};
 ghost use Rattle.scrubs.specs.Laid.{isWriting, laidBy, laidOver};
 

@@ -22,12 +22,12 @@ use Rattle.record.specs.Log.{areaOf, restoreAnswer, afterRestore}
 use Rattle.record.specs.declared.tail.Tail.{Tail}
 use Rattle.shelf.specs.Fill.{rebuildAnswer, rebuiltSector}
 use Rattle.shelf.specs.Kept.{keptOf, partOf, recordSector, loggedAnswer}
-use Rattle.shelf.specs.State.{moved}
-use Rattle.shelf.specs.declared.state.State.{State}
-use Rattle.shelf.specs.declared.state.Stepped.{Stepped}
-use Rattle.shelf.specs.declared.state.Answer.the-variants.{Put, Flush, Refused}
-use Rattle.shelf.specs.declared.stage.Stage.{Stage}
-use Rattle.shelf.specs.declared.stage.Stage.the-variants as stage
+use Rattle.stages.specs.State.{moved}
+use Rattle.stages.specs.declared.state.State.{State}
+use Rattle.stages.specs.declared.state.Stepped.{Stepped}
+use Rattle.stages.specs.declared.state.Answer.the-variants.{Put, Flush, Refused}
+use Rattle.stages.specs.declared.stage.Stage.{Stage}
+use Rattle.stages.specs.declared.stage.Stage.the-variants as stage
 
 pub record Move : Type 0 where
   pub stepped : Stepped

@@ -25,22 +25,22 @@ use Rattle.label.specs.Fields.{geometryOf, fitsOf}
 use Rattle.label.specs.Bytes.{sealed}
 use Rattle.label.specs.declared.fields.Label.{Label}
 use Rattle.record.specs.Log.{part, areaOf, restoreOf, restoreAnswer}
-use Rattle.shelf.specs.Limits.{mostStages}
-use Rattle.shelf.specs.State.{moved}
+use Rattle.stages.specs.Limits.{mostStages}
+use Rattle.stages.specs.State.{moved}
 use Rattle.shelf.specs.Fill.{rebuildAnswer, rebuiltSector}
 use Rattle.shelf.specs.Kept.{keptOf, partOf, recordSector, loggedAnswer}
-use Rattle.shelf.specs.Stage.{slotsOf, roundStage, lateStage, startStage, createStage, writeStage, lastStage, beginStage, fillStage, stageAt, stageOf}
+use Rattle.stages.specs.Stage.{slotsOf, roundStage, lateStage, startStage, createStage, writeStage, lastStage, beginStage, fillStage, stageAt, stageOf}
 use Rattle.shelf.specs.Act.{Move, refusal, refuses, onward, byOutcome, putMove, flushMove, named, giveMove, wipeMove, byStrip, byRestored, restoreMove, tailOf, byLogged, logMove, byStored, storeMove, clearMove, oddSector, eraseMove, inStrips, byRebuilt, fillMove, actMove}
 use Rattle.shelf.specs.Step.{seek, isEnd, finished, onStage, nextSlot, walk, byAnswer, keeps, sound, stepMove}
 use Rattle.shelf.specs.Says.{unless, sound-says}
-use Rattle.shelf.specs.declared.state.State.{State}
-use Rattle.shelf.specs.declared.state.Stepped.{Stepped}
-use Rattle.shelf.specs.declared.state.Kind.{Kind}
-use Rattle.shelf.specs.declared.state.Kind.the-variants.{Nothing, Idle, Creating, Starting, Labelling, Writing, Beginning, Filling}
-use Rattle.shelf.specs.declared.state.Answer.{Answer}
-use Rattle.shelf.specs.declared.state.Answer.the-variants.{Put, Flush, Done, Refused}
-use Rattle.shelf.specs.declared.stage.Stage.{Stage}
-use Rattle.shelf.specs.declared.stage.Stage.the-variants as stage
+use Rattle.stages.specs.declared.state.State.{State}
+use Rattle.stages.specs.declared.state.Stepped.{Stepped}
+use Rattle.stages.specs.declared.state.Kind.{Kind}
+use Rattle.stages.specs.declared.state.Kind.the-variants.{Nothing, Idle, Creating, Starting, Labelling, Writing, Beginning, Filling}
+use Rattle.stages.specs.declared.state.Answer.{Answer}
+use Rattle.stages.specs.declared.state.Answer.the-variants.{Put, Flush, Done, Refused}
+use Rattle.stages.specs.declared.stage.Stage.{Stage}
+use Rattle.stages.specs.declared.stage.Stage.the-variants as stage
 
 -- ---- what is left
 

@@ -31,19 +31,19 @@ use Rattle.position.specs.Row.{listed, listed-length}
 use Rattle.strips.specs.Seen.{shownByte, shardShown}
 use Rattle.strips.specs.Answers.{shownAnswer, shown-done}
 use Rattle.strips.specs.Laws.{shown-blind}
-use Rattle.shelf.specs.Limits.{mostStages}
+use Rattle.stages.specs.Limits.{mostStages}
 use Rattle.shelf.specs.Fill.{present, believedSlots, seenSlots, stripeIn, shownFrom, rebuildAnswer, rebuiltSector}
 use Rattle.shelf.specs.Kept.{keptOf, partOf, recordSector, loggedAnswer}
-use Rattle.shelf.specs.Stage.{stageOf}
+use Rattle.stages.specs.Stage.{stageOf}
 use Rattle.shelf.specs.Act.{Move, refusal, refuses, onward, byOutcome, putMove, flushMove, named, giveMove, wipeMove, byStrip, byRestored, restoreMove, tailOf, byLogged, logMove, byStored, storeMove, clearMove, oddSector, eraseMove, inStrips, byRebuilt, fillMove, actMove}
 use Rattle.shelf.specs.Step.{isEnd, finished, onStage, nextSlot, walk, byAnswer, kept, keeps, sound, stepMove}
 use Rattle.shelf.specs.Says.{when}
-use Rattle.shelf.specs.declared.state.State.{State}
-use Rattle.shelf.specs.declared.state.Stepped.{Stepped}
-use Rattle.shelf.specs.declared.state.Answer.{Answer}
-use Rattle.shelf.specs.declared.state.Answer.the-variants.{Put, Flush, Done, Refused}
-use Rattle.shelf.specs.declared.stage.Stage.{Stage}
-use Rattle.shelf.specs.declared.stage.Stage.the-variants as stage
+use Rattle.stages.specs.declared.state.State.{State}
+use Rattle.stages.specs.declared.state.Stepped.{Stepped}
+use Rattle.stages.specs.declared.state.Answer.{Answer}
+use Rattle.stages.specs.declared.state.Answer.the-variants.{Put, Flush, Done, Refused}
+use Rattle.stages.specs.declared.stage.Stage.{Stage}
+use Rattle.stages.specs.declared.stage.Stage.the-variants as stage
 
 -- ---- what an answer says of the image before and after
 

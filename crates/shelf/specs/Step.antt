@@ -9,18 +9,18 @@ use Rattle.disk.specs.Mask.{inMask}
 use Rattle.disk.specs.declared.geometry.Geometry.{Geometry}
 use Rattle.disk.specs.declared.refusal.Refusal.the-variants.{BadImage, NotNow}
 use Rattle.label.specs.Fields.{geometryOf, fitsOf}
-use Rattle.shelf.specs.Limits.{mostStages}
-use Rattle.shelf.specs.State.{moved, rested}
-use Rattle.shelf.specs.Stage.{slotsOf, stageOf}
+use Rattle.stages.specs.Limits.{mostStages}
+use Rattle.stages.specs.State.{moved, rested}
+use Rattle.stages.specs.Stage.{slotsOf, stageOf}
 use Rattle.shelf.specs.Act.{Move, refusal, refuses, actMove}
-use Rattle.shelf.specs.declared.state.State.{State}
-use Rattle.shelf.specs.declared.state.Stepped.{Stepped}
-use Rattle.shelf.specs.declared.state.Kind.{Kind}
-use Rattle.shelf.specs.declared.state.Kind.the-variants.{Nothing, Idle, Creating, Starting, Labelling, Writing, Beginning, Filling}
-use Rattle.shelf.specs.declared.state.Answer.{Answer}
-use Rattle.shelf.specs.declared.state.Answer.the-variants.{Put, Flush, Done, Refused}
-use Rattle.shelf.specs.declared.stage.Stage.{Stage}
-use Rattle.shelf.specs.declared.stage.Stage.the-variants as stage
+use Rattle.stages.specs.declared.state.State.{State}
+use Rattle.stages.specs.declared.state.Stepped.{Stepped}
+use Rattle.stages.specs.declared.state.Kind.{Kind}
+use Rattle.stages.specs.declared.state.Kind.the-variants.{Nothing, Idle, Creating, Starting, Labelling, Writing, Beginning, Filling}
+use Rattle.stages.specs.declared.state.Answer.{Answer}
+use Rattle.stages.specs.declared.state.Answer.the-variants.{Put, Flush, Done, Refused}
+use Rattle.stages.specs.declared.stage.Stage.{Stage}
+use Rattle.stages.specs.declared.stage.Stage.the-variants as stage
 
 -- the first of k slots from d on that is in the mask, or the one behind them
 unfoldable pub seek : ℕ → ℕ → ℕ → ℕ

@@ -1,28 +1,28 @@
 // The next step of what is under way.
 use crate::act::act;
 use crate::act::refuse;
-use crate::limits::MOST_STAGES;
-use crate::stage::Stage;
-use crate::stage::slots_of;
-use crate::stage::stage_of;
-use crate::state::Answer;
-use crate::state::Kind;
-use crate::state::State;
-use crate::state::Stepped;
-use crate::state::at;
-use crate::state::rest;
 use disk::geometry::Geometry;
 use disk::mask::has;
 use disk::refusal::Refusal;
 use disk::sector::fits_image;
 use label::fields::Label;
 use label::fields::fits;
+use stages::limits::MOST_STAGES;
+use stages::stage::Stage;
+use stages::stage::slots_of;
+use stages::stage::stage_of;
+use stages::state::Answer;
+use stages::state::Kind;
+use stages::state::State;
+use stages::state::Stepped;
+use stages::state::at;
+use stages::state::rest;
 ghost use mathlib.Core.Path.{_≡_};
 ghost use mathlib.Core.Bool.{true};
 ghost use Prim.Native.Nat.{_+_, _-_, _≤_, _<_};
 ghost use Rattle.disk.specs.Limits.{mostN, mostC, mostSectors};
 ghost use Rattle.label.specs.Fields.{mostGeneration, geometryOf, fitsOf};
-ghost use Rattle.shelf.specs.Limits.{mostStages};
+ghost use Rattle.stages.specs.Limits.{mostStages};
 ghost use Rattle.shelf.specs.Step.{seek, isEnd, onStage, done, walk, kept, underWay, sound, stepMove};
 
 // The first slot from `from` on that is in the mask, or n (or `from`, where that is above n).

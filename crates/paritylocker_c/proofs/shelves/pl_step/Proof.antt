@@ -4,8 +4,8 @@ use mathlib.Core.Bool.{Bool}
 use mathlib.Core.List.{List}
 use Prim.Native.Nat.{ℕ}
 use Rattle.shelf.specs.Act.{Move}
-use Rattle.shelf.specs.declared.state.State.{State}
-use Rattle.shelf.specs.declared.state.Stepped.{Stepped}
+use Rattle.stages.specs.declared.state.State.{State}
+use Rattle.stages.specs.declared.state.Stepped.{Stepped}
 use Rattle.requests.specs.Step.{stepWith}
 use Rattle.paritylocker_c.specs.Ended.{doneNumber}
 use Rattle.paritylocker_c.specs.Shelf.{answerNumber, isRefused, keptAfter}

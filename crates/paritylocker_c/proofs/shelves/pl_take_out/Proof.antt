@@ -1,7 +1,7 @@
 -- What the request begins with is kept. Assumes nothing.
 use mathlib.Core.Path.{refl, ap, _∙_}
 use lib.ListN.{length}
-use Rattle.shelf.specs.declared.state.State.{State}
+use Rattle.stages.specs.declared.state.State.{State}
 use Rattle.requests.specs.declared.begun.Begun.{Begun}
 use Rattle.requests.specs.TakeOut.{takeOutOf}
 use Rattle.paritylocker_c.specs.Shelf.{begunNumber, afterBegun}

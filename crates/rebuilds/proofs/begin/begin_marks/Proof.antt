@@ -2,7 +2,7 @@
 use mathlib.Core.Path.{_≡_, refl, sym, ap, ap₂, _∙_}
 use mathlib.Core.Bool.{Bool, true, not}
 use Prim.Native.Nat.{ℕ}
-use Rattle.shelf.specs.declared.state.Marks.{Marks}
+use Rattle.stages.specs.declared.state.Marks.{Marks}
 use Rattle.rebuilds.specs.Readied.{oddFirst, alien, prepared, getsZeros}
 use Rattle.rebuilds.specs.Begin.{only}
 use borrow.Author.Needs.{needs}

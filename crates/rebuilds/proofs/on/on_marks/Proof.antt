@@ -1,7 +1,7 @@
 -- `on_marks` meets its contract. Assumes nothing.
 use mathlib.Core.Path.{_≡_, refl, sym, ap, ap₂, _∙_}
 use native.Mathlib.Omega.{arith}
-use Rattle.shelf.specs.declared.state.Marks.{Marks}
+use Rattle.stages.specs.declared.state.Marks.{Marks}
 use Rattle.label.proofs.Fits.{fits-says}
 use borrow.Author.Needs.{needs}
 use Rattle.rebuilds.proofs.on.on_marks.Statement.{statement}

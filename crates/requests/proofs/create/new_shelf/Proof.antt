@@ -4,7 +4,7 @@ use Rattle.label.specs.declared.fields.Label.{Label}
 use Rattle.requests.specs.Begun.{marksOf}
 use Rattle.requests.specs.Create.{shelf-of}
 use Rattle.requests.specs.Slots.{all-slots}
-use Rattle.shelf.specs.declared.state.Marks.{Marks}
+use Rattle.stages.specs.declared.state.Marks.{Marks}
 use mathlib.Core.Path.{_≡_, ap, ap₂, _∙_}
 use native.Mathlib.Omega.{arith}
 use borrow.Author.Needs.{needs}

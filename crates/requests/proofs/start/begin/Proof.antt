@@ -2,8 +2,8 @@
 use mathlib.Core.Path.{ap, ap₂, _∙_}
 use Prim.Native.Nat.{ℕ}
 use Rattle.redo.specs.declared.Redo.{Redo}
-use Rattle.shelf.specs.declared.state.Marks.{Marks}
-use Rattle.shelf.specs.declared.state.Kind.the-variants.{Starting}
+use Rattle.stages.specs.declared.state.Marks.{Marks}
+use Rattle.stages.specs.declared.state.Kind.the-variants.{Starting}
 use Rattle.requests.specs.Start.{marksBy}
 use borrow.Author.Needs.{needs}
 use Rattle.requests.proofs.start.begin.Statement.{statement}

@@ -1,4 +1,4 @@
-use Rattle.shelf.specs.declared.stage.Stage.{Stage}
+use Rattle.stages.specs.declared.stage.Stage.{Stage}
 use Rattle.shelf.specs.Act.{Move, actMove}
 use mathlib.Core.Path.{sym, ap, _∙_}
 use Prim.Native.Nat.{ℕ, _≤_, _<_, _-_, _+_, _*_}

@@ -2,9 +2,9 @@
 use borrow.Author.Needs.{needs}
 use mathlib.Core.Path.{sym, ap, _∙_}
 use Rattle.shelf.specs.Act.{flushMove}
-use Rattle.shelf.specs.declared.state.State.{State}
-use Rattle.shelf.specs.declared.state.Stepped.{Stepped}
-use Rattle.shelf.specs.declared.state.Answer.the-variants.{Flush}
+use Rattle.stages.specs.declared.state.State.{State}
+use Rattle.stages.specs.declared.state.Stepped.{Stepped}
+use Rattle.stages.specs.declared.state.Answer.the-variants.{Flush}
 use Rattle.shelf.proofs.act.flush.Statement.{statement}
 use Rattle.shelf.proofs.act.flush.Tie as tie
 

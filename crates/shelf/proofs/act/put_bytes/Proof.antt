@@ -4,9 +4,9 @@ use mathlib.Core.Path.{refl, sym, ap, _∙_}
 use Rattle.disk.specs.Image.{afterPut}
 use Rattle.disk.specs.declared.refusal.Outcome.{Outcome}
 use Rattle.shelf.specs.Act.{putMove}
-use Rattle.shelf.specs.declared.state.State.{State}
-use Rattle.shelf.specs.declared.state.Stepped.{Stepped}
-use Rattle.shelf.specs.declared.state.Answer.the-variants.{Put}
+use Rattle.stages.specs.declared.state.State.{State}
+use Rattle.stages.specs.declared.state.Stepped.{Stepped}
+use Rattle.stages.specs.declared.state.Answer.the-variants.{Put}
 use Rattle.shelf.proofs.act.put_bytes.Statement.{statement}
 use Rattle.shelf.proofs.act.put_bytes.Tie as tie
 

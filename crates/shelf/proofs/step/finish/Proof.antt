@@ -1,9 +1,9 @@
 -- It is the state at rest.
 use borrow.Author.Needs.{needs}
 use mathlib.Core.Path.{ap}
-use Rattle.shelf.specs.declared.state.State.{State}
-use Rattle.shelf.specs.declared.state.Stepped.{Stepped}
-use Rattle.shelf.specs.declared.state.Answer.the-variants.{Done}
+use Rattle.stages.specs.declared.state.State.{State}
+use Rattle.stages.specs.declared.state.Stepped.{Stepped}
+use Rattle.stages.specs.declared.state.Answer.the-variants.{Done}
 use Rattle.shelf.proofs.step.finish.Statement.{statement}
 use Rattle.shelf.proofs.step.finish.Tie as tie
 

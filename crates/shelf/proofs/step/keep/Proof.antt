@@ -2,7 +2,7 @@
 use borrow.Author.Needs.{needs}
 use mathlib.Core.Path.{sym, ap, _∙_}
 use Rattle.shelf.specs.Step.{byAnswer}
-use Rattle.shelf.specs.declared.state.Answer.{Answer}
+use Rattle.stages.specs.declared.state.Answer.{Answer}
 use Rattle.shelf.proofs.step.keep.Statement.{statement}
 use Rattle.shelf.proofs.step.keep.Tie as tie
 
