@@ -1,6 +1,3 @@
-pub mod Limits
-pub mod State
-pub mod Stage
 pub mod Kept
 pub mod Fill
 pub mod Act

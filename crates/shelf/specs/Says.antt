@@ -9,7 +9,7 @@ use native.Mathlib.Numerals.{add-one}
 use native.Mathlib.Omega.{arith}
 use lib.Dec.{ltb, leb}
 use lib.ListN.{length, replicate, take, drop}
-use borrow.Author.Tests.{ltb-true, leb-true, lt-ltb, le-ltb}
+use borrow.Author.Tests.{ltb-true, leb-true, lt-ltb, le-ltb, le-leb}
 use Rattle.disk.specs.Limits.{mostN, mostC, mostSectors, sectorBytes, firstLog, firstStrip}
 use Rattle.disk.specs.Tests.{and-left, and-right}
 use Rattle.disk.specs.Mask.{inMask}
@@ -34,7 +34,7 @@ use Rattle.shelf.specs.Kept.{shardAt, keptOf, partOf, recordSector, logg
 use Rattle.strips.specs.Seen.{shardShown}
 use Rattle.strips.specs.Answers.{shownAnswer, afterShown}
 use Rattle.shelf.specs.Fill.{seenSlots, stripeIn, shownFrom, rebuildAnswer, rebuiltSector, afterRebuild}
-use Rattle.stages.specs.Stage.{slotsOf, stageOf}
+use Rattle.stages.specs.Stage.{slotsOf, stageOf, stageFor}
 use Rattle.shelf.specs.Act.{refuses, putMove, named, giveMove, byStrip, byRestored, restoreMove, tailOf, byLogged, logMove, byStored, storeMove, inStrips, byRebuilt, fillMove, actMove}
 use Rattle.shelf.specs.Step.{seek, isEnd, finished, onStage, nextSlot, walk, keeps, underWay, sound, stepMove}
 use Rattle.stages.specs.declared.state.State.{State}
@@ -249,6 +249,10 @@ walk-goes : (k : ℕ) (t : State) (g : Geometry) (work img : List ℕ) → isEnd
     → walk (suc k) t g work img ≡ walk k (onStage t) g work img
 unfolding walk
 walk-goes k t g work img e l = unless (isEnd (stageOf t)) _ _ e ∙ unless (ltb (nextSlot t g) (g .n)) _ _ (le-ltb (nextSlot t g) (g .n) l)
+
+-- the stage that the code finds, for a generation in range
+pub stage-known : (s : State) → s .now .generation ≤ mostGeneration → stageFor s ≡ stageOf s
+stage-known s l = when (leb (s .now .generation) mostGeneration) _ _ (le-leb (s .now .generation) mostGeneration l)
 
 -- after i stages with no action left, t is where the request is; its stage is x
 module _ (s t : State) (g : Geometry) (work img : List ℕ) (i : ℕ) (so-far : walk (mostStages - i) t g work img ≡ walk mostStages s g work img) where

@@ -4,7 +4,4 @@
 mod act;
 mod fill;
 mod kept;
-pub mod limits;
-mod stage;
-pub mod state;
 pub mod step;

@@ -1,6 +1,12 @@
 // The next step of what is under way.
 use crate::act::act;
 use crate::act::refuse;
+use disk::geometry::Geometry;
+use disk::mask::has;
+use disk::refusal::Refusal;
+use disk::sector::fits_image;
+use label::fields::Label;
+use label::fields::fits;
 use stages::limits::MOST_STAGES;
 use stages::stage::Stage;
 use stages::stage::slots_of;
@@ -11,12 +17,6 @@ use stages::state::State;
 use stages::state::Stepped;
 use stages::state::at;
 use stages::state::rest;
-use disk::geometry::Geometry;
-use disk::mask::has;
-use disk::refusal::Refusal;
-use disk::sector::fits_image;
-use label::fields::Label;
-use label::fields::fits;
 ghost use mathlib.Core.Path.{_≡_};
 ghost use mathlib.Core.Bool.{true};
 ghost use Prim.Native.Nat.{_+_, _-_, _≤_, _<_};

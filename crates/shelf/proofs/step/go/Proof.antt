@@ -8,7 +8,7 @@ use lib.ListN.{length}
 use Rattle.stages.specs.Limits.{mostStages}
 use Rattle.shelf.specs.Act.{Move, actMove}
 use Rattle.shelf.specs.Step.{seek, walk}
-use Rattle.shelf.specs.Says.{Walking, walk-end, walk-act, walk-on, walk-out}
+use Rattle.shelf.specs.Says.{Walking, stage-known, walk-end, walk-act, walk-on, walk-out}
 use Rattle.stages.specs.declared.state.State.{State}
 use Rattle.shelf.proofs.step.go.Statement.{statement}
 use Rattle.shelf.proofs.step.go.Tie as tie
@@ -24,7 +24,7 @@ loop-holds c =
     record { same = refl; so-far = refl; few = omega arith; staged = omega arith; within = omega arith; low = omega arith }
 
 stage-of-requires : tie.Need-stage-of-requires Inv-loop μ-loop
-stage-of-requires c κs = c .before .loop .inv .low
+stage-of-requires c κs = search needs
 
 is-end-requires : tie.Need-is-end-requires Inv-loop μ-loop
 is-end-requires c κs = search needs
@@ -40,7 +40,7 @@ returns c =
     let l = c .before .before .before .before .before .loop in
     let a = c .before .before .before .before .before .before .before .before .args in
     let m =
-    walk-end (a .s) (l .t) (a .g) (a .work .now) (a .image .now) (l .i) (l .inv .so-far) (omega arith) (c .before .before .before .stage-of .result) (c .before .before .before .stage-of .ensures)
+    walk-end (a .s) (l .t) (a .g) (a .work .now) (a .image .now) (l .i) (l .inv .so-far) (omega arith) (c .before .before .before .stage-of .result) (c .before .before .before .stage-of .ensures ∙ stage-known (l .t) (l .inv .low))
     (sym (c .before .before .is-end .ensures) ∙ c .before .if1 .taken) in
     (c .finish .ensures ∙ sym (ap (λ (x : Move). x .stepped) m), l .inv .same ∙ sym (ap (λ (x : Move). x .image) m))
 
@@ -63,7 +63,7 @@ returns-2 c =
     let x = c .before .before .before .before .before .before .before .before .before .before .before .stage-of .result in
     let d = c .before .before .before .before .before .before .find .result in
     let m =
-    walk-act (a .s) (l .t) (a .g) (a .work .now) (a .image .now) (l .i) (l .inv .so-far) (omega arith) x (c .before .before .before .before .before .before .before .before .before .before .before .stage-of .ensures)
+    walk-act (a .s) (l .t) (a .g) (a .work .now) (a .image .now) (l .i) (l .inv .so-far) (omega arith) x (c .before .before .before .before .before .before .before .before .before .before .before .stage-of .ensures ∙ stage-known (l .t) (l .inv .low))
     (sym (c .before .before .before .before .before .before .before .before .before .before .is-end .ensures) ∙ c .before .before .before .before .before .before .before .before .before .if1 .left) d (c .before .before .before .before .before .before .find .ensures ∙ ap (λ (k : ℕ). seek k (a .g .n - l .t .cursor .slot) (l .t .cursor .slot)) (c .before .before .before .before .before .before .before .slots-of .ensures)) (omega arith) in
     let q = sym (m ∙ ap (λ (v : List ℕ). actMove (l .t) (a .g) x d (a .work .now) v) (sym (l .inv .same))) in
     (c .before .before .act .ensures .0 ∙ ap (λ (x : Move). x .stepped) q, c .before .before .act .ensures .1 ∙ ap (λ (x : Move). x .image) q)
@@ -83,7 +83,7 @@ loop-again c =
     let a = c .before .before .before .before .before .before .before .before .before .before .before .before .before .args in
     let e = c .next-stage .ensures in
     let m =
-    walk-on (a .s) (l .t) (a .g) (a .work .now) (a .image .now) (l .i) (l .inv .so-far) (omega arith) (c .before .before .before .before .before .before .before .before .stage-of .result) (c .before .before .before .before .before .before .before .before .stage-of .ensures)
+    walk-on (a .s) (l .t) (a .g) (a .work .now) (a .image .now) (l .i) (l .inv .so-far) (omega arith) (c .before .before .before .before .before .before .before .before .stage-of .result) (c .before .before .before .before .before .before .before .before .stage-of .ensures ∙ stage-known (l .t) (l .inv .low))
     (sym (c .before .before .before .before .before .before .before .is-end .ensures) ∙ c .before .before .before .before .before .before .if1 .left) (c .before .before .before .find .result)
     (c .before .before .before .find .ensures ∙ ap (λ (k : ℕ). seek k (a .g .n - l .t .cursor .slot) (l .t .cursor .slot)) (c .before .before .before .before .slots-of .ensures)) (omega arith) in
     record {

@@ -1,14 +1,14 @@
 use Rattle.stages.specs.Stage.{slotsOf}
 use mathlib.Core.Path.{sym, ap}
 use Prim.Native.Nat.{ℕ, _≤_, _<_, _-_, _+_, _*_}
 use mathlib.Core.Path.{_≡_}
 use native.Mathlib.Omega.{arith}
 use lib.ListN.{length, length-set, getD}
 use borrow.Author.Needs.{needs}
-use Rattle.shelf.proofs.stage.slots_of.Statement.{statement}
-use Rattle.shelf.proofs.stage.slots_of.Tie as tie
-use Rattle.shelf.proofs.stage.slots_of.Reads as reads
-use Rattle.shelf.proofs.stage.slots_of.Lts as lts
+use Rattle.stages.proofs.stage.slots_of.Statement.{statement}
+use Rattle.stages.proofs.stage.slots_of.Tie as tie
+use Rattle.stages.proofs.stage.slots_of.Reads as reads
+use Rattle.stages.proofs.stage.slots_of.Lts as lts
 
 -- src/stage.rt:77:24
 enum-known-stage : tie.Need-enum-known-stage

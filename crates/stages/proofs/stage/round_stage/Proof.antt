@@ -1,8 +1,8 @@
 -- One test after the other.
 use borrow.Author.Tests.{eq-eqb, ne-eqb}
 use Rattle.stages.specs.Stage.{roundStage}
-use Rattle.shelf.proofs.stage.round_stage.Statement.{statement}
-use Rattle.shelf.proofs.stage.round_stage.Tie as tie
+use Rattle.stages.proofs.stage.round_stage.Statement.{statement}
+use Rattle.stages.proofs.stage.round_stage.Tie as tie
 
 returns : tie.Need-returns
 unfolding roundStage

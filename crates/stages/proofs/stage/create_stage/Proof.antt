@@ -1,9 +1,9 @@
 -- One test.
 use borrow.Author.Needs.{needs}
 use borrow.Author.Tests.{eq-eqb, ne-eqb}
 use Rattle.stages.specs.Stage.{createStage}
-use Rattle.shelf.proofs.stage.create_stage.Statement.{statement}
-use Rattle.shelf.proofs.stage.create_stage.Tie as tie
+use Rattle.stages.proofs.stage.create_stage.Statement.{statement}
+use Rattle.stages.proofs.stage.create_stage.Tie as tie
 
 returns : tie.Need-returns
 unfolding createStage

@@ -4,12 +4,12 @@ use native.Mathlib.Omega.{arith}
 use lib.ListN.{length, length-set, getD}
 use borrow.Author.Needs.{needs}
 use borrow.Author.Tests.{eq-eqb, ne-eqb}
 use Rattle.stages.specs.Stage.{beginStage}
-use Rattle.shelf.proofs.stage.begin_stage.Statement.{statement}
-use Rattle.shelf.proofs.stage.begin_stage.Tie as tie
-use Rattle.shelf.proofs.stage.begin_stage.Reads as reads
-use Rattle.shelf.proofs.stage.begin_stage.Lts as lts
-use Rattle.shelf.proofs.stage.last_stage.Reads as last-stage-reads
+use Rattle.stages.proofs.stage.begin_stage.Statement.{statement}
+use Rattle.stages.proofs.stage.begin_stage.Tie as tie
+use Rattle.stages.proofs.stage.begin_stage.Reads as reads
+use Rattle.stages.proofs.stage.begin_stage.Lts as lts
+use Rattle.stages.proofs.stage.last_stage.Reads as last-stage-reads
 
 -- src/stage.rt:240:9
 returns : tie.Need-returns

@@ -1,12 +1,13 @@
 // The stages of each request, one after the other: a stage goes over its slots in order.
-use stages::state::Kind;
-use stages::state::Marks;
-use stages::state::State;
+use crate::state::Kind;
+use crate::state::Marks;
+use crate::state::State;
 use label::fields::Label;
+use label::fields::MOST_GENERATION;
 ghost use mathlib.Core.Path.{_≡_};
 ghost use Prim.Native.Nat.{_≤_};
 ghost use Rattle.label.specs.Fields.{mostGeneration};
-ghost use Rattle.stages.specs.Stage.{again, roundStage, slotsOf, lateStage, startStage, createStage, writeStage, lastStage, beginStage, fillStage, stageOf};
+ghost use Rattle.stages.specs.Stage.{again, roundStage, slotsOf, lateStage, startStage, createStage, writeStage, lastStage, beginStage, fillStage, stageFor};
 
 // What is done to each of its slots: a flush; the label, or zeros over its sector; zeros over the record's tail; the strip
 // from the record; the record of the shard that is kept in the work area, and that shard itself; zeros over the whole record;
@@ -70,7 +71,7 @@ pub(crate) fn with_generation(l: Label, generation: u64) -> Label
 }
 
 // The slots of a stage.
-pub(crate) fn slots_of(stage: Stage) -> u64
+pub fn slots_of(stage: Stage) -> u64
     ensures { λ r. ⌜ r ≡ slotsOf stage ⌝ }
 {
     match stage {
@@ -290,11 +291,14 @@ fn fill_stage(s: State, i: usize) -> Stage
     round_stage(i - 2, marks.present, next)
 }
 
-// The stage at which the request is.
-pub(crate) fn stage_of(s: State) -> Stage
-    requires { ⌜ s .now .generation ≤ mostGeneration ⌝ }
-    ensures { λ r. ⌜ r ≡ stageOf s ⌝ }
+// The stage at which the request is; none where the label's generation is out of range.
+pub fn stage_of(s: State) -> Stage
+    ensures { λ r. ⌜ r ≡ stageFor s ⌝ }
 {
+    let now = s.now;
+    if MOST_GENERATION < now.generation {
+        return Stage::End;
+    }
     let kind = s.kind;
     let marks = s.marks;
     let next = s.next;

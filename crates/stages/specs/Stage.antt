@@ -2,13 +2,14 @@
 use mathlib.Core.Bool.{cond, not}
 use Prim.Native.Nat.{ℕ, _+_, _-_}
 use lib.Dec.{eqb, leb}
+use Rattle.label.specs.Fields.{mostGeneration}
 use Rattle.label.specs.declared.fields.Label.{Label}
 use Rattle.stages.specs.declared.state.State.{State}
 use Rattle.stages.specs.declared.state.Marks.{Marks}
 use Rattle.stages.specs.declared.state.Kind.{Kind}
 use Rattle.stages.specs.declared.state.Kind.the-variants.{Nothing, Idle, Creating, Starting, Labelling, Writing, Beginning, Filling}
 use Rattle.stages.specs.declared.stage.Stage.{Stage}
 use Rattle.stages.specs.declared.stage.Stage.the-variants.{Flush, Give, Wipe, Restore, Log, Store, Clear, Erase, Fill, End}
 
 -- the label with another generation
 abbrev pub again : Label → ℕ → Label
@@ -107,3 +108,7 @@ stageAt Filling s i = fillStage s i
 -- the stage at which the request is
 abbrev pub stageOf : State → Stage
 stageOf s = stageAt (s .kind) s (s .cursor .stage)
+
+-- what the code takes for it: none where the label's generation is out of range
+abbrev pub stageFor : State → Stage
+stageFor s = cond (leb (s .now .generation) mostGeneration) (stageOf s) End

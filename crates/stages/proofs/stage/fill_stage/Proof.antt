@@ -1,15 +1,15 @@
 use Rattle.stages.specs.Stage.{fillStage}
 use borrow.Author.Tests.{eq-eqb, ne-eqb}
 use Prim.Native.Nat.{ℕ, _≤_, _<_, _-_, _+_, _*_}
 use mathlib.Core.Path.{_≡_}
 use native.Mathlib.Omega.{arith}
 use lib.ListN.{length, length-set, getD}
 use borrow.Author.Needs.{needs}
-use Rattle.shelf.proofs.stage.fill_stage.Statement.{statement}
-use Rattle.shelf.proofs.stage.fill_stage.Tie as tie
-use Rattle.shelf.proofs.stage.fill_stage.Reads as reads
-use Rattle.shelf.proofs.stage.fill_stage.Lts as lts
-use Rattle.shelf.proofs.stage.round_stage.Reads as round-stage-reads
+use Rattle.stages.proofs.stage.fill_stage.Statement.{statement}
+use Rattle.stages.proofs.stage.fill_stage.Tie as tie
+use Rattle.stages.proofs.stage.fill_stage.Reads as reads
+use Rattle.stages.proofs.stage.fill_stage.Lts as lts
+use Rattle.stages.proofs.stage.round_stage.Reads as round-stage-reads
 
 -- src/stage.rt:281:9
 returns : tie.Need-returns

@@ -68,7 +68,7 @@ pub struct Stepped {
 }
 
 // The state with another cursor.
-pub(crate) fn at(s: State, stage: usize, slot: usize, sector: usize) -> State
+pub fn at(s: State, stage: usize, slot: usize, sector: usize) -> State
     ensures { λ r. ⌜ r ≡ moved s stage slot sector ⌝ }
 {
     let now = s.now;
@@ -92,7 +92,7 @@ pub(crate) fn at(s: State, stage: usize, slot: usize, sector: usize) -> State
 }
 
 // The state when the request is done: its label is settled.
-pub(crate) fn rest(s: State) -> State
+pub fn rest(s: State) -> State
     ensures { λ r. ⌜ r ≡ rested s ⌝ }
 {
     let next = s.next;

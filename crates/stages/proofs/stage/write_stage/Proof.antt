@@ -4,11 +4,11 @@ use native.Mathlib.Omega.{arith}
 use borrow.Author.Needs.{needs}
 use lib.ListN.{length, length-set, getD}
 use borrow.Author.Tests.{eq-eqb, ne-eqb, le-leb, lt-leb}
 use Rattle.stages.specs.Stage.{writeStage}
-use Rattle.shelf.proofs.stage.write_stage.Statement.{statement}
-use Rattle.shelf.proofs.stage.write_stage.Tie as tie
-use Rattle.shelf.proofs.stage.write_stage.Reads as reads
-use Rattle.shelf.proofs.stage.write_stage.Lts as lts
+use Rattle.stages.proofs.stage.write_stage.Statement.{statement}
+use Rattle.stages.proofs.stage.write_stage.Tie as tie
+use Rattle.stages.proofs.stage.write_stage.Reads as reads
+use Rattle.stages.proofs.stage.write_stage.Lts as lts
 
 -- src/stage.rt:190:9
 returns : tie.Need-returns

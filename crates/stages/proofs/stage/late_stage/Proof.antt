@@ -3,10 +3,10 @@ use borrow.Author.Needs.{needs}
 use borrow.Author.Tests.{eq-eqb, ne-eqb, le-leb, lt-leb}
 use mathlib.Core.Path.{ap}
 use Rattle.label.specs.declared.fields.Label.{Label}
 use Rattle.stages.specs.Stage.{lateStage}
 use Rattle.stages.specs.declared.stage.Stage.the-variants.{Give}
-use Rattle.shelf.proofs.stage.late_stage.Statement.{statement}
-use Rattle.shelf.proofs.stage.late_stage.Tie as tie
+use Rattle.stages.proofs.stage.late_stage.Statement.{statement}
+use Rattle.stages.proofs.stage.late_stage.Tie as tie
 
 add-with-generation : tie.Need-add-with-generation
 add-with-generation c = search needs

@@ -4,9 +4,9 @@ use borrow.Author.Tests.{eq-eqb, ne-eqb, le-leb, lt-leb}
 use mathlib.Core.Path.{ap, _∙_}
 use Prim.Native.Nat.{_-_}
 use Rattle.label.specs.declared.fields.Label.{Label}
 use Rattle.stages.specs.Stage.{startStage, roundStage}
-use Rattle.shelf.proofs.stage.start_stage.Statement.{statement}
-use Rattle.shelf.proofs.stage.start_stage.Tie as tie
+use Rattle.stages.proofs.stage.start_stage.Statement.{statement}
+use Rattle.stages.proofs.stage.start_stage.Tie as tie
 
 returns : tie.Need-returns
 unfolding startStage
