@@ -1,0 +1,4 @@
+-- No answer depends on what the absent slots hold.
+pub mod Alike
+pub mod Shown
+pub mod Start
