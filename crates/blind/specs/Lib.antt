@@ -2,3 +2,5 @@
 pub mod Alike
 pub mod Shown
 pub mod Start
+pub mod Create
+pub mod Rebuild
