@@ -4,3 +4,5 @@ pub mod Shown
 pub mod Start
 pub mod Create
 pub mod Rebuild
+pub mod Blocks
+pub mod Scrubs

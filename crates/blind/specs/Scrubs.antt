@@ -1,0 +1,107 @@
+-- SCRUB AND REPAIR, as the crate scrubs has them, on images that are alike. They look at all slots, and only where none is absent.
+-- Assumes nothing.
+use mathlib.Core.Path.{_≡_, refl, sym, ap, subst, _∙_}
+use mathlib.Core.Bool.{Bool, true, false, cond, _&&_, _||_, true≢false}
+use mathlib.Core.List.{List, []}
+use Prim.Native.Nat.{ℕ, _+_, _*_, _<_}
+use native.Mathlib.Omega.{arith}
+use lib.Dec.{ltb, eqb, lit<}
+use lib.ListN.{length, take}
+use borrow.Author.Tests.{eqb-true}
+use Rattle.code.specs.Stripes.{Says, Repaired}
+use Rattle.code.specs.declared.Verdict.{Verdict}
+use Rattle.disk.specs.Limits.{sectorBytes}
+use Rattle.disk.specs.Tests.{and-right}
+use Rattle.disk.specs.Geometry.{stripesOf}
+use Rattle.disk.specs.Mask.{inMask, mask-below, in-past}
+use Rattle.disk.specs.declared.geometry.Geometry.{Geometry}
+use Rattle.disk.specs.declared.refusal.Outcome.{Outcome}
+use Rattle.disk.specs.declared.refusal.Outcome.the-variants.{Done, Refused}
+use Rattle.label.specs.Fields.{geometryOf, fitsOf}
+use Rattle.label.proofs.Fits.{fits-says}
+use Rattle.label.specs.declared.fields.Label.{Label}
+use Rattle.requests.specs.Begun.{begun, first}
+use Rattle.requests.specs.Ready.{isIdle, readyOf}
+use Rattle.requests.specs.declared.begun.Begun.{Begun}
+use Rattle.shelf.specs.declared.state.State.{State}
+use Rattle.strips.specs.Seen.{rowSeen}
+use Rattle.strips.specs.Whole.{stripeSeen}
+use Rattle.strips.specs.declared.whole.Scrubbed.{Scrubbed}
+use Rattle.strips.specs.declared.whole.Scrubbed.the-variants as scrubbed
+use Rattle.scrubs.specs.Slots.{missingAt, missing, tooFew, noneMissing, allSlots}
+use Rattle.scrubs.specs.Answers.{serves, lookAnswer, stripeAnswer, first-done, answered-done}
+use Rattle.scrubs.specs.Laid.{laidOver}
+use Rattle.scrubs.specs.Scrub.{sizedOf, halfOf, scrubAnswer, SaysOf, ScrubbedBy, scrub-done}
+use Rattle.scrubs.specs.Repair.{stampLeft, mayRepair, mendAnswer, mended, Repairs, may-done}
+use Rattle.blind.specs.Alike.{Alike}
+use Rattle.blind.specs.Shown.{row-alike}
+use Rattle.blind.specs.Start.{ready-alike}
+
+-- with no slot missing none is absent
+none-absent : (l : Label) (absent : ℕ) → noneMissing l absent ≡ true → (d : ℕ) → d < l .k + l .m → inMask absent d ≡ false
+unfolding noneMissing missing missingAt
+none-absent l absent e d hd =
+    no (inMask (l .out) d) (inMask absent d)
+    (sym (mask-below (missingAt (l .out) absent) (l .k + l .m) d hd) ∙ ap (λ (m : ℕ). inMask m d) (eqb-true (missing l absent) 0 e) ∙ in-past 0 0 d (lit< tt) (omega arith))
+  where
+    no : (a b : Bool) → (a || b) ≡ false → b ≡ false
+    no true b q = absurd (true≢false q)
+    no false b q = q
+
+-- a stripe that is scrubbed or repaired makes sense only with no slot missing
+stripe-whole : (l : Label) (absent : ℕ) (idle more sized : Bool) (t : ℕ) → stripeAnswer l absent idle (more && noneMissing l absent) sized t ≡ Done → noneMissing l absent ≡ true
+unfolding stripeAnswer
+stripe-whole l absent idle more sized t e =
+    and-right more (noneMissing l absent) (answered-done (tooFew l absent) (ltb t (stripesOf (geometryOf l))) idle (more && noneMissing l absent) sized e .makes-sense)
+
+module _ (s : State) (t : ℕ) (work x y : List ℕ) (h : Alike (geometryOf (s .now)) (s .absent) x y) where
+  abbrev l : Label
+  l = s .now
+
+  abbrev g : Geometry
+  g = geometryOf (s .now)
+
+  abbrev slots : ℕ
+  slots = allSlots (s .now .k + s .now .m)
+
+  whole-alike : fitsOf (s .now) ≡ true → t < stripesOf (geometryOf (s .now)) → noneMissing (s .now) (s .absent) ≡ true → (over : ℕ) (kept : List ℕ)
+      → rowSeen g x slots over kept t 0 (s .now .c) ≡ rowSeen g y slots over kept t 0 (s .now .c)
+  whole-alike f ht none over kept = row-alike g (s .absent) x y h (fits-says l f .range) slots (λ d hd e. none-absent l (s .absent) none d hd) t ht over kept
+
+  -- A SCRUB may say of the one image what it may say of the other
+  pub scrubs-blind : (r : Scrubbed)
+      → ScrubbedBy (scrubAnswer (s .now) (s .kind) (s .absent) t (length x) (length work)) (SaysOf (s .now) (laidOver s t) x work t) r
+      → ScrubbedBy (scrubAnswer (s .now) (s .kind) (s .absent) t (length y) (length work)) (SaysOf (s .now) (laidOver s t) y work t) r
+  scrubs-blind (scrubbed.Found v) p =
+      let u = scrub-done l (s .kind) (s .absent) t x (length work) (p .0) .0 in
+      let sense : Bool = serves (s .kind) && noneMissing l (s .absent) in
+      let w = first-done (lookAnswer l (s .kind) (length x)) (stripeAnswer l (s .absent) true sense (sizedOf l (length work)) t) (p .0) in
+      let none = stripe-whole l (s .absent) true (serves (s .kind)) (sizedOf l (length work)) t (w .1) in (
+        ap (λ (n : ℕ). scrubAnswer l (s .kind) (s .absent) t n (length work)) (sym (h .lengths)) ∙ p .0,
+        subst (λ (row : List ℕ). Says (l .k) (l .m) (l .c * sectorBytes) row v) (whole-alike (u .fits) (u .stripe) none (laidOver s t) (take (halfOf l) work)) (p .1),
+      )
+  scrubs-blind (scrubbed.Refused why) p = ap (λ (n : ℕ). scrubAnswer (s .now) (s .kind) (s .absent) t n (length work)) (sym (h .lengths)) ∙ p
+
+  may-same : mayRepair (s .now) (s .kind) (s .absent) (s .count) t x ≡ mayRepair (s .now) (s .kind) (s .absent) (s .count) t y
+  may-same = ap (λ (o : Outcome). first o (stripeAnswer l (s .absent) (isIdle (s .kind)) (stampLeft (s .count) && noneMissing l (s .absent)) true t)) (ready-alike s x y h)
+
+  repair-row : mayRepair (s .now) (s .kind) (s .absent) (s .count) t x ≡ Done → stripeSeen g x slots t ≡ stripeSeen g y slots t
+  repair-row e =
+      let u = may-done s x t e .lies in
+      let sense : Bool = stampLeft (s .count) && noneMissing l (s .absent) in
+      let w = first-done (readyOf l (s .kind) (s .absent) x) (stripeAnswer l (s .absent) (isIdle (s .kind)) sense true t) e in
+      whole-alike (u .fits) (u .stripe) (stripe-whole l (s .absent) (isIdle (s .kind)) (stampLeft (s .count)) true t (w .1)) 0 []
+
+  -- A REPAIR: what it may answer, hand out and leave in the work area on the one image it may on the other
+  pub repair-blind : (b : Begun) (after : List ℕ) → Repairs s t x work b after → Repairs s t y work b after
+  repair-blind b after r =
+      record {
+        found = r .found;
+        stripe = r .stripe;
+        repaired =
+            λ e. let f = may-same ∙ e in
+            let p = r .repaired f in
+            (subst (λ (row : List ℕ). Repaired (l .k) (l .m) (l .c * sectorBytes) (r .found) row (r .stripe)) (repair-row f) (p .0), p .1);
+        answers = r .answers ∙ ap (λ (o : Outcome). begun (first o (mendAnswer (r .found) (s .now) (length work))) s (mended s t (r .found))) may-same;
+        left = r .left;
+      }
