@@ -6,3 +6,4 @@ pub mod Create
 pub mod Rebuild
 pub mod Blocks
 pub mod Scrubs
+pub mod Own
