@@ -7,3 +7,5 @@ pub mod Rebuild
 pub mod Blocks
 pub mod Scrubs
 pub mod Own
+pub mod Calls
+pub mod Agree
