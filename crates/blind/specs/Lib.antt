@@ -9,3 +9,5 @@ pub mod Scrubs
 pub mod Own
 pub mod Calls
 pub mod Agree
+pub mod Small
+pub mod Once
