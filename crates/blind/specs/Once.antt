@@ -191,3 +191,163 @@ write-once Done s block bytes img work e small t u x y v w bx by =
       sym (take-append-drop H x) ∙ ap₂ (λ (a b : List ℕ). a ++ b) (p .1) (v .prepared .rest ∙ sym (w .prepared .rest)) ∙ take-append-drop H y,
     )
 write-once (Refused why) s block bytes img work e small t u x y v w bx by = (v .0 ∙ sym (w .0), v .1 ∙ sym (w .1))
+
+-- ---- scrubs
+
+not-done : (why : Refusal) → Refused why ≡ Done → ⊥
+not-done why e = let z : _≡_ {A = ℕ} 0 1 = cc in omega arith
+
+-- the refusal of a scrub that is refused
+refused-once : (x y : Refusal) → Refused x ≡ Refused y → scrubbed.Refused x ≡ scrubbed.Refused y
+refused-once x y e = cc
+
+-- WHAT A SCRUB FINDS
+pub scrub-once : (s : State) (t over : ℕ) (img work : List ℕ) → AllBytes img → AllBytes work → (x y : Scrubbed)
+    → blocks-scrub.ScrubbedBy (blocks-scrub.scrubAnswer (s .now) (s .kind) (s .absent) t (length img) (length work)) (blocks-scrub.SaysOf (s .now) (s .absent) over img work t) x
+    → blocks-scrub.ScrubbedBy (blocks-scrub.scrubAnswer (s .now) (s .kind) (s .absent) t (length img) (length work)) (blocks-scrub.SaysOf (s .now) (s .absent) over img work t) y
+    → x ≡ y
+unfolding halfOf
+scrub-once s t over img work small sw (scrubbed.Found v) (scrubbed.Found w) h e =
+    let l : Label = s .now in
+    let g : Geometry = geometryOf l in
+    let len : ℕ = l .c * sectorBytes in
+    let f = fits-says l (blocks-scrub.scrub-done l (s .kind) (s .absent) t img work (h .0) .fits) in
+    let kept : List ℕ = take ((l .k + l .m) * (l .c * sectorBytes)) work in
+    let row : List ℕ = rowSeen g img (there g l (s .absent) t) over kept t 0 (l .c) in
+    let fits : shapedOf (l .k) (l .k + l .m - l .k) len (length row) ≡ true =
+    row-shaped (l .k + l .m) (l .k) len (length row) (f .split) (omega (arith, f .range .some)) (omega (arith, f .range .short)) (row-bytes g img (there g l (s .absent) t) over kept t 0 (l .c)) in
+    ap scrubbed.Found (says-once (l .k) (l .k + l .m - l .k) len row fits
+    (small-seen g img (there g l (s .absent) t) over kept t 0 (l .c) small (small-take ((l .k + l .m) * (l .c * sectorBytes)) work sw)) v w (h .1) (e .1))
+scrub-once s t over img work small sw (scrubbed.Found v) (scrubbed.Refused y) h e = absurd (not-done y (sym e ∙ h .0))
+scrub-once s t over img work small sw (scrubbed.Refused x) (scrubbed.Found w) h e = absurd (not-done x (sym h ∙ e .0))
+scrub-once s t over img work small sw (scrubbed.Refused x) (scrubbed.Refused y) h e = refused-once x y (sym h ∙ e)
+
+-- a stripe of the shelf, all its slots there
+module _ (l : Label) (img : List ℕ) (t over : ℕ) (kept : List ℕ) (fits : fitsOf l ≡ true) (small : AllBytes img) (sk : AllBytes kept) where
+  abbrev row : List ℕ
+  row = rowSeen (geometryOf l) img (allSlots (l .k + l .m)) over kept t 0 (l .c)
+
+  row-small : AllBytes row
+  row-small = small-seen (geometryOf l) img (allSlots (l .k + l .m)) over kept t 0 (l .c) small sk
+
+  row-whole : length row ≡ (l .k + l .m) * (l .c * sectorBytes)
+  row-whole = row-bytes (geometryOf l) img (allSlots (l .k + l .m)) over kept t 0 (l .c)
+
+  row-fits : shapedOf (l .k) (l .m) (l .c * sectorBytes) (length row) ≡ true
+  row-fits =
+      let f = fits-says l fits in
+      let e : l .k + l .m - l .k ≡ l .m = omega arith in
+      subst (λ (m : ℕ). shapedOf (l .k) m (l .c * sectorBytes) (length row) ≡ true) e
+      (row-shaped (l .k + l .m) (l .k) (l .c * sectorBytes) (length row) (f .split) (omega (arith, f .range .some)) (omega (arith, f .range .short)) row-whole)
+
+  row-says : (v w : Verdict) → Says (l .k) (l .m) (l .c * sectorBytes) row v → Says (l .k) (l .m) (l .c * sectorBytes) row w → v ≡ w
+  row-says v w = says-once (l .k) (l .m) (l .c * sectorBytes) row row-fits row-small v w
+
+-- the same of the crate scrubs
+pub look-once : (s : State) (t over : ℕ) (img work : List ℕ) → AllBytes img → AllBytes work → (x y : Scrubbed)
+    → scrubs-scrub.ScrubbedBy (scrubs-scrub.scrubAnswer (s .now) (s .kind) (s .absent) t (length img) (length work)) (scrubs-scrub.SaysOf (s .now) over img work t) x
+    → scrubs-scrub.ScrubbedBy (scrubs-scrub.scrubAnswer (s .now) (s .kind) (s .absent) t (length img) (length work)) (scrubs-scrub.SaysOf (s .now) over img work t) y
+    → x ≡ y
+look-once s t over img work small sw (scrubbed.Found v) (scrubbed.Found w) h e =
+    let l : Label = s .now in
+    let kept : List ℕ = take (scrubs-scrub.halfOf l) work in
+    ap scrubbed.Found (row-says l img t over kept (scrubs-scrub.scrub-done l (s .kind) (s .absent) t img (length work) (h .0) .0 .fits) small (small-take (scrubs-scrub.halfOf l) work sw)
+    v w (h .1) (e .1))
+look-once s t over img work small sw (scrubbed.Found v) (scrubbed.Refused y) h e = absurd (not-done y (sym e ∙ h .0))
+look-once s t over img work small sw (scrubbed.Refused x) (scrubbed.Found w) h e = absurd (not-done x (sym h ∙ e .0))
+look-once s t over img work small sw (scrubbed.Refused x) (scrubbed.Refused y) h e = refused-once x y (sym h ∙ e)
+
+-- ---- repair
+
+-- WHAT A REPAIR ANSWERS, HANDS OUT AND LEAVES
+module _ (s : State) (t : ℕ) (img work : List ℕ) (small : AllBytes img) (b c : Begun) (x y : List ℕ) (v : Repairs s t img work b x) (w : Repairs s t img work c y)
+    (bx : AllBytes x) (by : AllBytes y) where
+  abbrev l : Label
+  l = s .now
+
+  abbrev may : Outcome
+  may = mayRepair (s .now) (s .kind) (s .absent) (s .count) t img
+
+  left-x : (o : Outcome) → b .outcome ≡ o → x ≡ leaves o l (v .stripe) work
+  left-x o e = v .left ∙ ap (λ (p : Outcome). leaves p l (v .stripe) work) e
+
+  left-y : (o : Outcome) → c .outcome ≡ o → y ≡ leaves o l (w .stripe) work
+  left-y o e = w .left ∙ ap (λ (p : Outcome). leaves p l (w .stripe) work) e
+
+  begun-outcome : (o : Outcome) (p q : State) → begun o p q .outcome ≡ o
+  begun-outcome Done p q = refl
+  begun-outcome (Refused why) p q = refl
+
+  -- refused before the stripe is looked at
+  pub turned-away : (why : Refusal) → may ≡ Refused why → (b ≡ c) × (x ≡ y)
+  turned-away why e =
+      let at : (f : Verdict) → begun (first may (mendAnswer f l (length work))) s (mended s t f) ≡ begun (Refused why) s s =
+      λ f. ap (λ (o : Outcome). begun (first o (mendAnswer f l (length work))) s (mended s t f)) e in
+      let p = v .answers ∙ at (v .found) in
+      let q = w .answers ∙ at (w .found) in
+      (p ∙ sym q, left-x (Refused why) (ap (λ (z : Begun). z .outcome) p) ∙ sym (left-y (Refused why) (ap (λ (z : Begun). z .outcome) q)))
+
+  module _ (done : may ≡ Done) where
+    fits : fitsOf l ≡ true
+    fits = may-done s img t done .lies .fits
+
+    empty-small : AllBytes []
+    empty-small i = lit< tt
+
+    found-once : v .found ≡ w .found
+    found-once = row-says l img t 0 [] fits small empty-small (v .found) (w .found) (v .repaired done .0 .says) (w .repaired done .0 .says)
+
+    outcome-x : b .outcome ≡ mendAnswer (v .found) l (length work)
+    outcome-x =
+        ap (λ (z : Begun). z .outcome) (v .answers) ∙ begun-outcome (first may (mendAnswer (v .found) l (length work))) s (mended s t (v .found))
+        ∙ ap (λ (o : Outcome). first o (mendAnswer (v .found) l (length work))) done
+
+    outcome-y : c .outcome ≡ mendAnswer (w .found) l (length work)
+    outcome-y =
+        ap (λ (z : Begun). z .outcome) (w .answers) ∙ begun-outcome (first may (mendAnswer (w .found) l (length work))) s (mended s t (w .found))
+        ∙ ap (λ (o : Outcome). first o (mendAnswer (w .found) l (length work))) done
+
+    -- the mended stripe, where a shard is accused
+    stripe-once : (r : ℕ) → v .found ≡ verdict.Accused r → w .found ≡ verdict.Accused r → AllBytes (v .stripe) → AllBytes (w .stripe) → v .stripe ≡ w .stripe
+    unfolding scrubs-scrub.halfOf
+    stripe-once r e f sx sy =
+        let len : ℕ = l .c * sectorBytes in
+        let before : List ℕ = stripeSeen (geometryOf l) img (allSlots (l .k + l .m)) t in
+        let p = subst (λ (z : Verdict). Repaired (l .k) (l .m) len z before (v .stripe)) e (v .repaired done .0) in
+        let q = subst (λ (z : Verdict). Repaired (l .k) (l .m) len z before (w .stripe)) f (w .repaired done .0) in
+        let a = repaired-only (l .k) (l .m) len before (row-fits l img t 0 [] fits small empty-small) (row-small l img t 0 [] fits small empty-small) r (v .stripe) (w .stripe) p sx sy
+        (q .mends .2) (q .mends .1) in
+        shards-same (l .k + l .m) len (v .stripe) (w .stripe) (omega (arith, fits-says l fits .range .some)) (v .repaired done .1) (w .repaired done .1) (λ i j hi hj. a i hi refl j hj)
+
+    -- one refusal
+    both-refused : (why : Refusal) → b .outcome ≡ Refused why → c .outcome ≡ Refused why → x ≡ y
+    both-refused why e f = left-x (Refused why) e ∙ sym (left-y (Refused why) f)
+
+    by-size : (o : Outcome) (r : ℕ) → v .found ≡ verdict.Accused r → w .found ≡ verdict.Accused r → b .outcome ≡ o → c .outcome ≡ o → x ≡ y
+    by-size Done r e f p q =
+        let ex = left-x Done p in
+        let ey = left-y Done q in
+        let rest : List ℕ = drop (scrubs-scrub.halfOf l) work in
+        let sx = small-front (v .stripe) rest (subst AllBytes ex bx) in
+        let sy = small-front (w .stripe) rest (subst AllBytes ey by) in
+        ex ∙ ap (λ (z : List ℕ). z ++ rest) (stripe-once r e f sx sy) ∙ sym ey
+    by-size (Refused why) r e f p q = both-refused why p q
+
+    by-found : (f : Verdict) → v .found ≡ f → w .found ≡ f → b .outcome ≡ mendAnswer f l (length work) → c .outcome ≡ mendAnswer f l (length work) → x ≡ y
+    by-found (verdict.Accused r) e f p q = by-size (sizedAnswer l (length work)) r e f p q
+    by-found verdict.Sound e f p q = both-refused NotNow p q
+    by-found verdict.Unsound e f p q = both-refused NotNow p q
+    by-found (verdict.Refused z) e f p q = both-refused NotNow p q
+
+    pub taken-up : (b ≡ c) × (x ≡ y)
+    taken-up = (
+      v .answers ∙ ap (λ (f : Verdict). begun (first may (mendAnswer f l (length work))) s (mended s t f)) found-once ∙ sym (w .answers),
+      by-found (w .found) found-once refl (outcome-x ∙ ap (λ (f : Verdict). mendAnswer f l (length work)) found-once) outcome-y,
+    )
+
+  pub repair-once : (b ≡ c) × (x ≡ y)
+  repair-once = go may refl
+    where
+      go : (o : Outcome) → may ≡ o → (b ≡ c) × (x ≡ y)
+      go Done e = taken-up e
+      go (Refused why) e = turned-away why e
