@@ -45,7 +45,7 @@ use Rattle.blind.specs.Rebuild.{begin-blind, on-blind}
 use Rattle.blind.specs.Blocks.{read-same, read-blind, write-same, write-blind, scrub-blind}
 use Rattle.blind.specs.Scrubs.{scrubs-blind, repair-blind}
 use Rattle.blind.specs.Own.{Own, step-own}
-use Rattle.blind.specs.Calls.{Call, create, start, take-out, begin, rebuild-on, step, status, read, write, scrub, look-over, repair, anew, Said, began, did, gave, Reply, reply, Begins, Makes, shelfOf, hidden}
+use Rattle.blind.specs.Calls.{Call, create, start, take-out, begin, rebuild-on, step, status, read, write, scrub, look-over, repair, began, did, gave, Reply, reply, Begins, Makes, shelfOf, hidden}
 
 -- ---- whose the state is that a request hands out: as it was, or of the shelf that the request looked at
 
@@ -251,12 +251,4 @@ call-blind (repair t) s work a b w h r left p =
       both =
           subst (λ (z : List ℕ). Both (r .state) z b) (sym (p .1))
           (both-handed s (geometryOf (s .now)) (s .absent) (r .state) a b (repair-handed s t a work x (r .work) (p .0 .2)) w h);
-    }
-call-blind (anew s' work') s work a b w h r left p =
-    record {
-      after = b;
-      makes = (p .0, p .1, refl);
-      both =
-          subst (λ (z : List ℕ). Both (r .state) z b) (sym (p .2))
-          (subst (λ (z : State). Both z a b) (sym (ap (λ (z : Reply). z .state) (p .0))) (record { own = p .1; alike = h }));
     }

@@ -23,6 +23,12 @@ pub record Alike (g : Geometry) (absent : ℕ) (a b : List ℕ) : Type 0 where
 pub alike-under : (g : Geometry) (few many : ℕ) (a b : List ℕ) → ((d : ℕ) → inMask many d ≡ false → inMask few d ≡ false) → Alike g few a b → Alike g many a b
 alike-under g few many a b e h = record { lengths = h .lengths; sectors = λ d s hd hs p. h .sectors d s hd hs (e d p) }
 
+pub alike-back : (g : Geometry) (absent : ℕ) (a b : List ℕ) → Alike g absent a b → Alike g absent b a
+alike-back g absent a b h = record { lengths = sym (h .lengths); sectors = λ d s hd hs p. sym (h .sectors d s hd hs p) }
+
+pub alike-through : (g : Geometry) (absent : ℕ) (a b c : List ℕ) → Alike g absent a b → Alike g absent b c → Alike g absent a c
+alike-through g absent a b c h k = record { lengths = h .lengths ∙ k .lengths; sectors = λ d s hd hs p. h .sectors d s hd hs p ∙ k .sectors d s hd hs p }
+
 module _ (g : Geometry) (absent : ℕ) (a b : List ℕ) (h : Alike g absent a b) where
   pub fits-alike : fitsImage g (length a) ≡ fitsImage g (length b)
   fits-alike = ap (fitsImage g) (h .lengths)

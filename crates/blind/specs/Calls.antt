@@ -25,10 +25,8 @@ use Rattle.scrubs.specs.Laid as scrubs
 use Rattle.scrubs.specs.Scrub as scrubs-scrub
 use Rattle.scrubs.specs.Repair.{Repairs}
 use Rattle.blind.specs.Create.{newShelf}
-use Rattle.blind.specs.Own.{Own}
 
--- what is asked. `room`: how long the work area is said to be. `scrub` is that of the crate blocks, `look-over` that of the crate scrubs.
--- `anew` is no function: the caller goes on with another state and work area, as after a power cut
+-- what is asked. `room`: how long the work area is said to be. `scrub` is that of the crate blocks, `look-over` that of the crate scrubs
 pub data Call : Type 0 where
   create : (k m c S shelf room : ℕ) → Call
   start : (g : Geometry) (absent room : ℕ) → Call
@@ -42,7 +40,6 @@ pub data Call : Type 0 where
   scrub : (t : ℕ) → Call
   look-over : (t : ℕ) → Call
   repair : (t : ℕ) → Call
-  anew : (s : State) (work : List ℕ) → Call
 
 -- what is answered: whether a request is accepted; what a step did; whether, and what, the buffer then holds; what a scrub found
 pub data Said : Type 0 where
@@ -50,7 +47,6 @@ pub data Said : Type 0 where
   did : Answer → Said
   gave : Outcome → List ℕ → Said
   found : Scrubbed → Said
-  nothing : Said
 
 -- all that the caller gets: the answer, the state, the work area
 pub record Reply : Type 0 where
@@ -90,7 +86,6 @@ Makes (look-over t) s work img r after =
     ((v : Scrubbed) × (r ≡ reply (found v) s work) × scrubs-scrub.ScrubbedBy o (scrubs-scrub.SaysOf (s .now) (scrubs.laidOver s t) img work t) v) × (after ≡ img)
 Makes (repair t) s work img r after =
     ((o : Outcome) × (r .said ≡ began o) × Repairs s t img work (record { state = r .state; outcome = o }) (r .work)) × (after ≡ img)
-Makes (anew s' work') s work img r after = (r ≡ reply nothing s' work') × Own (geometryOf (s' .now)) (s' .absent) s' × (after ≡ img)
 
 -- ---- what a call looks at
 
@@ -108,7 +103,6 @@ shelfOf (write block bytes) s = geometryOf (s .now)
 shelfOf (scrub t) s = geometryOf (s .now)
 shelfOf (look-over t) s = geometryOf (s .now)
 shelfOf (repair t) s = geometryOf (s .now)
-shelfOf (anew s' work) s = geometryOf (s' .now)
 
 -- the slots that count as absent: with create none; with start-up those that it is told; with begin the state's but its own slot, whose
 -- disk it looks at; else the state's
@@ -125,4 +119,3 @@ hidden (write block bytes) s = s .absent
 hidden (scrub t) s = s .absent
 hidden (look-over t) s = s .absent
 hidden (repair t) s = s .absent
-hidden (anew s' work) s = s' .absent

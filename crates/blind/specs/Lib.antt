@@ -11,3 +11,5 @@ pub mod Calls
 pub mod Agree
 pub mod Small
 pub mod Once
+pub mod Single
+pub mod Runs
