@@ -6,11 +6,12 @@ use mathlib.Core.List.{List, []}
 use Prim.Native.Nat.{ℕ, _+_, _*_, _≤_, _<_, _/_, _%_}
 use native.Mathlib.Nat.{div-add-mod', div-lt-iff-lt-mul, mod-lt}
 use native.Mathlib.Omega.{arith}
+use lib.Dec.{lit<}
 use lib.ListN.{length, getD, take, drop}
 use lib.Seq.{getD-take, getD-drop, ext-getD}
 use Rattle.disk.specs.Limits.{sectorBytes}
 use Rattle.disk.specs.Geometry.{stripesOf, stripOf, InRange, strip-inside}
-use Rattle.disk.specs.Mask.{inMask}
+use Rattle.disk.specs.Mask.{inMask, in-past}
 use Rattle.disk.specs.Image.{place, sector, fitsImage, onShelf, readOf, Shape, fits-image, on-shelf}
 use Rattle.disk.specs.declared.geometry.Geometry.{Geometry}
 use Rattle.strips.specs.Seen.{shardBytes}
@@ -18,6 +19,10 @@ use Rattle.strips.specs.Seen.{shardBytes}
 pub record Alike (g : Geometry) (absent : ℕ) (a b : List ℕ) : Type 0 where
   pub lengths : length a ≡ length b
   pub sectors : (d s : ℕ) → d < g .n → s < g .sectors → inMask absent d ≡ false → sector (g .sectors) a d s ≡ sector (g .sectors) b d s
+
+-- no slot is in the empty mask
+pub in-none : (d : ℕ) → inMask 0 d ≡ false
+in-none d = in-past 0 0 d (lit< tt) (omega arith)
 
 -- with more slots absent less is asked
 pub alike-under : (g : Geometry) (few many : ℕ) (a b : List ℕ) → ((d : ℕ) → inMask many d ≡ false → inMask few d ≡ false) → Alike g few a b → Alike g many a b

@@ -1,14 +1,11 @@
 -- READ, WRITE AND SCRUB on images that are alike. Assumes nothing.
 use mathlib.Core.Path.{_≡_, refl, sym, ap, subst, _∙_}
-use mathlib.Core.Bool.{true, _&&_}
 use mathlib.Core.List.{List, []}
-use Prim.Native.Nat.{ℕ, _+_, _-_, _*_, _<_, _/_, _%_}
+use Prim.Native.Nat.{ℕ, _+_, _-_, _*_, _/_, _%_}
 use native.Mathlib.Omega.{arith}
 use lib.ListN.{length}
 use Rattle.code.specs.Stripes.{Says}
-use Rattle.code.specs.declared.Verdict.{Verdict}
 use Rattle.disk.specs.Limits.{sectorBytes}
-use Rattle.disk.specs.Geometry.{stripesOf, InRange}
 use Rattle.disk.specs.declared.geometry.Geometry.{Geometry}
 use Rattle.disk.specs.declared.refusal.Outcome.{Outcome}
 use Rattle.disk.specs.declared.refusal.Outcome.the-variants.{Done, Refused}
@@ -18,15 +15,15 @@ use Rattle.label.specs.declared.fields.Label.{Label}
 use Rattle.requests.specs.Begun.{first}
 use Rattle.requests.specs.Ready.{isIdle}
 use Rattle.shelf.specs.declared.state.State.{State}
-use Rattle.strips.specs.Seen.{shardBytes, shownByte, rowSeen}
+use Rattle.strips.specs.Seen.{shardBytes, shownByte}
 use Rattle.strips.specs.Laws.{listed-ext}
-use Rattle.strips.specs.Whole.{stripeSeen, Restored, PreparedBy}
+use Rattle.strips.specs.Whole.{stripeSeen, Restored}
 use Rattle.strips.specs.declared.whole.Scrubbed.{Scrubbed}
 use Rattle.strips.specs.declared.whole.Scrubbed.the-variants as scrubbed
 use Rattle.blocks.specs.Slots.{there}
 use Rattle.blocks.specs.Answers.{blockAnswer}
 use Rattle.blocks.specs.Read.{laidOver, blockShown, halfOf, shownOf, readAnswer, afterRead, Shows, shows-block, read-done}
-use Rattle.blocks.specs.Write.{stampLeft, writeAnswer, PreparedIn, Written, AfterWrite, write-done}
+use Rattle.blocks.specs.Write.{stampLeft, writeAnswer, AfterWrite, write-done}
 use Rattle.blocks.specs.Scrub.{scrubAnswer, SaysOf, ScrubbedBy, scrub-done}
 use Rattle.blind.specs.Alike.{Alike}
 use Rattle.blind.specs.Shown.{there-dark, row-alike, shown-alike}

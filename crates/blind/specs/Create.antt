@@ -3,11 +3,9 @@ use mathlib.Core.Path.{_≡_, refl, sym, ap, subst, _∙_}
 use mathlib.Core.Bool.{Bool, true, false, cond, _&&_}
 use mathlib.Core.List.{List}
 use Prim.Native.Nat.{ℕ, _+_}
-use native.Mathlib.Omega.{arith}
-use lib.Dec.{eqb, lit<}
+use lib.Dec.{eqb}
 use lib.ListN.{length}
 use Rattle.disk.specs.Tests.{and-right}
-use Rattle.disk.specs.Mask.{inMask, in-past}
 use Rattle.disk.specs.Image.{fitsImage}
 use Rattle.disk.specs.declared.geometry.Geometry.{Geometry}
 use Rattle.disk.specs.declared.refusal.Refusal.the-variants.{BadImage, NotNow, BadBuffer}
@@ -22,14 +20,11 @@ use Rattle.shelf.specs.declared.state.State.{State}
 use Rattle.requests.specs.Begun.{workBytes, begun}
 use Rattle.requests.specs.Create.{shardsFit, shelfFits, createAnswer, created, createOf}
 use Rattle.requests.specs.Step.{otherWork, stepWith}
-use Rattle.blind.specs.Alike.{Alike, alike-same}
+use Rattle.blind.specs.Alike.{Alike, in-none, alike-same}
 
 -- the geometry that create is given
 abbrev pub newShelf : ℕ → ℕ → ℕ → ℕ → Geometry
 newShelf k m c S = record { n = k + m; c = c; sectors = S }
-
-none-absent : (d : ℕ) → inMask 0 d ≡ false
-none-absent d = in-past 0 0 d (lit< tt) (omega arith)
 
 pub create-blind : (s : State) (k m c S shelf room : ℕ) (x y : List ℕ) → Alike (newShelf k m c S) 0 x y → createOf s k m c S shelf x room ≡ createOf s k m c S shelf y room
 unfolding createAnswer shelfFits
@@ -47,7 +42,7 @@ create-blind s k m c S shelf room x y h =
         opened q = q
 
     by : (b : Bool) → shelfFits k m c S (length x) ≡ b → answer b x ≡ answer b y
-    by true e = ap (answer true) (alike-same (newShelf k m c S) 0 x y h (fits e) none-absent)
+    by true e = ap (answer true) (alike-same (newShelf k m c S) 0 x y h (fits e) in-none)
     by false e = refl
 
 -- A STEP answers the same, hands out the same state, and leaves the images alike

@@ -12,14 +12,14 @@ use lib.ListN.{length, getD, take, drop, take-append-drop, List·getD-eq-default
 use lib.Seq.{getD-take, getD-drop}
 use borrow.Author.Tests.{eqb-true, eqb-false}
 use Rattle.disk.specs.Limits.{sectorBytes}
-use Rattle.disk.specs.Geometry.{stripesOf, block-inside, InRange, Splits}
+use Rattle.disk.specs.Geometry.{block-inside, InRange, Splits}
 use Rattle.disk.specs.Image.{lt-or-ge}
 use Rattle.disk.specs.declared.geometry.Geometry.{Geometry}
 use Rattle.disk.specs.declared.refusal.Refusal.{Refusal}
 use Rattle.disk.specs.declared.refusal.Refusal.the-variants.{NotNow}
 use Rattle.disk.specs.declared.refusal.Outcome.{Outcome}
 use Rattle.disk.specs.declared.refusal.Outcome.the-variants.{Done, Refused}
-use Rattle.codeword.specs.Stripe.{byteAt, has, AgreeOff, Sound}
+use Rattle.codeword.specs.Stripe.{byteAt, AgreeOff, Sound}
 use Rattle.codeword.specs.Unique.{AllBytes, unique}
 use Rattle.code.specs.Shape.{shapedOf}
 use Rattle.code.specs.Stripes.{Says, Mends, Repaired}
@@ -33,14 +33,15 @@ use Rattle.label.specs.declared.fields.Label.{Label}
 use Rattle.requests.specs.Begun.{begun, first}
 use Rattle.requests.specs.declared.begun.Begun.{Begun}
 use Rattle.shelf.specs.declared.state.State.{State}
-use Rattle.strips.specs.Seen.{shardBytes, rowSeen, shardShown}
+use Rattle.strips.specs.Seen.{shardBytes, rowSeen}
 use Rattle.strips.specs.Answers.{fewLost}
 use Rattle.strips.specs.Laws.{row-bytes, row-shaped, code-range}
-use Rattle.strips.specs.Whole.{stripeSeen, noneLost, changes, Restored, PreparedBy}
-use Rattle.strips.specs.Prepared.{restored-length, prepared-length, prepared-sound, prepared-block, prepared-others, prepared-shown}
+use Rattle.strips.specs.Whole.{stripeSeen, noneLost, changes, PreparedBy}
+use Rattle.strips.specs.Prepared.{prepared-length, prepared-sound, prepared-block, prepared-others, prepared-shown}
 use Rattle.strips.specs.declared.whole.Scrubbed.{Scrubbed}
 use Rattle.strips.specs.declared.whole.Scrubbed.the-variants as scrubbed
 use Rattle.blocks.specs.Slots.{there, changedShards}
+use Rattle.blocks.specs.Answers.{never}
 use Rattle.blocks.specs.Read.{halfOf, shows-block}
 use Rattle.blocks.specs.Write.{writeAnswer, changing, AfterWrite, write-done}
 use Rattle.blocks.specs.Scrub as blocks-scrub
@@ -78,9 +79,6 @@ mends-once n k len s before fits small verdict.Unsound x y h g j p hj hp bx by =
 mends-once n k len s before fits small (verdict.Refused w) x y h g j p hj hp bx by = ap (λ (z : List ℕ). byteAt len z p j) (h ∙ sym g)
 mends-once n k len s before fits small (verdict.Accused r) x y h g j p hj hp bx by = at (eqb r j) refl
   where
-    m : ℕ
-    m = n - k
-
     all : k + (n - k) ≡ n
     all = omega (arith, s .parity)
 
@@ -120,7 +118,7 @@ module _ (g : Geometry) (k : ℕ) (img : List ℕ) (there t i : ℕ) (bytes : Li
     other-y : (j p : ℕ) → j < k → (j ≡ i → ⊥) → p < len → byteAt len y p j ≡ byteAt len (w .stripe) p j
     other-y j p hj o hp = prepared-others g k img there t i bytes b y w range split hi whole j hj o p hp
 
-    pub restored-once : (a ≡ b) × ((j p : ℕ) → j < k → (j ≡ i → ⊥) → p < len → byteAt len (v .stripe) p j ≡ byteAt len (w .stripe) p j)
+    restored-once : (a ≡ b) × ((j p : ℕ) → j < k → (j ≡ i → ⊥) → p < len → byteAt len (v .stripe) p j ≡ byteAt len (w .stripe) p j)
     restored-once = go (noneLost (g .n) t there) refl
       where
         go : (c : Bool) → noneLost (g .n) t there ≡ c → (a ≡ b) × ((j p : ℕ) → j < k → (j ≡ i → ⊥) → p < len → byteAt len (v .stripe) p j ≡ byteAt len (w .stripe) p j)
@@ -136,7 +134,6 @@ module _ (g : Geometry) (k : ℕ) (img : List ℕ) (there t i : ℕ) (bytes : Li
         go false e = (
           v .restored .rebuilt e .2 ∙ sym (w .restored .rebuilt e .2),
           λ j p hj o hp.
-              let shown : List ℕ = shardShown g k img there 0 [] t 0 (g .c) j in
               let hn : j < g .n = omega (arith, split .parity) in
               sym (getD-take len (drop (j * len) (v .stripe)) p 0 hp ∙ getD-drop (j * len) (v .stripe) p 0)
               ∙ ap (λ (z : List ℕ). getD z p 0) (prepared-shown g k img there t i bytes a x v range split hi whole e few j hn
@@ -166,7 +163,7 @@ module _ (g : Geometry) (k : ℕ) (img : List ℕ) (there t i : ℕ) (bytes : Li
             ∙ parity-ext k (g .n - k) j (byteAt len x p) (byteAt len y p) (λ d hd. data-once d p hd hp)
             ∙ sym (ap (byteAt len y p) q ∙ prepared-sound g k img there t i bytes b y w range split hi whole p hp j hj)
 
-    pub prepared-once : (a ≡ b) × (x ≡ y)
+    prepared-once : (a ≡ b) × (x ≡ y)
     prepared-once = (
       restored-once .0,
       shards-same (g .n) len x y (omega (arith, range .some)) (prepared-length g k img there t i bytes a x v range split hi whole)
@@ -194,9 +191,6 @@ write-once (Refused why) s block bytes img work e small t u x y v w bx by = (v .
 
 -- ---- scrubs
 
-not-done : (why : Refusal) → Refused why ≡ Done → ⊥
-not-done why e = let z : _≡_ {A = ℕ} 0 1 = cc in omega arith
-
 -- the refusal of a scrub that is refused
 refused-once : (x y : Refusal) → Refused x ≡ Refused y → scrubbed.Refused x ≡ scrubbed.Refused y
 refused-once x y e = cc
@@ -218,8 +212,8 @@ scrub-once s t over img work small sw (scrubbed.Found v) (scrubbed.Found w) h e 
     row-shaped (l .k + l .m) (l .k) len (length row) (f .split) (omega (arith, f .range .some)) (omega (arith, f .range .short)) (row-bytes g img (there g l (s .absent) t) over kept t 0 (l .c)) in
     ap scrubbed.Found (says-once (l .k) (l .k + l .m - l .k) len row fits
     (small-seen g img (there g l (s .absent) t) over kept t 0 (l .c) small (small-take ((l .k + l .m) * (l .c * sectorBytes)) work sw)) v w (h .1) (e .1))
-scrub-once s t over img work small sw (scrubbed.Found v) (scrubbed.Refused y) h e = absurd (not-done y (sym e ∙ h .0))
-scrub-once s t over img work small sw (scrubbed.Refused x) (scrubbed.Found w) h e = absurd (not-done x (sym h ∙ e .0))
+scrub-once s t over img work small sw (scrubbed.Found v) (scrubbed.Refused y) h e = absurd (never y (sym e ∙ h .0))
+scrub-once s t over img work small sw (scrubbed.Refused x) (scrubbed.Found w) h e = absurd (never x (sym h ∙ e .0))
 scrub-once s t over img work small sw (scrubbed.Refused x) (scrubbed.Refused y) h e = refused-once x y (sym h ∙ e)
 
 -- a stripe of the shelf, all its slots there
@@ -253,8 +247,8 @@ look-once s t over img work small sw (scrubbed.Found v) (scrubbed.Found w) h e =
     let kept : List ℕ = take (scrubs-scrub.halfOf l) work in
     ap scrubbed.Found (row-says l img t over kept (scrubs-scrub.scrub-done l (s .kind) (s .absent) t img (length work) (h .0) .0 .fits) small (small-take (scrubs-scrub.halfOf l) work sw)
     v w (h .1) (e .1))
-look-once s t over img work small sw (scrubbed.Found v) (scrubbed.Refused y) h e = absurd (not-done y (sym e ∙ h .0))
-look-once s t over img work small sw (scrubbed.Refused x) (scrubbed.Found w) h e = absurd (not-done x (sym h ∙ e .0))
+look-once s t over img work small sw (scrubbed.Found v) (scrubbed.Refused y) h e = absurd (never y (sym e ∙ h .0))
+look-once s t over img work small sw (scrubbed.Refused x) (scrubbed.Found w) h e = absurd (never x (sym h ∙ e .0))
 look-once s t over img work small sw (scrubbed.Refused x) (scrubbed.Refused y) h e = refused-once x y (sym h ∙ e)
 
 -- ---- repair
@@ -279,7 +273,7 @@ module _ (s : State) (t : ℕ) (img work : List ℕ) (small : AllBytes img) (b c
   begun-outcome (Refused why) p q = refl
 
   -- refused before the stripe is looked at
-  pub turned-away : (why : Refusal) → may ≡ Refused why → (b ≡ c) × (x ≡ y)
+  turned-away : (why : Refusal) → may ≡ Refused why → (b ≡ c) × (x ≡ y)
   turned-away why e =
       let at : (f : Verdict) → begun (first may (mendAnswer f l (length work))) s (mended s t f) ≡ begun (Refused why) s s =
       λ f. ap (λ (o : Outcome). begun (first o (mendAnswer f l (length work))) s (mended s t f)) e in
@@ -339,7 +333,7 @@ module _ (s : State) (t : ℕ) (img work : List ℕ) (small : AllBytes img) (b c
     by-found verdict.Unsound e f p q = both-refused NotNow p q
     by-found (verdict.Refused z) e f p q = both-refused NotNow p q
 
-    pub taken-up : (b ≡ c) × (x ≡ y)
+    taken-up : (b ≡ c) × (x ≡ y)
     taken-up = (
       v .answers ∙ ap (λ (f : Verdict). begun (first may (mendAnswer f l (length work))) s (mended s t f)) found-once ∙ sym (w .answers),
       by-found (w .found) found-once refl (outcome-x ∙ ap (λ (f : Verdict). mendAnswer f l (length work)) found-once) outcome-y,

@@ -1,17 +1,14 @@
 -- BEGIN, AND GOING ON, WITH A REBUILD on images that are alike. Begin counts its slot as present: it looks at the labels on that disk,
 -- and at no other absent slot. Assumes nothing.
-use mathlib.Core.Path.{_≡_, refl, sym, ap, ap₂, _∙_, fun-ext}
+use mathlib.Core.Path.{_≡_, refl, ap, ap₂, _∙_, fun-ext}
 use mathlib.Core.Bool.{Bool, true, false, cond, not, _&&_, _||_}
 use mathlib.Core.List.{List}
-use Prim.Native.Nat.{ℕ, _+_, _≤_, _<_}
+use Prim.Native.Nat.{ℕ, _+_}
 use native.Mathlib.Omega.{arith}
 use lib.Dec.{leb, ltb, eqb}
-use lib.ListN.{length}
 use borrow.Author.Tests.{eq-eqb}
 use Rattle.disk.specs.Limits.{mostN}
-use Rattle.disk.specs.Geometry.{stripesOf}
 use Rattle.disk.specs.Mask.{inMask, withoutSlot, in-without}
-use Rattle.disk.specs.Image.{fits-image}
 use Rattle.disk.specs.declared.geometry.Geometry.{Geometry}
 use Rattle.disk.specs.declared.refusal.Outcome.{Outcome}
 use Rattle.disk.specs.declared.refusal.Outcome.the-variants as outcome
@@ -21,15 +18,12 @@ use Rattle.label.specs.Valid.{decodeOf}
 use Rattle.label.specs.Strange.{strangeOf}
 use Rattle.label.specs.declared.fields.Label.{Label}
 use Rattle.label.proofs.Fits.{fits-says}
-use Rattle.position.specs.Search.{some}
 use Rattle.rounds.specs.Slot.{ageUnder, copyAge, sectorFor}
 use Rattle.shelf.specs.Act.{oddSector}
 use Rattle.shelf.specs.declared.state.State.{State}
 use Rattle.requests.specs.Begun.{accepted, begun, first, slotsBut}
-use Rattle.requests.specs.Ready.{isIdle, readyOf}
-use Rattle.requests.specs.declared.begun.Begun.{Begun}
+use Rattle.requests.specs.Ready.{isIdle}
 use Rattle.rebuilds.specs.Readied.{foreign, oddFirst, alien, prepared, wiped, getsZeros}
-use Rattle.rebuilds.specs.Survivors.{contradicted}
 use Rattle.rebuilds.specs.Begin.{askedBegin, only, begunLabel, beganWith, began, beginOf}
 use Rattle.rebuilds.specs.On.{askedOn, onAnswer, stripsOn, someContradict, wentOn, onOf, onLabel, onMarks, wentOnWith, on-done, strips-within}
 use Rattle.blind.specs.Alike.{Alike, alike-under, read-alike}

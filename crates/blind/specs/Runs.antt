@@ -2,16 +2,19 @@
 -- change both images as it likes, as long as they are then alike where the slots are present that the call looks at: so the bytes of
 -- absent slots may be others on each image, at every call anew. The two runs get the same answers, the same states and the same work
 -- areas (`same-answers`); and to each run on the one image there is that run on the other (`other-run`). Assumes nothing.
-use mathlib.Core.Path.{_≡_, refl, sym, ap, ap₂, subst, _∙_}
+use mathlib.Core.Path.{_≡_, refl, sym, ap₂, subst}
+use mathlib.Core.Bool.{false}
 use mathlib.Core.List.{List, [], _∷_}
-use Prim.Native.Nat.{ℕ}
+use Prim.Native.Nat.{ℕ, _+_}
+use native.Mathlib.Omega.{arith}
 use Rattle.codeword.specs.Unique.{AllBytes}
+use Rattle.disk.specs.Mask.{inMask}
 use Rattle.disk.specs.declared.geometry.Geometry.{Geometry}
 use Rattle.label.specs.Fields.{geometryOf}
 use Rattle.shelf.specs.declared.state.State.{State}
-use Rattle.blind.specs.Alike.{Alike, alike-through, alike-back}
+use Rattle.blind.specs.Alike.{Alike, alike-under, alike-back, alike-through}
 use Rattle.blind.specs.Own.{Own}
-use Rattle.blind.specs.Calls.{Call, Reply, Makes, shelfOf, hidden}
+use Rattle.blind.specs.Calls.{Call, start, Reply, Makes, shelfOf, hidden}
 use Rattle.blind.specs.Agree.{Both, Follows, call-blind}
 use Rattle.blind.specs.Single.{makes-once}
 
@@ -114,21 +117,30 @@ same-answers (asks-both one other c ∷ qs) g absent s work a b (r ∷ rs) (t �
     (ap₂ (λ (p : Reply) (ps : List Reply). p ∷ ps) (e .0) (v .0), v .1)
 same-answers (anew-both t spare ∷ qs) g absent s work a b rs ts x y own h f m n i j = same-answers qs g absent t spare a b rs ts x y (f .0) h (f .1) m n i j
 
--- ---- what befalls the disks between two calls of one shelf
+-- ---- what a host may do, for one
 
--- THE BYTES OF ABSENT SLOTS MAY BECOME ANYTHING, on each image what it likes: a host that leaves the present slots as they are is fair
--- to every call that looks at no more than the state shows
-pub absent-anything : (s : State) (c : Call) (one other : List ℕ → List ℕ) → shelfOf c s ≡ geometryOf (s .now) → hidden c s ≡ s .absent
+-- THE BYTES OF ABSENT SLOTS MAY BECOME ANYTHING, on each image what it likes: a host that leaves the present slots as they are is fair,
+-- where neither the state nor the call looks at a slot that was absent
+pub absent-anything : (g : Geometry) (absent : ℕ) (s : State) (c : Call) (one other : List ℕ → List ℕ)
+    → ((a b : List ℕ) → Alike g absent a b → Alike (geometryOf (s .now)) (s .absent) a b) → ((a b : List ℕ) → Alike g absent a b → Alike (shelfOf c s) (hidden c s) a b)
+    → ((a : List ℕ) → Alike g absent a (one a)) → ((b : List ℕ) → Alike g absent b (other b)) → Befalls g absent s c one other
+absent-anything g absent s c one other state call h k = record { for-state = λ a b w. state (one a) (other b) (alike a b w); for-call = λ a b w. call (one a) (other b) (alike a b w) }
+  where
+    alike : (a b : List ℕ) → Alike g absent a b → Alike g absent (one a) (other b)
+    alike a b w = alike-through g absent (one a) a (other b) (alike-back g absent a (one a) (h a)) (alike-through g absent a b (other b) w (k b))
+
+-- between two calls of one shelf that is every call but create, start-up and begin
+pub between-calls : (s : State) (c : Call) (one other : List ℕ → List ℕ) → shelfOf c s ≡ geometryOf (s .now) → hidden c s ≡ s .absent
     → ((a : List ℕ) → Alike (geometryOf (s .now)) (s .absent) a (one a)) → ((b : List ℕ) → Alike (geometryOf (s .now)) (s .absent) b (other b))
     → Befalls (geometryOf (s .now)) (s .absent) s c one other
-absent-anything s c one other e f h k = record { for-state = alike; for-call = λ a b w. looked (alike a b w) }
-  where
-    g : Geometry
-    g = geometryOf (s .now)
+between-calls s c one other e f =
+    absent-anything (geometryOf (s .now)) (s .absent) s c one other (λ a b w. w)
+    (λ a b w. subst (λ (x : Geometry). Alike x (hidden c s) a b) (sym e) (subst (λ (m : ℕ). Alike (geometryOf (s .now)) m a b) (sym f) w))
 
-    alike : (a b : List ℕ) → Alike (geometryOf (s .now)) (s .absent) a b → Alike (geometryOf (s .now)) (s .absent) (one a) (other b)
-    alike a b w =
-        alike-through g (s .absent) (one a) a (other b) (alike-back g (s .absent) a (one a) (h a)) (alike-through g (s .absent) a b (other b) w (k b))
-
-    looked : {a b : List ℕ} → Alike (geometryOf (s .now)) (s .absent) a b → Alike (shelfOf c s) (hidden c s) a b
-    looked {a} {b} w = subst (λ (x : Geometry). Alike x (hidden c s) a b) (sym e) (subst (λ (m : ℕ). Alike (geometryOf (s .now)) m a b) (sym f) w)
+-- and after a power cut, the state blank, it is a start-up of the same shelf that calls the slots absent that were, or more of them
+pub after-a-cut : (g : Geometry) (absent more room : ℕ) (blank : State) (one other : List ℕ → List ℕ) → blank .now .k + blank .now .m ≡ 0
+    → ((d : ℕ) → inMask more d ≡ false → inMask absent d ≡ false)
+    → ((a : List ℕ) → Alike g absent a (one a)) → ((b : List ℕ) → Alike g absent b (other b)) → Befalls g absent blank (start g more room) one other
+after-a-cut g absent more room blank one other none wider =
+    absent-anything g absent blank (start g more room) one other
+    (λ a b w. record { lengths = w .lengths; sectors = λ d s hd hs p. absurd (omega (arith, none)) }) (λ a b w. alike-under g absent more a b wider w)

@@ -1,19 +1,17 @@
 -- SCRUB AND REPAIR, as the crate scrubs has them, on images that are alike. They look at all slots, and only where none is absent.
 -- Assumes nothing.
-use mathlib.Core.Path.{_≡_, refl, sym, ap, subst, _∙_}
-use mathlib.Core.Bool.{Bool, true, false, cond, _&&_, _||_, true≢false}
+use mathlib.Core.Path.{_≡_, sym, ap, subst, _∙_}
+use mathlib.Core.Bool.{Bool, true, false, _&&_, _||_, true≢false}
 use mathlib.Core.List.{List, []}
 use Prim.Native.Nat.{ℕ, _+_, _*_, _<_}
-use native.Mathlib.Omega.{arith}
-use lib.Dec.{ltb, eqb, lit<}
+use lib.Dec.{ltb}
 use lib.ListN.{length, take}
 use borrow.Author.Tests.{eqb-true}
 use Rattle.code.specs.Stripes.{Says, Repaired}
-use Rattle.code.specs.declared.Verdict.{Verdict}
 use Rattle.disk.specs.Limits.{sectorBytes}
 use Rattle.disk.specs.Tests.{and-right}
 use Rattle.disk.specs.Geometry.{stripesOf}
-use Rattle.disk.specs.Mask.{inMask, mask-below, in-past}
+use Rattle.disk.specs.Mask.{inMask, mask-below}
 use Rattle.disk.specs.declared.geometry.Geometry.{Geometry}
 use Rattle.disk.specs.declared.refusal.Outcome.{Outcome}
 use Rattle.disk.specs.declared.refusal.Outcome.the-variants.{Done, Refused}
@@ -33,7 +31,7 @@ use Rattle.scrubs.specs.Answers.{serves, lookAnswer, stripeAnswer, first-done, 
 use Rattle.scrubs.specs.Laid.{laidOver}
 use Rattle.scrubs.specs.Scrub.{sizedOf, halfOf, scrubAnswer, SaysOf, ScrubbedBy, scrub-done}
 use Rattle.scrubs.specs.Repair.{stampLeft, mayRepair, mendAnswer, mended, Repairs, may-done}
-use Rattle.blind.specs.Alike.{Alike}
+use Rattle.blind.specs.Alike.{Alike, in-none}
 use Rattle.blind.specs.Shown.{row-alike}
 use Rattle.blind.specs.Start.{ready-alike}
 
@@ -42,7 +40,7 @@ none-absent : (l : Label) (absent : ℕ) → noneMissing l absent ≡ true → (
 unfolding noneMissing missing missingAt
 none-absent l absent e d hd =
     no (inMask (l .out) d) (inMask absent d)
-    (sym (mask-below (missingAt (l .out) absent) (l .k + l .m) d hd) ∙ ap (λ (m : ℕ). inMask m d) (eqb-true (missing l absent) 0 e) ∙ in-past 0 0 d (lit< tt) (omega arith))
+    (sym (mask-below (missingAt (l .out) absent) (l .k + l .m) d hd) ∙ ap (λ (m : ℕ). inMask m d) (eqb-true (missing l absent) 0 e) ∙ in-none d)
   where
     no : (a b : Bool) → (a || b) ≡ false → b ≡ false
     no true b q = absurd (true≢false q)

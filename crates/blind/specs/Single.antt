@@ -12,7 +12,7 @@ use Rattle.blocks.specs.Read as blocks
 use Rattle.blocks.specs.Write.{writeAnswer}
 use Rattle.scrubs.specs.Laid as scrubs
 use Rattle.blind.specs.Once.{write-once, scrub-once, look-once, repair-once}
-use Rattle.blind.specs.Calls.{Call, create, start, take-out, begin, rebuild-on, step, status, read, write, scrub, look-over, repair, began, found, Reply, reply, Begins, Makes}
+use Rattle.blind.specs.Calls.{Call, create, start, take-out, begin, rebuild-on, step, status, read, write, scrub, look-over, repair, began, found, Reply, reply, Makes}
 
 pub makes-once : (c : Call) (s : State) (work img : List ℕ) → AllBytes img → AllBytes work → (x y : Reply) (a b : List ℕ) → Makes c s work img x a → Makes c s work img y b
     → AllBytes (x .work) → AllBytes (y .work) → (x ≡ y) × (a ≡ b)

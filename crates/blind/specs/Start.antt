@@ -1,17 +1,16 @@
 -- START-UP, AND TAKING A SLOT OUT, on images that are alike: they answer the same and hand out the same state. Assumes nothing.
 use mathlib.Core.Path.{_≡_, refl, sym, ap, ap₂, _∙_, fun-ext, subst}
-use mathlib.Core.Logic.{⊎-elim}
 use mathlib.Core.Bool.{Bool, true, false, cond, not, _&&_, _||_, true≢false, false≢true}
-use mathlib.Core.List.{List, []}
+use mathlib.Core.List.{List}
 use Prim.Native.Nat.{ℕ, _+_, _≤_, _<_}
 use native.Mathlib.Omega.{arith}
 use lib.Dec.{eqb, ltb}
 use lib.ListN.{length}
-use borrow.Author.Tests.{lt-ltb, le-ltb, eqb-true}
+use borrow.Author.Tests.{lt-ltb, eqb-true}
 use Rattle.disk.specs.Limits.{mostN, firstLog}
 use Rattle.disk.specs.Geometry.{stripesOf}
 use Rattle.disk.specs.Mask.{inMask, maskOf}
-use Rattle.disk.specs.Image.{sector, fitsImage, onShelf, readOf, lt-or-ge, fits-image}
+use Rattle.disk.specs.Image.{sector, fitsImage, fits-image}
 use Rattle.disk.specs.declared.geometry.Geometry.{Geometry}
 use Rattle.disk.specs.declared.refusal.Refusal.the-variants.{BadImage, NoLabel, NotNow, BadBuffer}
 use Rattle.disk.specs.declared.refusal.Outcome.{Outcome}
