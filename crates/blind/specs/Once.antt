@@ -238,18 +238,18 @@ module _ (l : Label) (img : List ℕ) (t over : ℕ) (kept : List ℕ) (fits : f
   row-says v w = says-once (l .k) (l .m) (l .c * sectorBytes) row row-fits row-small v w
 
 -- the same of the crate scrubs
-pub look-once : (s : State) (t over : ℕ) (img work : List ℕ) → AllBytes img → AllBytes work → (x y : Scrubbed)
-    → scrubs-scrub.ScrubbedBy (scrubs-scrub.scrubAnswer (s .now) (s .kind) (s .absent) t (length img) (length work)) (scrubs-scrub.SaysOf (s .now) over img work t) x
-    → scrubs-scrub.ScrubbedBy (scrubs-scrub.scrubAnswer (s .now) (s .kind) (s .absent) t (length img) (length work)) (scrubs-scrub.SaysOf (s .now) over img work t) y
+pub look-once : (s : State) (told t over : ℕ) (img work : List ℕ) → AllBytes img → AllBytes work → (x y : Scrubbed)
+    → scrubs-scrub.ScrubbedBy (scrubs-scrub.scrubAnswer (s .now) (s .kind) told t (length img) (length work)) (scrubs-scrub.SaysOf (s .now) over img work t) x
+    → scrubs-scrub.ScrubbedBy (scrubs-scrub.scrubAnswer (s .now) (s .kind) told t (length img) (length work)) (scrubs-scrub.SaysOf (s .now) over img work t) y
     → x ≡ y
-look-once s t over img work small sw (scrubbed.Found v) (scrubbed.Found w) h e =
+look-once s told t over img work small sw (scrubbed.Found v) (scrubbed.Found w) h e =
     let l : Label = s .now in
     let kept : List ℕ = take (scrubs-scrub.halfOf l) work in
-    ap scrubbed.Found (row-says l img t over kept (scrubs-scrub.scrub-done l (s .kind) (s .absent) t img (length work) (h .0) .0 .fits) small (small-take (scrubs-scrub.halfOf l) work sw)
+    ap scrubbed.Found (row-says l img t over kept (scrubs-scrub.scrub-done l (s .kind) told t img (length work) (h .0) .0 .fits) small (small-take (scrubs-scrub.halfOf l) work sw)
     v w (h .1) (e .1))
-look-once s t over img work small sw (scrubbed.Found v) (scrubbed.Refused y) h e = absurd (never y (sym e ∙ h .0))
-look-once s t over img work small sw (scrubbed.Refused x) (scrubbed.Found w) h e = absurd (never x (sym h ∙ e .0))
-look-once s t over img work small sw (scrubbed.Refused x) (scrubbed.Refused y) h e = refused-once x y (sym h ∙ e)
+look-once s told t over img work small sw (scrubbed.Found v) (scrubbed.Refused y) h e = absurd (never y (sym e ∙ h .0))
+look-once s told t over img work small sw (scrubbed.Refused x) (scrubbed.Found w) h e = absurd (never x (sym h ∙ e .0))
+look-once s told t over img work small sw (scrubbed.Refused x) (scrubbed.Refused y) h e = refused-once x y (sym h ∙ e)
 
 -- ---- repair
 

@@ -62,23 +62,24 @@ module _ (s : State) (t : ℕ) (work x y : List ℕ) (h : Alike (geometryOf (s .
   abbrev slots : ℕ
   slots = allSlots (s .now .k + s .now .m)
 
-  whole-alike : fitsOf (s .now) ≡ true → t < stripesOf (geometryOf (s .now)) → noneMissing (s .now) (s .absent) ≡ true → (over : ℕ) (kept : List ℕ)
+  whole-alike : fitsOf (s .now) ≡ true → t < stripesOf (geometryOf (s .now)) → ((d : ℕ) → d < s .now .k + s .now .m → inMask (s .absent) d ≡ false) → (over : ℕ) (kept : List ℕ)
       → rowSeen g x slots over kept t 0 (s .now .c) ≡ rowSeen g y slots over kept t 0 (s .now .c)
-  whole-alike f ht none over kept = row-alike g (s .absent) x y h (fits-says l f .range) slots (λ d hd e. none-absent l (s .absent) none d hd) t ht over kept
+  whole-alike f ht none over kept = row-alike g (s .absent) x y h (fits-says l f .range) slots (λ d hd e. none d hd) t ht over kept
 
-  -- A SCRUB may say of the one image what it may say of the other
-  pub scrubs-blind : (r : Scrubbed)
-      → ScrubbedBy (scrubAnswer (s .now) (s .kind) (s .absent) t (length x) (length work)) (SaysOf (s .now) (laidOver s t) x work t) r
-      → ScrubbedBy (scrubAnswer (s .now) (s .kind) (s .absent) t (length y) (length work)) (SaysOf (s .now) (laidOver s t) y work t) r
-  scrubs-blind (scrubbed.Found v) p =
-      let u = scrub-done l (s .kind) (s .absent) t x (length work) (p .0) .0 in
-      let sense : Bool = serves (s .kind) && noneMissing l (s .absent) in
-      let w = first-done (lookAnswer l (s .kind) (length x)) (stripeAnswer l (s .absent) true sense (sizedOf l (length work)) t) (p .0) in
-      let none = stripe-whole l (s .absent) true (serves (s .kind)) (sizedOf l (length work)) t (w .1) in (
-        ap (λ (n : ℕ). scrubAnswer l (s .kind) (s .absent) t n (length work)) (sym (h .lengths)) ∙ p .0,
-        subst (λ (row : List ℕ). Says (l .k) (l .m) (l .c * sectorBytes) row v) (whole-alike (u .fits) (u .stripe) none (laidOver s t) (take (halfOf l) work)) (p .1),
+  -- A SCRUB may say of the one image what it may say of the other, if it is told every slot that is absent
+  pub scrubs-blind : (told : ℕ) → ((d : ℕ) → inMask told d ≡ false → inMask (s .absent) d ≡ false) → (r : Scrubbed)
+      → ScrubbedBy (scrubAnswer (s .now) (s .kind) told t (length x) (length work)) (SaysOf (s .now) (laidOver s t) x work t) r
+      → ScrubbedBy (scrubAnswer (s .now) (s .kind) told t (length y) (length work)) (SaysOf (s .now) (laidOver s t) y work t) r
+  scrubs-blind told every (scrubbed.Found v) p =
+      let u = scrub-done l (s .kind) told t x (length work) (p .0) .0 in
+      let sense : Bool = serves (s .kind) && noneMissing l told in
+      let w = first-done (lookAnswer l (s .kind) (length x)) (stripeAnswer l told true sense (sizedOf l (length work)) t) (p .0) in
+      let none = none-absent l told (stripe-whole l told true (serves (s .kind)) (sizedOf l (length work)) t (w .1)) in (
+        ap (λ (n : ℕ). scrubAnswer l (s .kind) told t n (length work)) (sym (h .lengths)) ∙ p .0,
+        subst (λ (row : List ℕ). Says (l .k) (l .m) (l .c * sectorBytes) row v)
+            (whole-alike (u .fits) (u .stripe) (λ d hd. every d (none d hd)) (laidOver s t) (take (halfOf l) work)) (p .1),
       )
-  scrubs-blind (scrubbed.Refused why) p = ap (λ (n : ℕ). scrubAnswer (s .now) (s .kind) (s .absent) t n (length work)) (sym (h .lengths)) ∙ p
+  scrubs-blind told every (scrubbed.Refused why) p = ap (λ (n : ℕ). scrubAnswer (s .now) (s .kind) told t n (length work)) (sym (h .lengths)) ∙ p
 
   may-same : mayRepair (s .now) (s .kind) (s .absent) (s .count) t x ≡ mayRepair (s .now) (s .kind) (s .absent) (s .count) t y
   may-same = ap (λ (o : Outcome). first o (stripeAnswer l (s .absent) (isIdle (s .kind)) (stampLeft (s .count) && noneMissing l (s .absent)) true t)) (ready-alike s x y h)
@@ -88,7 +89,7 @@ module _ (s : State) (t : ℕ) (work x y : List ℕ) (h : Alike (geometryOf (s .
       let u = may-done s x t e .lies in
       let sense : Bool = stampLeft (s .count) && noneMissing l (s .absent) in
       let w = first-done (readyOf l (s .kind) (s .absent) x) (stripeAnswer l (s .absent) (isIdle (s .kind)) sense true t) e in
-      whole-alike (u .fits) (u .stripe) (stripe-whole l (s .absent) (isIdle (s .kind)) (stampLeft (s .count)) true t (w .1)) 0 []
+      whole-alike (u .fits) (u .stripe) (none-absent l (s .absent) (stripe-whole l (s .absent) (isIdle (s .kind)) (stampLeft (s .count)) true t (w .1))) 0 []
 
   -- A REPAIR: what it may answer, hand out and leave in the work area on the one image it may on the other
   pub repair-blind : (b : Begun) (after : List ℕ) → Repairs s t x work b after → Repairs s t y work b after

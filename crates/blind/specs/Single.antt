@@ -33,7 +33,7 @@ makes-once (scrub t) s work img hi hw x y a b p q bx by =
     let e = scrub-once s t (blocks.laidOver s t) img work hi hw (p .0 .0) (q .0 .0) (p .0 .2) (q .0 .2) in
     (p .0 .1 ∙ ap (λ (v : Scrubbed). reply (found v) s work) e ∙ sym (q .0 .1), p .1 ∙ sym (q .1))
 makes-once (look-over t) s work img hi hw x y a b p q bx by =
-    let e = look-once s t (scrubs.laidOver s t) img work hi hw (p .0 .0) (q .0 .0) (p .0 .2) (q .0 .2) in
+    let e = look-once s _ t (scrubs.laidOver s t) img work hi hw (p .0 .0) (q .0 .0) (p .0 .2) (q .0 .2) in
     (p .0 .1 ∙ ap (λ (v : Scrubbed). reply (found v) s work) e ∙ sym (q .0 .1), p .1 ∙ sym (q .1))
 makes-once (repair t) s work img hi hw x y a b p q bx by =
     let c : Begun = record { state = x .state; outcome = p .0 .0 } in
