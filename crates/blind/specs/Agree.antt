@@ -239,7 +239,7 @@ call-blind (look-over t) s work a b w h r left p =
     let v = p .0 .0 in
     record {
       after = b;
-      makes = ((v, p .0 .1, scrubs-blind s t work a b h _ (λ d e. e) v (p .0 .2)), refl);
+      makes = ((v, p .0 .1, scrubs-blind s t work a b h _ v (p .0 .2) (λ d e. e)), refl);
       both = stays s work a b r left (ap (λ (z : Reply). z .state) (p .0 .1)) (p .1) w;
     }
 call-blind (repair t) s work a b w h r left p =

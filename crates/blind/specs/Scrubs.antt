@@ -67,10 +67,11 @@ module _ (s : State) (t : ℕ) (work x y : List ℕ) (h : Alike (geometryOf (s .
   whole-alike f ht none over kept = row-alike g (s .absent) x y h (fits-says l f .range) slots (λ d hd e. none d hd) t ht over kept
 
   -- A SCRUB may say of the one image what it may say of the other, if it is told every slot that is absent
-  pub scrubs-blind : (told : ℕ) → ((d : ℕ) → inMask told d ≡ false → inMask (s .absent) d ≡ false) → (r : Scrubbed)
+  pub scrubs-blind : (told : ℕ) (r : Scrubbed)
       → ScrubbedBy (scrubAnswer (s .now) (s .kind) told t (length x) (length work)) (SaysOf (s .now) (laidOver s t) x work t) r
+      → ((d : ℕ) → inMask told d ≡ false → inMask (s .absent) d ≡ false)
       → ScrubbedBy (scrubAnswer (s .now) (s .kind) told t (length y) (length work)) (SaysOf (s .now) (laidOver s t) y work t) r
-  scrubs-blind told every (scrubbed.Found v) p =
+  scrubs-blind told (scrubbed.Found v) p every =
       let u = scrub-done l (s .kind) told t x (length work) (p .0) .0 in
       let sense : Bool = serves (s .kind) && noneMissing l told in
       let w = first-done (lookAnswer l (s .kind) (length x)) (stripeAnswer l told true sense (sizedOf l (length work)) t) (p .0) in
@@ -79,7 +80,7 @@ module _ (s : State) (t : ℕ) (work x y : List ℕ) (h : Alike (geometryOf (s .
         subst (λ (row : List ℕ). Says (l .k) (l .m) (l .c * sectorBytes) row v)
             (whole-alike (u .fits) (u .stripe) (λ d hd. every d (none d hd)) (laidOver s t) (take (halfOf l) work)) (p .1),
       )
-  scrubs-blind told every (scrubbed.Refused why) p = ap (λ (n : ℕ). scrubAnswer (s .now) (s .kind) told t n (length work)) (sym (h .lengths)) ∙ p
+  scrubs-blind told (scrubbed.Refused why) p every = ap (λ (n : ℕ). scrubAnswer (s .now) (s .kind) told t n (length work)) (sym (h .lengths)) ∙ p
 
   may-same : mayRepair (s .now) (s .kind) (s .absent) (s .count) t x ≡ mayRepair (s .now) (s .kind) (s .absent) (s .count) t y
   may-same = ap (λ (o : Outcome). first o (stripeAnswer l (s .absent) (isIdle (s .kind)) (stampLeft (s .count) && noneMissing l (s .absent)) true t)) (ready-alike s x y h)
