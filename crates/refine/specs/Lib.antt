@@ -35,7 +35,6 @@ pub mod Chain
 pub mod Refills
 pub mod Holds
 pub mod Promise
-pub mod Blind
 pub mod Strips
 pub mod Sees
 pub mod WriteAsked

@@ -1,19 +1,16 @@
--- ABSENT SLOTS' BYTES DECIDE NOTHING: on two images of one length that read alike on all present slots, start-up and taking a slot out
--- answer the same and hand out the same state. (Of a step that is `step-blind` and `step-agrees` in the crate shelf; create has no
--- absent slots.) Assumes nothing.
+-- START-UP, AND TAKING A SLOT OUT, on images that are alike: they answer the same and hand out the same state. Assumes nothing.
 use mathlib.Core.Path.{_≡_, refl, sym, ap, ap₂, _∙_, fun-ext, subst}
-use mathlib.Core.Logic.{⊎-elim}
 use mathlib.Core.Bool.{Bool, true, false, cond, not, _&&_, _||_, true≢false, false≢true}
-use mathlib.Core.List.{List, []}
+use mathlib.Core.List.{List}
 use Prim.Native.Nat.{ℕ, _+_, _≤_, _<_}
 use native.Mathlib.Omega.{arith}
 use lib.Dec.{eqb, ltb}
 use lib.ListN.{length}
-use borrow.Author.Tests.{lt-ltb, le-ltb, eqb-true}
+use borrow.Author.Tests.{lt-ltb, eqb-true}
 use Rattle.disk.specs.Limits.{mostN, firstLog}
 use Rattle.disk.specs.Geometry.{stripesOf}
 use Rattle.disk.specs.Mask.{inMask, maskOf}
-use Rattle.disk.specs.Image.{sector, fitsImage, onShelf, readOf, lt-or-ge, fits-image}
+use Rattle.disk.specs.Image.{sector, fitsImage, fits-image}
 use Rattle.disk.specs.declared.geometry.Geometry.{Geometry}
 use Rattle.disk.specs.declared.refusal.Refusal.the-variants.{BadImage, NoLabel, NotNow, BadBuffer}
 use Rattle.disk.specs.declared.refusal.Outcome.{Outcome}
@@ -31,7 +28,7 @@ use Rattle.record.specs.declared.tail.Tail.{Tail}
 use Rattle.record.specs.declared.tail.Found as found
 use Rattle.rounds.specs.Survey.{nextOf, planOf, surveyOf}
 use Rattle.rounds.specs.Slot.{stale, gone}
-use Rattle.rounds.specs.Plans.{Alike}
+use Rattle.rounds.specs.Plans as plans
 use Rattle.rounds.specs.declared.plan.Plan.{Plan}
 use Rattle.rounds.specs.declared.plan.Survey.{Survey}
 use Rattle.rounds.specs.declared.plan.Survey.the-variants as survey
@@ -50,41 +47,14 @@ use Rattle.requests.specs.Ready.{isIdle, isLabel, hasShelf, holding, readyOf}
 use Rattle.requests.specs.TakeOut.{outAnswer, tookOut, takeOutOf}
 use Rattle.requests.specs.Start.{marksBy, bySurvey, startOf}
 use Rattle.requests.specs.declared.begun.Begun.{Begun}
+use Rattle.blind.specs.Alike.{Alike, fits-alike, read-alike}
 
--- two images of one length that read alike on all slots that are not absent
-pub record Seen (g : Geometry) (x y : List ℕ) (absent : ℕ) : Type 0 where
-  pub lengths : length x ≡ length y
-  pub sectors : (d s : ℕ) → d < g .n → s < g .sectors → inMask absent d ≡ false → readOf g x d s ≡ readOf g y d s
-
-module _ (g : Geometry) (x y : List ℕ) (absent : ℕ) (h : Seen g x y absent) where
-  -- where there is no sector nothing is read
-  nowhere : (img : List ℕ) (d s : ℕ) → onShelf g d s ≡ false → readOf g img d s ≡ []
-  unfolding readOf
-  nowhere img d s e = ap (λ (b : Bool). cond (fitsImage g (length img) && b) (sector (g .sectors) img d s) []) e ∙ by (fitsImage g (length img)) (sector (g .sectors) img d s)
-    where
-      by : (b : Bool) (v : List ℕ) → cond (b && false) v [] ≡ []
-      by true v = refl
-      by false v = refl
-
-  read-alike : (d s : ℕ) → inMask absent d ≡ false → readOf g x d s ≡ readOf g y d s
-  unfolding onShelf
-  read-alike d s e =
-      ⊎-elim
-      (λ (a : d < g .n). ⊎-elim (λ (b : s < g .sectors). h .sectors d s a b e)
-      (λ (b : g .sectors ≤ s). none (ap₂ (λ (p q : Bool). p && q) (lt-ltb d (g .n) a) (le-ltb s (g .sectors) b))) (lt-or-ge s (g .sectors)))
-      (λ (a : g .n ≤ d). none (ap (λ (p : Bool). p && ltb s (g .sectors)) (le-ltb d (g .n) a))) (lt-or-ge d (g .n))
-    where
-      none : (ltb d (g .n) && ltb s (g .sectors)) ≡ false → readOf g x d s ≡ readOf g y d s
-      none q = nowhere x d s q ∙ sym (nowhere y d s q)
-
-  fits-alike : fitsImage g (length x) ≡ fitsImage g (length y)
-  fits-alike = ap (fitsImage g) (h .lengths)
-
+module _ (g : Geometry) (absent : ℕ) (x y : List ℕ) (h : Alike g absent x y) where
   -- ---- labels
 
   disk-alike : (d : ℕ) → inMask absent d ≡ false → diskLabel g x d ≡ diskLabel g y d
   unfolding diskLabel copyOf
-  disk-alike d e = ap (λ (f : ℕ → Decoded). newestOf f 2) (fun-ext (λ s. ap (λ (b : List ℕ). decodeOf b d s) (read-alike d s e)))
+  disk-alike d e = ap (λ (f : ℕ → Decoded). newestOf f 2) (fun-ext (λ s. ap (λ (b : List ℕ). decodeOf b d s) (read-alike g absent x y h d s e)))
 
   holding-alike : (l : Label) → holding g x absent l ≡ holding g y absent l
   unfolding holding
@@ -99,7 +69,7 @@ module _ (g : Geometry) (x y : List ℕ) (absent : ℕ) (h : Seen g x y absent) 
   module _ (l : Label) (dark : (d : ℕ) → looked g l d ≡ true → inMask absent d ≡ false) where
     log-alike : (d j : ℕ) → looked g l d ≡ true → logAt g x d j ≡ logAt g y d j
     unfolding logAt
-    log-alike d j e = read-alike d (firstLog + j) (dark d e)
+    log-alike d j e = read-alike g absent x y h d (firstLog + j) (dark d e)
 
     found-alike : (d : ℕ) → tailFound g x l d ≡ tailFound g y l d
     unfolding tailFound
@@ -145,7 +115,7 @@ module _ (g : Geometry) (x y : List ℕ) (absent : ℕ) (h : Seen g x y absent) 
           below = looked-below g l d e
 
           fits-y : fitsImage g (length y) ≡ true
-          fits-y = sym fits-alike ∙ fits
+          fits-y = sym (fits-alike g absent x y h) ∙ fits
 
           there : completeWith g x a d ≡ true → completeWith g y a d ≡ true
           there q = stamps-complete g y d fits-y below a some (λ j i. ap stampAt (sym (log-alike d j e)) ∙ complete-stamps g x d fits below a q j i)
@@ -192,21 +162,21 @@ module _ (g : Geometry) (x y : List ℕ) (absent : ℕ) (h : Seen g x y absent) 
             → cond {A = Redo} (fitsImage g (length x)) (decided g x l (leadOf g x l)) Nothing ≡ cond {A = Redo} (fitsImage g (length y)) (decided g y l (leadOf g y l)) Nothing
         by true e =
             ap (λ (b : Bool). cond {A = Redo} b (decided g x l (leadOf g x l)) Nothing) e ∙ decided-alike e (leadOf g x l) ∙ ap (decided g y l) lead-alike
-            ∙ sym (ap (λ (b : Bool). cond {A = Redo} b (decided g y l (leadOf g y l)) Nothing) (sym fits-alike ∙ e))
+            ∙ sym (ap (λ (b : Bool). cond {A = Redo} b (decided g y l (leadOf g y l)) Nothing) (sym (fits-alike g absent x y h) ∙ e))
         by false e =
-            ap (λ (b : Bool). cond {A = Redo} b (decided g x l (leadOf g x l)) Nothing) e ∙ sym (ap (λ (b : Bool). cond {A = Redo} b (decided g y l (leadOf g y l)) Nothing) (sym fits-alike ∙ e))
+            ap (λ (b : Bool). cond {A = Redo} b (decided g x l (leadOf g x l)) Nothing) e ∙ sym (ap (λ (b : Bool). cond {A = Redo} b (decided g y l (leadOf g y l)) Nothing) (sym (fits-alike g absent x y h) ∙ e))
 
 -- ---- taking a slot out
 
-ready-alike : (s : State) (x y : List ℕ) → Seen (geometryOf (s .now)) x y (s .absent) → readyOf (s .now) (s .kind) (s .absent) x ≡ readyOf (s .now) (s .kind) (s .absent) y
+pub ready-alike : (s : State) (x y : List ℕ) → Alike (geometryOf (s .now)) (s .absent) x y → readyOf (s .now) (s .kind) (s .absent) x ≡ readyOf (s .now) (s .kind) (s .absent) y
 unfolding readyOf
 ready-alike s x y h =
     let l = s .now in
     ap₂ (λ (b : Bool) (p : ℕ → Bool). cond {A = Outcome} (hasShelf l (s .kind)) (cond b (cond (isIdle (s .kind)) (cond (allOf p (l .k + l .m)) outcome.Done (outcome.Refused NoLabel)) outcome.Done) (outcome.Refused BadImage)) (outcome.Refused NotNow))
-    (fits-alike (geometryOf l) x y (s .absent) h) (holding-alike (geometryOf l) x y (s .absent) h l)
+    (fits-alike (geometryOf l) (s .absent) x y h) (holding-alike (geometryOf l) (s .absent) x y h l)
 
 -- TAKING A SLOT OUT answers the same and hands out the same state
-pub out-blind : (s : State) (d room : ℕ) (x y : List ℕ) → Seen (geometryOf (s .now)) x y (s .absent) → takeOutOf s d x room ≡ takeOutOf s d y room
+pub out-blind : (s : State) (d room : ℕ) (x y : List ℕ) → Alike (geometryOf (s .now)) (s .absent) x y → takeOutOf s d x room ≡ takeOutOf s d y room
 out-blind s d room x y h = ap (λ (o : Outcome). begun (first o (outAnswer (s .now) (isIdle (s .kind)) (s .absent) d room)) s (tookOut s d)) (ready-alike s x y h)
 
 -- ---- start-up
@@ -248,16 +218,16 @@ next-dark g img absent p e d q = by (inMask absent d) refl
     by false a = refl
 
 -- START-UP answers the same and hands out the same state
-pub start-blind : (s : State) (g : Geometry) (absent room : ℕ) (x y : List ℕ) → Seen g x y absent → startOf s g absent x room ≡ startOf s g absent y room
+pub start-blind : (s : State) (g : Geometry) (absent room : ℕ) (x y : List ℕ) → Alike g absent x y → startOf s g absent x room ≡ startOf s g absent y room
 start-blind s g absent room x y h =
     ap (λ (v : Survey). bySurvey v s g absent x room) (survey-same g x y absent absent alike) ∙ by (surveyOf g y absent) refl
   where
-    alike : Alike g x y absent absent
-    alike = record { lengths = h .lengths; absents = λ d i. refl; beyond = refl; sectors = λ d t i j e. read-alike g x y absent h d t e }
+    alike : plans.Alike g x y absent absent
+    alike = record { lengths = h .lengths; absents = λ d i. refl; beyond = refl; sectors = λ d t i j e. read-alike g absent x y h d t e }
 
     by : (v : Survey) → surveyOf g y absent ≡ v → bySurvey v s g absent x room ≡ bySurvey v s g absent y room
     by (survey.Refused why) e = refl
     by (survey.Plan p) e =
         ap (λ (r : Redo). cond {A = Begun} (eqb room (workBytes (g .n) (g .c)))
         (accepted (record { now = p .lead; next = p .next; absent = absent; epoch = p .next .generation; count = 0; marks = marksBy (slotsBut absent (g .n)) p r; kind = Starting; cursor = record { stage = 0; slot = 0; sector = 0 } })) (refused s BadBuffer))
-        (redo-alike g x y absent h (p .next) (next-dark g y absent p e))
+        (redo-alike g absent x y h (p .next) (next-dark g y absent p e))
