@@ -31,6 +31,8 @@ use Rattle.blocks.specs.Counted.{nothing-lost}
 use Rattle.blocks.specs.Answers.{serves, lookAnswer, sizedOf, stripeAnswer, look-done, first-done, answered-done, never, splits-of, mostStripe}
 use Rattle.blocks.specs.Read.{halfOf}
 
+-- no shelf NOT_NOW; another image BAD_IMAGE; more than m slots missing TOO_FEW; no such stripe BAD_BLOCK; create or start-up under way, or a
+-- slot missing, NOT_NOW; another work area BAD_BUFFER
 abbrev pub scrubAnswer : Label → Kind → ℕ → ℕ → ℕ → ℕ → Outcome
 scrubAnswer l kind absent t len room =
     first (lookAnswer l kind len) (stripeAnswer l absent true (serves kind && noneMissing l absent) (sizedOf l room) t)
@@ -54,6 +56,7 @@ pub record Lies (l : Label) (img : List ℕ) (t : ℕ) : Type 0 where
   pub image : fitsImage (geometryOf l) (length img) ≡ true
   pub stripe : t < stripesOf (geometryOf l)
 
+-- nothing is missing, and the other tests hold
 pub record Taken (l : Label) (absent : ℕ) (more sized : Bool) (img : List ℕ) (t : ℕ) : Type 0 where
   pub lies : Lies l img t
   pub all-there : noneMissing l absent ≡ true
