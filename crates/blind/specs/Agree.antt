@@ -24,8 +24,8 @@ use Rattle.rounds.specs.declared.plan.Survey.{Survey}
 use Rattle.rounds.specs.declared.plan.Survey.the-variants as survey
 use Rattle.rounds.proofs.Plans.{survey-grounds}
 use Rattle.shelf.specs.Act.{Move}
-use Rattle.shelf.specs.declared.state.State.{State}
-use Rattle.shelf.specs.declared.state.Stepped.{Stepped}
+use Rattle.stages.specs.declared.state.State.{State}
+use Rattle.stages.specs.declared.state.Stepped.{Stepped}
 use Rattle.requests.specs.Begun.{workBytes, accepted, refused, begun, first}
 use Rattle.requests.specs.Create.{createAnswer, created, createOf}
 use Rattle.requests.specs.Start.{started, bySurvey, startOf}

@@ -14,7 +14,7 @@ use Rattle.label.proofs.Fits.{fits-says}
 use Rattle.label.specs.declared.fields.Label.{Label}
 use Rattle.requests.specs.Begun.{first}
 use Rattle.requests.specs.Ready.{isIdle}
-use Rattle.shelf.specs.declared.state.State.{State}
+use Rattle.stages.specs.declared.state.State.{State}
 use Rattle.strips.specs.Seen.{shardBytes, shownByte}
 use Rattle.strips.specs.Laws.{listed-ext}
 use Rattle.strips.specs.Whole.{stripeSeen, Restored}

@@ -7,8 +7,8 @@ use Rattle.disk.specs.Mask.{withoutSlot}
 use Rattle.disk.specs.declared.geometry.Geometry.{Geometry}
 use Rattle.disk.specs.declared.refusal.Outcome.{Outcome}
 use Rattle.label.specs.Fields.{geometryOf}
-use Rattle.shelf.specs.declared.state.State.{State}
-use Rattle.shelf.specs.declared.state.Answer.{Answer}
+use Rattle.stages.specs.declared.state.State.{State}
+use Rattle.stages.specs.declared.state.Answer.{Answer}
 use Rattle.requests.specs.Create.{createOf}
 use Rattle.requests.specs.Start.{startOf}
 use Rattle.requests.specs.TakeOut.{takeOutOf}

@@ -16,7 +16,7 @@ use Rattle.label.specs.Bytes.{allZero}
 use Rattle.shelf.specs.Act.{Move, refuses}
 use Rattle.shelf.specs.Step.{sound, stepMove}
 use Rattle.shelf.specs.Laws.{step-blind, step-agrees, step-length}
-use Rattle.shelf.specs.declared.state.State.{State}
+use Rattle.stages.specs.declared.state.State.{State}
 use Rattle.requests.specs.Begun.{workBytes, begun}
 use Rattle.requests.specs.Create.{shardsFit, shelfFits, createAnswer, created, createOf}
 use Rattle.requests.specs.Step.{otherWork, stepWith}

@@ -32,7 +32,7 @@ use Rattle.label.proofs.Fits.{fits-says}
 use Rattle.label.specs.declared.fields.Label.{Label}
 use Rattle.requests.specs.Begun.{begun, first}
 use Rattle.requests.specs.declared.begun.Begun.{Begun}
-use Rattle.shelf.specs.declared.state.State.{State}
+use Rattle.stages.specs.declared.state.State.{State}
 use Rattle.strips.specs.Seen.{shardBytes, rowSeen}
 use Rattle.strips.specs.Answers.{fewLost}
 use Rattle.strips.specs.Laws.{row-bytes, row-shaped, code-range}

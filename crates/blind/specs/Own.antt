@@ -19,19 +19,19 @@ use Rattle.label.specs.Fields.{geometryOf, fitsOf}
 use Rattle.label.specs.Bytes.{sealed}
 use Rattle.label.specs.declared.fields.Label.{Label}
 use Rattle.record.specs.Log.{areaOf, restoreAnswer, afterRestore}
-use Rattle.shelf.specs.Limits.{mostStages}
+use Rattle.stages.specs.Limits.{mostStages}
 use Rattle.shelf.specs.Fill.{rebuildAnswer, rebuiltSector}
 use Rattle.shelf.specs.Kept.{keptOf, partOf, recordSector, loggedAnswer}
-use Rattle.shelf.specs.State.{moved}
-use Rattle.shelf.specs.Stage.{stageOf}
+use Rattle.stages.specs.State.{moved}
+use Rattle.stages.specs.Stage.{stageOf}
 use Rattle.shelf.specs.Act.{Move, onward, refusal, refuses, byOutcome, putMove, flushMove, named, giveMove, wipeMove, byStrip, byRestored, restoreMove, tailOf, byLogged, logMove, byStored, storeMove, clearMove, oddSector, eraseMove, inStrips, byRebuilt, fillMove, actMove}
 use Rattle.shelf.specs.Step.{isEnd, finished, onStage, nextSlot, walk, byAnswer, kept, keeps, sound, stepMove}
-use Rattle.shelf.specs.declared.state.State.{State}
-use Rattle.shelf.specs.declared.state.Stepped.{Stepped}
-use Rattle.shelf.specs.declared.state.Answer.{Answer}
-use Rattle.shelf.specs.declared.state.Answer.the-variants.{Put, Flush, Done, Refused}
-use Rattle.shelf.specs.declared.stage.Stage.{Stage}
-use Rattle.shelf.specs.declared.stage.Stage.the-variants as stage
+use Rattle.stages.specs.declared.state.State.{State}
+use Rattle.stages.specs.declared.state.Stepped.{Stepped}
+use Rattle.stages.specs.declared.state.Answer.{Answer}
+use Rattle.stages.specs.declared.state.Answer.the-variants.{Put, Flush, Done, Refused}
+use Rattle.stages.specs.declared.stage.Stage.{Stage}
+use Rattle.stages.specs.declared.stage.Stage.the-variants as stage
 use Rattle.requests.specs.Step.{otherWork, stepWith}
 
 -- the settled label and the one that the request under way settles have the shelf's numbers

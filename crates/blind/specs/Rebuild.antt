@@ -20,7 +20,7 @@ use Rattle.label.specs.declared.fields.Label.{Label}
 use Rattle.label.proofs.Fits.{fits-says}
 use Rattle.rounds.specs.Slot.{ageUnder, copyAge, sectorFor}
 use Rattle.shelf.specs.Act.{oddSector}
-use Rattle.shelf.specs.declared.state.State.{State}
+use Rattle.stages.specs.declared.state.State.{State}
 use Rattle.requests.specs.Begun.{accepted, begun, first, slotsBut}
 use Rattle.requests.specs.Ready.{isIdle}
 use Rattle.rebuilds.specs.Readied.{foreign, oddFirst, alien, prepared, wiped, getsZeros}

@@ -20,7 +20,7 @@ use Rattle.label.specs.declared.fields.Label.{Label}
 use Rattle.requests.specs.Begun.{begun, first}
 use Rattle.requests.specs.Ready.{isIdle, readyOf}
 use Rattle.requests.specs.declared.begun.Begun.{Begun}
-use Rattle.shelf.specs.declared.state.State.{State}
+use Rattle.stages.specs.declared.state.State.{State}
 use Rattle.strips.specs.Whole.{stripeSeen}
 use Rattle.blocks.specs.Slots.{missingAt, missing, tooFew, noneMissing, allSlots}
 use Rattle.blocks.specs.Answers.{stripeAnswer, first-done, answered-done}

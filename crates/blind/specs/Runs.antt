@@ -11,7 +11,7 @@ use Rattle.codeword.specs.Unique.{AllBytes}
 use Rattle.disk.specs.Mask.{inMask}
 use Rattle.disk.specs.declared.geometry.Geometry.{Geometry}
 use Rattle.label.specs.Fields.{geometryOf}
-use Rattle.shelf.specs.declared.state.State.{State}
+use Rattle.stages.specs.declared.state.State.{State}
 use Rattle.blind.specs.Alike.{Alike, alike-under, alike-back, alike-through}
 use Rattle.blind.specs.Own.{Own}
 use Rattle.blind.specs.Calls.{Call, start, Reply, Makes, shelfOf, hidden}

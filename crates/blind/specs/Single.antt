@@ -6,7 +6,7 @@ use lib.ListN.{length}
 use Rattle.codeword.specs.Unique.{AllBytes}
 use Rattle.disk.specs.declared.refusal.Outcome.{Outcome}
 use Rattle.requests.specs.declared.begun.Begun.{Begun}
-use Rattle.shelf.specs.declared.state.State.{State}
+use Rattle.stages.specs.declared.state.State.{State}
 use Rattle.strips.specs.declared.whole.Scrubbed.{Scrubbed}
 use Rattle.blocks.specs.Read as blocks
 use Rattle.blocks.specs.Write.{writeAnswer}

@@ -23,8 +23,8 @@ use Rattle.label.specs.declared.fields.Label.{Label}
 use Rattle.requests.specs.Begun.{workBytes, first}
 use Rattle.requests.specs.Ready.{hasShelf}
 use Rattle.requests.specs.Accepted.{passed, has-fits}
-use Rattle.shelf.specs.declared.state.Kind.{Kind}
-use Rattle.shelf.specs.declared.state.Kind.the-variants.{Nothing, Idle, Creating, Starting, Labelling, Writing, Beginning, Filling}
+use Rattle.stages.specs.declared.state.Kind.{Kind}
+use Rattle.stages.specs.declared.state.Kind.the-variants.{Nothing, Idle, Creating, Starting, Labelling, Writing, Beginning, Filling}
 use Rattle.blocks.specs.Slots.{tooFew}
 
 -- reads are served: create or start-up has answered

@@ -21,9 +21,9 @@ use Rattle.label.proofs.Fits.{fits-says}
 use Rattle.label.specs.declared.fields.Label.{Label}
 use Rattle.position.specs.Row.{inRow, listed, listed-length}
 use Rattle.requests.specs.Begun.{workBytes, first}
-use Rattle.shelf.specs.declared.state.State.{State}
-use Rattle.shelf.specs.declared.state.Kind.{Kind}
-use Rattle.shelf.specs.declared.state.Kind.the-variants.{Nothing, Idle, Creating, Starting, Labelling, Writing, Beginning, Filling}
+use Rattle.stages.specs.declared.state.State.{State}
+use Rattle.stages.specs.declared.state.Kind.{Kind}
+use Rattle.stages.specs.declared.state.Kind.the-variants.{Nothing, Idle, Creating, Starting, Labelling, Writing, Beginning, Filling}
 use Rattle.strips.specs.Seen.{shardBytes, shownByte, shardShown}
 use Rattle.strips.specs.Answers.{partOf, fewLost, shownAnswer}
 use Rattle.blocks.specs.Slots.{tooFew, there}

@@ -21,7 +21,7 @@ use Rattle.label.specs.Fields.{geometryOf, fitsOf}
 use Rattle.label.proofs.Fits.{fits-says}
 use Rattle.label.specs.declared.fields.Label.{Label}
 use Rattle.requests.specs.Begun.{workBytes, first}
-use Rattle.shelf.specs.declared.state.Kind.{Kind}
+use Rattle.stages.specs.declared.state.Kind.{Kind}
 use Rattle.strips.specs.Seen.{shardBytes, rowSeen}
 use Rattle.strips.specs.Whole.{wholeAnswer, noneLost, FoundBy}
 use Rattle.strips.specs.declared.whole.Scrubbed.{Scrubbed}

@@ -21,10 +21,10 @@ use Rattle.label.specs.declared.fields.Label.{Label}
 use Rattle.requests.specs.Begun.{first}
 use Rattle.requests.specs.Ready.{isIdle, hasShelf, readyOf}
 use Rattle.requests.specs.Accepted.{passed, ready-done}
-use Rattle.shelf.specs.declared.state.State.{State}
-use Rattle.shelf.specs.declared.state.Marks.{Marks}
-use Rattle.shelf.specs.declared.state.Kind.{Kind}
-use Rattle.shelf.specs.declared.state.Kind.the-variants.{Writing}
+use Rattle.stages.specs.declared.state.State.{State}
+use Rattle.stages.specs.declared.state.Marks.{Marks}
+use Rattle.stages.specs.declared.state.Kind.{Kind}
+use Rattle.stages.specs.declared.state.Kind.the-variants.{Writing}
 use Rattle.strips.specs.Seen.{shardBytes}
 use Rattle.strips.specs.Whole.{prepareAnswer, PreparedBy}
 use Rattle.blocks.specs.Slots.{tooFew, there, changedShards, changedSlots}

@@ -13,7 +13,7 @@ use disk::sector::fits_image;
 use label::fields::Label;
 use requests::begun::work_bytes;
 use requests::ready::has_shelf;
-use shelf::state::Kind;
+use stages::state::Kind;
 ghost use mathlib.Core.Path.{_≡_};
 ghost use mathlib.Core.Bool.{true};
 ghost use Prim.Native.Nat.{_≤_};

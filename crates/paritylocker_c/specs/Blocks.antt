@@ -14,7 +14,7 @@ use Rattle.disk.specs.declared.refusal.Refusal.the-variants.{BadBuffer}
 use Rattle.memory.specs.Bytes as memory
 use Rattle.memory.specs.Bytes.{stateLength, stateAt, stateBytes}
 use Rattle.requests.specs.declared.begun.Begun.{Begun}
-use Rattle.shelf.specs.declared.state.State.{State}
+use Rattle.stages.specs.declared.state.State.{State}
 use Rattle.strips.specs.declared.whole.Scrubbed.{Scrubbed}
 use Rattle.strips.specs.declared.whole.Scrubbed.the-variants as scrubbed
 use Rattle.blocks.specs.Read.{readAnswer, afterRead, laidOver}

@@ -44,7 +44,7 @@ use Rattle.blocks.specs.Slots.{missingAt, missing, tooFew, noneMissing, allSlot
 use Rattle.blocks.specs.Answers.{stripeAnswer, first-done, answered-done}
 use Rattle.blocks.specs.Write.{stampLeft}
 use Rattle.blocks.specs.Repair.{mayRepair, mendAnswer, mended, RepairedOf, Repairs}
-use Rattle.shelf.specs.declared.state.State.{State}
+use Rattle.stages.specs.declared.state.State.{State}
 use Rattle.refine.specs.Given.{shelf-geometry}
 use Rattle.refine.specs.Places.{sectorOf, strip-is-inside}
 use Rattle.refine.specs.Disks.{Disks, curOf, cur-bytes}
