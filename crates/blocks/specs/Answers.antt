@@ -1,12 +1,16 @@
 -- What the requests of blocks and stripes are refused for, in the document's order. Assumes nothing.
-use mathlib.Core.Path.{_≡_, refl, sym, ap, _∙_}
+use mathlib.Core.Path.{_≡_, refl, sym, ap, subst, _∙_}
 use mathlib.Core.Bool.{Bool, true, false, cond, _&&_, true≢false}
-use Prim.Native.Nat.{ℕ, _+_, _*_}
+use Prim.Native.Nat.{ℕ, _+_, _*_, _≤_}
+use native.Mathlib.Nat.{mul-assoc}
+use native.Mathlib.Omega.{arith}
 use lib.Dec.{leb, ltb, eqb}
-use Rattle.disk.specs.Limits.{leastN, mostN, sectorBytes, mostK, mostM}
+use borrow.Author.Tests.{eqb-true}
+use Rattle.disk.specs.Limits.{leastN, mostN, mostC, sectorBytes, mostK, mostM}
 use Rattle.disk.specs.Tests.{and-left, and-right, both}
-use Rattle.disk.specs.Geometry.{stripLength, inRange, splits, inRangeWith, stripesOf, blocksOf, placed}
+use Rattle.disk.specs.Geometry.{stripLength, inRange, splits, inRangeWith, stripesOf, blocksOf, placed, product-le, InRange}
 use Rattle.disk.specs.Image.{fitsImage}
+use Rattle.disk.specs.declared.geometry.Geometry.{Geometry}
 use Rattle.disk.specs.declared.refusal.Refusal.{Refusal}
 use Rattle.disk.specs.declared.refusal.Refusal.the-variants.{BadImage, TooFew, BadBlock, Busy, NotNow, BadBuffer}
 use Rattle.disk.specs.declared.refusal.Outcome.{Outcome}
@@ -14,6 +18,7 @@ use Rattle.disk.specs.declared.refusal.Outcome.the-variants.{Done, Refused}
 use Rattle.disk.specs.declared.geometry.Placed.{Placed}
 use Rattle.disk.specs.declared.geometry.Placed.the-variants as placed-as
 use Rattle.label.specs.Fields.{geometryOf, fitsOf}
+use Rattle.label.proofs.Fits.{fits-says}
 use Rattle.label.specs.declared.fields.Label.{Label}
 use Rattle.requests.specs.Begun.{workBytes, first}
 use Rattle.requests.specs.Ready.{hasShelf}
@@ -53,10 +58,13 @@ unfoldable pub blockAnswer : Label → ℕ → Bool → Bool → ℕ → ℕ →
 blockAnswer l absent idle sense block bytes room =
     answered (tooFew l absent) (ltb block (blocksOf (geometryOf l) (l .k))) idle sense (sizes (l .k + l .m) (l .c) bytes room)
 
+-- the work area has its size
+unfoldable pub sizedOf : Label → ℕ → Bool
+sizedOf l room = eqb room (workBytes (l .k + l .m) (l .c))
+
 -- a scrub or a repair of a stripe
-unfoldable pub stripeAnswer : Label → ℕ → Bool → Bool → ℕ → ℕ → Outcome
-stripeAnswer l absent idle sense t room =
-    answered (tooFew l absent) (ltb t (stripesOf (geometryOf l))) idle sense (eqb room (workBytes (l .k + l .m) (l .c)))
+unfoldable pub stripeAnswer : Label → ℕ → Bool → Bool → Bool → ℕ → Outcome
+stripeAnswer l absent idle sense sized t = answered (tooFew l absent) (ltb t (stripesOf (geometryOf l))) idle sense sized
 
 -- ---- what the tests of a request that is not refused say
 
@@ -145,3 +153,31 @@ range-of l e = and-left (inRange (geometryOf l)) (splits (l .k + l .m) (l .k)) (
 pub splits-of : (l : Label) → fitsOf l ≡ true → splits (l .k + l .m) (l .k) ≡ true
 unfolding inRangeWith
 splits-of l e = and-right (inRange (geometryOf l)) (splits (l .k + l .m) (l .k)) (ranged l e)
+
+-- ---- half of the work area is a stripe
+
+pub half-le : (l : Label) (room : ℕ) → fitsOf l ≡ true → room ≡ workBytes (l .k + l .m) (l .c) → (l .k + l .m) * (l .c * sectorBytes) ≤ room
+half-le l room f e =
+    let n : ℕ = l .k + l .m in
+    omega (arith, e, work-is l (range-of l f), mul-assoc n (l .c) sectorBytes, mul-assoc 2 n (l .c))
+
+pub sized-half : (l : Label) (room : ℕ) → fitsOf l ≡ true → sizedOf l room ≡ true → (l .k + l .m) * (l .c * sectorBytes) ≤ room
+unfolding sizedOf
+sized-half l room f e = half-le l room f (eqb-true room (workBytes (l .k + l .m) (l .c)) e)
+
+-- the bytes of the largest stripe
+abbrev pub mostStripe : ℕ
+mostStripe = 77824
+
+-- the same of the geometry that was found
+module _ (l : Label) (g : Geometry) (f : fitsOf l ≡ true) (ge : g ≡ geometryOf l) where
+  pub range-at : InRange g
+  range-at = subst InRange (sym ge) (fits-says l f .range)
+
+  pub half-small : g .n * (g .c * sectorBytes) ≤ mostStripe
+  half-small =
+      let r = range-at in
+      product-le (g .n) (g .c * sectorBytes) mostN (mostC * sectorBytes) (r .few) (omega (arith, r .short))
+
+  pub half-at : (room : ℕ) → room ≡ workBytes (l .k + l .m) (l .c) → g .n * (g .c * sectorBytes) ≤ room
+  half-at room e = let q = ap (λ (x : Geometry). x .n * (x .c * sectorBytes)) ge in omega (arith, q, half-le l room f e)

@@ -117,10 +117,10 @@ few-lost l absent t f ht e =
     le-leb (length (lostOf (l .k + l .m) t (there (geometryOf l) l absent t))) (l .k + l .m - l .k)
     (omega (arith, lost-count l absent t (omega (arith, f .range .least)) ht, ltb-false (l .m) (ones (missing l absent)) e))
 
-pub none-lost : (l : Label) (absent t : ℕ) → Fits l → t < stripesOf (geometryOf l) → noneMissing l absent ≡ true
+pub nothing-lost : (l : Label) (absent t : ℕ) → Fits l → t < stripesOf (geometryOf l) → noneMissing l absent ≡ true
     → noneLost (l .k + l .m) t (there (geometryOf l) l absent t) ≡ true
 unfolding noneLost noneMissing ones onesIn
-none-lost l absent t f ht e =
+nothing-lost l absent t f ht e =
     let z : missing l absent ≡ 0 = eqb-true (missing l absent) 0 e in
     eq-eqb (length (lostOf (l .k + l .m) t (there (geometryOf l) l absent t))) 0
     (let o : ones (missing l absent) ≡ 0 = ap ones z in omega (arith, lost-count l absent t (omega (arith, f .range .least)) ht, o))

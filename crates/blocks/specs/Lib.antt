@@ -5,3 +5,4 @@ pub mod Answers
 pub mod Read
 pub mod Write
 pub mod Scrub
+pub mod Repair

@@ -2,13 +2,12 @@
 use mathlib.Core.Path.{_≡_, refl, sym, ap, subst, _∙_}
 use mathlib.Core.Bool.{Bool, true, false, cond, _&&_}
 use mathlib.Core.List.{List, [], _∷_, _++_}
-use Prim.Native.Nat.{ℕ, zero, suc, _+_, _*_, _≤_, _<_, _/_, _%_}
+use Prim.Native.Nat.{ℕ, zero, suc, _+_, _*_, _<_, _/_, _%_}
 use native.Mathlib.Nat.{zero-add, suc-add}
 use native.Mathlib.Omega.{arith}
 use lib.Dec.{leb, ltb, eqb}
 use lib.ListN.{length, take}
 use lib.Seq.{length-take-le}
-use native.Mathlib.Nat.{mul-assoc}
 use borrow.Author.Tests.{ltb-true, eqb-true, lt-ltb, le-leb, eq-eqb}
 use Rattle.disk.specs.Limits.{sectorBytes}
 use Rattle.disk.specs.Geometry.{splits, stripesOf, blocksOf, block-inside}
@@ -29,7 +28,7 @@ use Rattle.strips.specs.Seen.{shardBytes, shownByte, shardShown}
 use Rattle.strips.specs.Answers.{partOf, fewLost, shownAnswer}
 use Rattle.blocks.specs.Slots.{tooFew, there}
 use Rattle.blocks.specs.Counted.{few-lost}
-use Rattle.blocks.specs.Answers.{serves, lookAnswer, sizes, blockAnswer, look-done, first-done, answered-done, work-is, range-of, splits-of}
+use Rattle.blocks.specs.Answers.{serves, lookAnswer, sizes, blockAnswer, look-done, first-done, answered-done, splits-of, half-le}
 
 -- ---- the write under way
 
@@ -176,12 +175,6 @@ sector-goes g k img there kept t r h j a b hj ha hb =
       eq-eqb b (1 * sectorBytes) hb,
     )
 
--- half of the work area is a stripe
-pub half-le : (l : Label) (absent : ℕ) (img work : List ℕ) (block : ℕ) (buf : List ℕ) → Shows l absent img work block buf → (l .k + l .m) * (l .c * sectorBytes) ≤ length work
-half-le l absent img work block buf h =
-    let n : ℕ = l .k + l .m in
-    omega (arith, h .whole, work-is l (range-of l (h .fits)), mul-assoc n (l .c) sectorBytes, mul-assoc 2 n (l .c))
-
 -- so what a read that is not refused needs is there
 pub shows-block : (l : Label) (absent : ℕ) (img work : List ℕ) (block : ℕ) (buf : List ℕ) → Shows l absent img work block buf
     → Showing (geometryOf l) (l .k) img (there (geometryOf l) l absent (block / l .k)) (halfOf (geometryOf l) work) (block / l .k) (block % l .k)
@@ -195,7 +188,7 @@ shows-block l absent img work block buf h =
       stripe = b .0;
       few = few-lost l absent (block / l .k) f (b .0) (h .enough);
       shard = omega (arith, b .1);
-      keeps = length-take-le ((l .k + l .m) * (l .c * sectorBytes)) work (half-le l absent img work block buf h);
+      keeps = length-take-le ((l .k + l .m) * (l .c * sectorBytes)) work (half-le l (length work) (h .fits) (h .whole));
     }
 
 -- the same with the geometry and the slots that were found

@@ -28,8 +28,8 @@ use Rattle.stages.specs.declared.state.Kind.the-variants.{Writing}
 use Rattle.strips.specs.Seen.{shardBytes}
 use Rattle.strips.specs.Whole.{prepareAnswer, PreparedBy}
 use Rattle.blocks.specs.Slots.{tooFew, there, changedShards, changedSlots}
-use Rattle.blocks.specs.Answers.{answered-done, sizes, blockAnswer, first-done}
-use Rattle.blocks.specs.Read.{Shows, shows, shows-block, half-le, halfOf}
+use Rattle.blocks.specs.Answers.{answered-done, sizes, blockAnswer, first-done, half-le}
+use Rattle.blocks.specs.Read.{Shows, shows, shows-block, halfOf}
 
 -- the greatest count of a stamp
 abbrev pub mostCount : ℕ
@@ -143,7 +143,7 @@ unfolding halfOf
 prepared-in l absent img work block bytes h g d ge de all ys after p same e =
     let H : ℕ = (l .k + l .m) * (l .c * sectorBytes) in
     let he : g .n * shardBytes g ≡ H = ap (λ (x : Geometry). x .n * shardBytes x) ge in
-    let len : length ys ≡ g .n * shardBytes g = same ∙ length-take-le (g .n * shardBytes g) work (omega (arith, he, half-le l absent img work block bytes h)) in
+    let len : length ys ≡ g .n * shardBytes g = same ∙ length-take-le (g .n * shardBytes g) work (omega (arith, he, half-le l (length work) (h .fits) (h .whole))) in
     let e' : after ≡ ys ++ drop H work = e ∙ ap (λ (n : ℕ). ys ++ drop n work) he in
     let q : take H after ≡ ys = ap (take H) e' ∙ take-at ys (drop H work) H (len ∙ he) in
     record {

@@ -21,7 +21,7 @@ ghost use lib.Dec.{ltb};
 ghost use Rattle.disk.specs.Limits.{mostC};
 ghost use Rattle.disk.specs.Geometry.{inRange, inRangeWith, stripesOf, blocksOf};
 ghost use Rattle.label.specs.Fields.{fitsOf};
-ghost use Rattle.blocks.specs.Answers.{serves, lookAnswer, answered, sizes, blockAnswer, stripeAnswer};
+ghost use Rattle.blocks.specs.Answers.{serves, lookAnswer, answered, sizes, blockAnswer, sizedOf, stripeAnswer};
 
 // Whether reads are served: create or start-up, if there was one, has answered.
 pub(crate) fn is_served(kind: Kind) -> bool
@@ -134,21 +134,28 @@ fn has_stripe(g: Geometry, t: usize) -> bool
     }
 }
 
-// The refusals of a scrub or a repair of a stripe.
+// Whether the work area has its size.
+pub(crate) fn is_sized(l: Label, room: usize) -> bool
+    requires { ⌜ fitsOf l ≡ true ⌝ }
+    ensures { λ r. ⌜ r ≡ sizedOf l room ⌝ }
+{
+    room == work_bytes(l.k + l.m, l.c)
+}
+
+// The refusals of a scrub or a repair of stripe t.
 pub(crate) fn stripe_answer(
     l: Label,
     absent: u64,
     idle: bool,
     sense: bool,
+    sized: bool,
     t: usize,
-    room: usize,
 ) -> Outcome
     requires { ⌜ fitsOf l ≡ true ⌝ }
-    ensures { λ r. ⌜ r ≡ stripeAnswer l absent idle sense t room ⌝ }
+    ensures { λ r. ⌜ r ≡ stripeAnswer l absent idle sense sized t ⌝ }
 {
     let g = geometry(l);
     let few = too_few(l, absent);
     let inside = has_stripe(g, t);
-    let sized = room == work_bytes(g.n, g.c);
     by_tests(few, inside, idle, sense, sized)
 }

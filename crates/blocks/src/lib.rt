@@ -3,6 +3,7 @@
 mod answers;
 mod of_label;
 pub mod read;
+pub mod repair;
 pub mod scrub;
 mod slots;
 pub mod write;

@@ -1,5 +1,6 @@
 // Scrub: what the code says of a stripe, with the write under way laid over.
 use crate::answers::is_served;
+use crate::answers::is_sized;
 use crate::answers::look_answer;
 use crate::answers::stripe_answer;
 use crate::of_label::geometry;
@@ -20,19 +21,18 @@ ghost use lib.ListN.{length};
 ghost use Rattle.disk.specs.declared.refusal.Outcome.the-variants.{Done};
 ghost use Rattle.label.specs.Fields.{fitsOf};
 ghost use Rattle.blocks.specs.Slots.{noneMissing};
-ghost use Rattle.blocks.specs.Answers.{serves};
 ghost use Rattle.blocks.specs.Read.{laidOver};
 ghost use Rattle.blocks.specs.Scrub.{scrubAnswer, Scrubs, ScrubbedBy, SaysOf};
 
 // The bytes of the largest stripe.
 pub const MOST_STRIPE: usize = MOST_N * 8 * SECTOR;
 
-// Whether reads are served, and nothing is missing.
-fn is_whole(l: Label, kind: Kind, absent: u64) -> bool
+// Whether the request makes sense otherwise, and nothing is missing.
+pub(crate) fn is_whole(sense: bool, l: Label, absent: u64) -> bool
     requires { ⌜ fitsOf l ≡ true ⌝ }
-    ensures { λ r. ⌜ r ≡ (serves kind && noneMissing l absent) ⌝ }
+    ensures { λ r. ⌜ r ≡ (sense && noneMissing l absent) ⌝ }
 {
-    if !is_served(kind) {
+    if !sense {
         return false;
     }
     none_missing(l, absent)
@@ -45,7 +45,11 @@ fn scrub_answer(l: Label, kind: Kind, absent: u64, t: usize, len: usize, room: u
     let answer = look_answer(l, kind, len);
     match answer {
         Outcome::Refused(why) => Outcome::Refused(why),
-        Outcome::Done => { stripe_answer(l, absent, true, is_whole(l, kind, absent), t, room) }
+        Outcome::Done => {
+            let whole = is_whole(is_served(kind), l, absent);
+            let sized = is_sized(l, room);
+            stripe_answer(l, absent, true, whole, sized, t)
+        }
     }
 }
 

@@ -12,10 +12,10 @@ ghost use Rattle.disk.specs.Limits.{mostN, maskBits};
 ghost use Rattle.disk.specs.Geometry.{inRange};
 ghost use Rattle.disk.specs.Mask.{withSlot};
 ghost use Rattle.label.specs.Fields.{fitsOf};
-ghost use Rattle.blocks.specs.Slots.{missingAt, missing, tooFew, noneMissing, thereAt, there, changesAt, changedShards, changedAt, changedSlots};
+ghost use Rattle.blocks.specs.Slots.{missingAt, missing, tooFew, noneMissing, allSlots, thereAt, there, changesAt, changedShards, changedAt, changedSlots};
 
 // The mask with slot d in it, or as it is.
-fn with_slot_if(mask: u64, d: usize, yes: bool) -> u64
+pub(crate) fn with_slot_if(mask: u64, d: usize, yes: bool) -> u64
     requires { ⌜ d < maskBits ⌝ }
     ensures { λ r. ⌜ r ≡ cond yes (withSlot mask d) mask ⌝ }
 {
@@ -65,6 +65,20 @@ pub(crate) fn none_missing(l: Label, absent: u64) -> bool
     ensures { λ r. ⌜ r ≡ noneMissing l absent ⌝ }
 {
     missing_slots(l, absent) == 0
+}
+
+// All slots below n.
+pub(crate) fn all_slots(n: usize) -> u64
+    requires { ⌜ n ≤ mostN ⌝ }
+    ensures { λ r. ⌜ r ≡ allSlots n ⌝ }
+{
+    let mut mask = 0;
+    let mut d = 0;
+    while d < n {
+        mask = with_slot_if(mask, d, true);
+        d += 1;
+    }
+    mask
 }
 
 // Whether slot d's strip of stripe t is there and believed.

@@ -21,7 +21,7 @@ ghost use Prim.Native.Nat.{_<_};
 ghost use lib.ListN.{length};
 ghost use Rattle.label.specs.Fields.{fitsOf};
 ghost use Rattle.blocks.specs.Read.{Shows};
-ghost use Rattle.blocks.specs.Write.{mostCount, stampLeft, writeAnswer, writeMarks, changing, PreparedIn, AfterWrite};
+ghost use Rattle.blocks.specs.Write.{mostCount, stampLeft, writeAnswer, writeMarks, stampedWith, changing, PreparedIn, AfterWrite};
 
 // The greatest count of a stamp.
 pub const MOST_COUNT: u64 = 18446744073709551615;
@@ -62,7 +62,7 @@ fn write_answer(
 }
 
 // What a write goes by: the shards that it changes, their slots that are there, and the stripe.
-fn write_marks(parts: u64, redo: u64, stripe: usize) -> Marks
+pub(crate) fn write_marks(parts: u64, redo: u64, stripe: usize) -> Marks
     ensures { λ r. ⌜ r ≡ writeMarks parts redo stripe ⌝ }
 {
     Marks {
@@ -77,15 +77,12 @@ fn write_marks(parts: u64, redo: u64, stripe: usize) -> Marks
     }
 }
 
-// A write of these shards of stripe t at its beginning.
-pub(crate) fn begin_change(s: State, t: usize, parts: u64) -> State
-    requires { ⌜ (fitsOf (s .now) ≡ true) × (s .count < mostCount) ⌝ }
-    ensures { λ r. ⌜ r ≡ changing s t parts ⌝ }
+// A write at its beginning, with the next stamp.
+pub(crate) fn stamped(s: State, marks: Marks) -> State
+    requires { ⌜ s .count < mostCount ⌝ }
+    ensures { λ r. ⌜ r ≡ stampedWith s marks ⌝ }
 {
     let now = s.now;
-    let g = geometry(now);
-    let redo = changed_slots(g.n, t, slots_there(g, now, s.absent, t), parts);
-    let marks = write_marks(parts, redo, t);
     State {
         now: now,
         next: now,
@@ -100,6 +97,17 @@ pub(crate) fn begin_change(s: State, t: usize, parts: u64) -> State
             sector: 0,
         },
     }
+}
+
+// A write of these shards of stripe t at its beginning.
+fn begin_change(s: State, t: usize, parts: u64) -> State
+    requires { ⌜ (fitsOf (s .now) ≡ true) × (s .count < mostCount) ⌝ }
+    ensures { λ r. ⌜ r ≡ changing s t parts ⌝ }
+{
+    let now = s.now;
+    let g = geometry(now);
+    let redo = changed_slots(g.n, t, slots_there(g, now, s.absent, t), parts);
+    stamped(s, write_marks(parts, redo, t))
 }
 
 // Makes the stripe in the first half of the work area; says whether all its shards change.

@@ -14,13 +14,13 @@ use Rattle.disk.specs.declared.refusal.Refusal.the-variants.{BadBuffer}
 use Rattle.memory.specs.Bytes as memory
 use Rattle.memory.specs.Bytes.{stateLength, stateAt, stateBytes}
 use Rattle.requests.specs.declared.begun.Begun.{Begun}
-use Rattle.scrubs.specs.Repair.{Repairs, repair-refused}
 use Rattle.stages.specs.declared.state.State.{State}
 use Rattle.strips.specs.declared.whole.Scrubbed.{Scrubbed}
 use Rattle.strips.specs.declared.whole.Scrubbed.the-variants as scrubbed
 use Rattle.blocks.specs.Read.{readAnswer, afterRead, laidOver}
 use Rattle.blocks.specs.Write.{writeAnswer, Written, AfterWrite}
 use Rattle.blocks.specs.Scrub.{scrubAnswer, SaysOf, ScrubbedBy}
+use Rattle.blocks.specs.Repair.{Repairs, repair-refused}
 use Rattle.paritylocker_c.specs.Answers.{numberOfVerdict, Small, small}
 use Rattle.paritylocker_c.specs.Labels.{numberOfOutcome}
 use Rattle.paritylocker_c.specs.Shelf.{numberBegun, bytesBegun}

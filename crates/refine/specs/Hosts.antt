@@ -49,7 +49,7 @@ use Rattle.rebuilds.specs.On.{onAnswer, wentOn, onOf}
 use Rattle.blocks.specs.Slots.{tooFew}
 use Rattle.blocks.specs.Answers.{sizes, blockAnswer, first-done, answered-done}
 use Rattle.blocks.specs.Write.{stampLeft, writeAnswer, Written, AfterWrite, write-done}
-use Rattle.scrubs.specs.Repair.{mayRepair, Repairs, repair-refused}
+use Rattle.blocks.specs.Repair.{mayRepair, Repairs, repair-refused}
 use Rattle.refine.specs.Given.{shelf-geometry}
 use Rattle.refine.specs.Family.{Family, sound-in}
 use Rattle.refine.specs.Disks.{Disks, curOf}

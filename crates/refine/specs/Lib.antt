@@ -34,7 +34,6 @@ pub mod Named
 pub mod Chain
 pub mod Refills
 pub mod Holds
-pub mod Blind
 pub mod Strips
 pub mod Sees
 pub mod WriteAsked

@@ -4,12 +4,12 @@ use mathlib.Core.Path.{ap, _∙_, _≡_, sym}
 use native.Mathlib.Omega.{arith}
 use borrow.Author.Needs.{needs}
 use Rattle.blocks.proofs.read.show_of.Statement.{statement}
-use Rattle.blocks.specs.Read.{half-le, shows-with, shown-with}
+use Rattle.blocks.specs.Read.{shows-with, shown-with}
 use Rattle.disk.specs.declared.geometry.Geometry.{Geometry}
 use Rattle.disk.specs.Limits.{sectorBytes}
 use Rattle.disk.specs.Geometry.{inRange}
 use Rattle.label.proofs.Fits.{fits-says}
-use Rattle.blocks.specs.Answers.{range-of}
+use Rattle.blocks.specs.Answers.{range-of, half-at}
 use lib.Seq.{length-take-le}
 use Rattle.blocks.proofs.read.show_of.Tie as tie
 
@@ -26,10 +26,10 @@ mul-half : tie.Need-mul-half
 mul-half c = let s = c .before .before .before .before .before .before .before in let e = ap (λ (x : Geometry). x .c) (c .before .before .before .geometry .ensures) in omega (arith, e, fits-says (s .args .l) (s .pre .fits) .range .short)
 
 mul-half-2 : tie.Need-mul-half-2
-mul-half-2 c = let s = c .before .before .before .before .before .before .before .before in let e = ap (λ (x : Geometry). x .n * (x .c * sectorBytes)) (c .before .before .before .before .geometry .ensures) in omega (arith, e, half-le (s .args .l) (s .args .absent) (s .args .image .now) (s .args .work .now) (s .args .block) (s .args .bytes .now) (s .pre))
+mul-half-2 c = let s = c .before .before .before .before .before .before .before .before in omega (arith, half-at (s .args .l) _ (s .pre .fits) (c .before .before .before .before .geometry .ensures) _ (s .pre .whole))
 
 slice-aggregate-show-block : tie.Need-slice-aggregate-show-block
-slice-aggregate-show-block c = let s = c .before .before .before .before .before .before .before .before .before in let g = c .before .before .before .before .before .geometry .result in sym (length-take-le (g .n * (g .c * sectorBytes)) (s .args .work .now) (let e = ap (λ (x : Geometry). x .n * (x .c * sectorBytes)) (c .before .before .before .before .before .geometry .ensures) in omega (arith, e, half-le (s .args .l) (s .args .absent) (s .args .image .now) (s .args .work .now) (s .args .block) (s .args .bytes .now) (s .pre))))
+slice-aggregate-show-block c = let s = c .before .before .before .before .before .before .before .before .before in let g = c .before .before .before .before .before .geometry .result in sym (length-take-le (g .n * (g .c * sectorBytes)) (s .args .work .now) (omega (arith, half-at (s .args .l) _ (s .pre .fits) (c .before .before .before .before .before .geometry .ensures) _ (s .pre .whole))))
 
 rem-show-block : tie.Need-rem-show-block
 rem-show-block c = let s = c .before .before .before .before .before .before .before .before .before .before in omega (arith, fits-says (s .args .l) (s .pre .fits) .split .least)

@@ -24,14 +24,15 @@ changed-slots-requires c κs = let s = c .before .before .before in let e = ap (
 write-marks-requires : tie.Need-write-marks-requires
 write-marks-requires c κs = search needs
 
-add-t8 : tie.Need-add-t8
-add-t8 c = search needs
+stamped-requires : tie.Need-stamped-requires
+stamped-requires c κs = search needs
 
 returns : tie.Need-returns
 returns c =
     let a = c .before .before .before .before .before .before .args in
     let g = c .before .before .before .before .geometry .ensures in
-    ap (stampedWith (a .s))
+    c .stamped .ensures
+    ∙ ap (stampedWith (a .s))
     (c .before .write-marks .ensures
     ∙ ap (λ (x : ℕ). writeMarks (a .parts) x (a .t))
     (c .before .before .changed-slots .ensures
@@ -46,5 +47,5 @@ begin-change-spec =
     slots-there-requires
     changed-slots-requires
     write-marks-requires
-    add-t8
+    stamped-requires
     returns)
