@@ -175,6 +175,7 @@ module _ (z : Shelf) (s : State) (work img : List ℕ) (kind : s .kind ≡ Filli
   -- AND IT CAN BE CARRIED OUT
   pub fill-fair : sound s ≡ true → ours z (s .now) ≡ true → Disks z img → s .cursor .sector ≡ 0 → Present z (s .absent) (s .marks .redo) → Present z (s .absent) (s .marks .present)
       → (s .cursor .stage ≤ 0 → Fillable z (s .absent) (s .now) work (s .marks .redo) (s .now .mark) (s .marks .stripe)) → Tells z (s .next) → Fair z s work img
+  unfolding fillStage
   fill-fair in-range ours-now disks first redo present fillable next =
       let c : (i : ℕ) → s .cursor .stage ≤ i → Can z (s .absent) (underOf s) work (stageAt (s .kind) s i) =
       λ i l. subst (λ (k : Kind). Can z (s .absent) (underOf s) work (stageAt k s i)) (sym kind) (each i l) in
@@ -187,9 +188,8 @@ module _ (z : Shelf) (s : State) (work img : List ℕ) (kind : s .kind ≡ Filli
       }
     where
       each : (i : ℕ) → s .cursor .stage ≤ i → Can z (s .absent) (underOf s) work (fillStage s i)
-      unfolding fillStage
       each zero l = (redo, fillable l)
-      each (suc i) l = fill-later (Can z (s .absent) (underOf s) work) tt s redo (present, next) present i
+      each (suc i) l = fill-later (Can z (s .absent) (underOf s) work) tt s redo (present, next) present (suc i) (omega arith)
 
   -- ---- the steps
 
