@@ -164,10 +164,10 @@ pub at-none : (b : ℕ) → b < 1 → 1 ≡ atLeastOne b
 at-none zero h = refl
 at-none (suc b) h = absurd (omega arith)
 
-pub first-none : (n : ℕ) → n ≡ 0 → 1 ≡ firstStage n
-first-none n e = ap firstStage (sym e)
+pub first-none : (n : ℕ) → n ≡ 0 → firstStage n ≡ 1
+first-none n e = ap firstStage e
 
-pub first-some : (n : ℕ) → (n ≡ 0 → ⊥) → 0 ≡ firstStage n
+pub first-some : (n : ℕ) → (n ≡ 0 → ⊥) → firstStage n ≡ 0
 first-some zero h = absurd (h refl)
 first-some (suc n) h = refl
 

@@ -159,14 +159,17 @@ fn on_marks(l: Label, absent: u64, batch: usize, odd: bool) -> Marks
     }
 }
 
-// The stage with which it begins: its strips; where it has none (the mark is T already), the flush behind them.
+// The stage with which it begins: its strips; where it has none (the mark is T already), the flush behind them. A stage that fills
+// nothing would refuse every step.
 fn first_stage(count: usize) -> usize
     ensures { λ r. ⌜ r ≡ firstStage count ⌝ }
 {
+    let fill = 0;
+    let flush = 1;
     if count == 0 {
-        return 1;
+        return flush;
     }
-    0
+    fill
 }
 
 // The rebuild of these strips at its beginning.
