@@ -81,82 +81,55 @@ fn begun(answer: u32) -> Result<(), Refusal> {
     }
 }
 
-/// Begins to make a shelf of an image of zeros. A shelf number serves one create.
-#[allow(clippy::too_many_arguments)]
-pub fn create(
-    k: u8,
-    m: u8,
-    c: u8,
-    sectors: u32,
-    shelf: u64,
-    image: &mut [u8],
-    state: &mut [u8],
-    work: &mut [u8],
-) -> Result<(), Refusal> {
-    // SAFETY: each pointer and length are one slice's, lent to this call alone.
-    begun(unsafe {
-        c::pl_create(
-            k,
-            m,
-            c,
-            sectors,
-            shelf,
-            image.as_mut_ptr(),
-            image.len(),
-            state.as_mut_ptr(),
-            state.len(),
-            work.as_mut_ptr(),
-            work.len(),
-        )
-    })
+/// The requests that are asked of image, state and work area, each as the function of the C interface that it names, and as one of a
+/// `Shelf`; what is answered is read by the function behind the arrow.
+macro_rules! requests {
+    ($($(#[$doc:meta])* $name:ident is $c:ident($($arg:ident: $t:ty),*) -> $answer:ty, $by:path;)*) => {
+        $(
+            $(#[$doc])*
+            #[allow(clippy::too_many_arguments)]
+            pub fn $name($($arg: $t,)* image: &mut [u8], state: &mut [u8], work: &mut [u8]) -> Result<$answer, Refusal> {
+                // SAFETY: each pointer and length are one slice's, lent to this call alone.
+                $by(unsafe {
+                    c::$c(
+                        $($arg,)*
+                        image.as_mut_ptr(),
+                        image.len(),
+                        state.as_mut_ptr(),
+                        state.len(),
+                        work.as_mut_ptr(),
+                        work.len(),
+                    )
+                })
+            }
+        )*
+
+        impl<I: AsRef<[u8]> + AsMut<[u8]>> Shelf<I> {
+            $(
+                $(#[$doc])*
+                pub fn $name(&mut self, $($arg: $t),*) -> Result<$answer, Refusal> {
+                    $name($($arg,)* self.image.as_mut(), &mut self.state, &mut self.work)
+                }
+            )*
+        }
+    };
 }
 
-/// Begins to start the shelf up, whatever the state was. The bytes of the slots in `absent` may be anything.
-pub fn start(
-    n: u8,
-    c: u8,
-    sectors: u32,
-    absent: u64,
-    image: &mut [u8],
-    state: &mut [u8],
-    work: &mut [u8],
-) -> Result<(), Refusal> {
-    // SAFETY: each pointer and length are one slice's, lent to this call alone.
-    begun(unsafe {
-        c::pl_start(
-            n,
-            c,
-            sectors,
-            absent,
-            image.as_mut_ptr(),
-            image.len(),
-            state.as_mut_ptr(),
-            state.len(),
-            work.as_mut_ptr(),
-            work.len(),
-        )
-    })
-}
-
-/// Begins to call a slot out: its strips are not to be believed any more.
-pub fn take_out(
-    slot: u32,
-    image: &mut [u8],
-    state: &mut [u8],
-    work: &mut [u8],
-) -> Result<(), Refusal> {
-    // SAFETY: each pointer and length are one slice's, lent to this call alone.
-    begun(unsafe {
-        c::pl_take_out(
-            slot,
-            image.as_mut_ptr(),
-            image.len(),
-            state.as_mut_ptr(),
-            state.len(),
-            work.as_mut_ptr(),
-            work.len(),
-        )
-    })
+requests! {
+    /// Begins to make a shelf of an image of zeros. A shelf number serves one create.
+    create is pl_create(k: u8, m: u8, c: u8, sectors: u32, shelf: u64) -> (), begun;
+    /// Begins to start the shelf up, whatever the state was. The bytes of the slots in `absent` may be anything.
+    start is pl_start(n: u8, c: u8, sectors: u32, absent: u64) -> (), begun;
+    /// Begins to call a slot out: its strips are not to be believed any more.
+    take_out is pl_take_out(slot: u32) -> (), begun;
+    /// Begins to rebuild a slot that is out or absent. If it was absent, this says that a disk is there, whatever it holds.
+    begin is pl_begin(slot: u32) -> (), begun;
+    /// Begins to rebuild the next strips: at least one, at most `batch`.
+    rebuild_on is pl_rebuild_on(batch: u32) -> (), begun;
+    /// Whether the stripe's equations hold, and if not, which shard is accused. Image and state stay as they are.
+    scrub_stripe is pl_scrub_stripe(stripe: u64) -> Verdict, code::verdict;
+    /// Begins to mend the shard of the stripe that a scrub accuses.
+    repair_stripe is pl_repair_stripe(stripe: u64) -> (), begun;
 }
 
 /// Begins to write a block. The data may be forgotten at once; the write is acknowledged by the step that says `Done`.
@@ -200,90 +173,6 @@ pub fn read(
             image.as_ptr(),
             image.len(),
             state.as_ptr(),
-            state.len(),
-            work.as_mut_ptr(),
-            work.len(),
-        )
-    })
-}
-
-/// Begins to rebuild a slot that is out or absent. If it was absent, this says that a disk is there, whatever it holds.
-pub fn begin(
-    slot: u32,
-    image: &mut [u8],
-    state: &mut [u8],
-    work: &mut [u8],
-) -> Result<(), Refusal> {
-    // SAFETY: each pointer and length are one slice's, lent to this call alone.
-    begun(unsafe {
-        c::pl_begin(
-            slot,
-            image.as_mut_ptr(),
-            image.len(),
-            state.as_mut_ptr(),
-            state.len(),
-            work.as_mut_ptr(),
-            work.len(),
-        )
-    })
-}
-
-/// Begins to rebuild the next strips: at least one, at most `batch`.
-pub fn rebuild_on(
-    batch: u32,
-    image: &mut [u8],
-    state: &mut [u8],
-    work: &mut [u8],
-) -> Result<(), Refusal> {
-    // SAFETY: each pointer and length are one slice's, lent to this call alone.
-    begun(unsafe {
-        c::pl_rebuild_on(
-            batch,
-            image.as_mut_ptr(),
-            image.len(),
-            state.as_mut_ptr(),
-            state.len(),
-            work.as_mut_ptr(),
-            work.len(),
-        )
-    })
-}
-
-/// Whether the stripe's equations hold, and if not, which shard is accused. Image and state stay as they are.
-pub fn scrub_stripe(
-    stripe: u64,
-    image: &mut [u8],
-    state: &mut [u8],
-    work: &mut [u8],
-) -> Result<Verdict, Refusal> {
-    // SAFETY: each pointer and length are one slice's, lent to this call alone.
-    code::verdict(unsafe {
-        c::pl_scrub_stripe(
-            stripe,
-            image.as_mut_ptr(),
-            image.len(),
-            state.as_mut_ptr(),
-            state.len(),
-            work.as_mut_ptr(),
-            work.len(),
-        )
-    })
-}
-
-/// Begins to mend the shard of the stripe that a scrub accuses.
-pub fn repair_stripe(
-    stripe: u64,
-    image: &mut [u8],
-    state: &mut [u8],
-    work: &mut [u8],
-) -> Result<(), Refusal> {
-    // SAFETY: each pointer and length are one slice's, lent to this call alone.
-    begun(unsafe {
-        c::pl_repair_stripe(
-            stripe,
-            image.as_mut_ptr(),
-            image.len(),
-            state.as_mut_ptr(),
             state.len(),
             work.as_mut_ptr(),
             work.len(),
@@ -353,35 +242,6 @@ impl<I: AsRef<[u8]> + AsMut<[u8]>> Shelf<I> {
         }
     }
 
-    pub fn create(&mut self, k: u8, m: u8, c: u8, sectors: u32, shelf: u64) -> Result<(), Refusal> {
-        create(
-            k,
-            m,
-            c,
-            sectors,
-            shelf,
-            self.image.as_mut(),
-            &mut self.state,
-            &mut self.work,
-        )
-    }
-
-    pub fn start(&mut self, n: u8, c: u8, sectors: u32, absent: u64) -> Result<(), Refusal> {
-        start(
-            n,
-            c,
-            sectors,
-            absent,
-            self.image.as_mut(),
-            &mut self.state,
-            &mut self.work,
-        )
-    }
-
-    pub fn take_out(&mut self, slot: u32) -> Result<(), Refusal> {
-        take_out(slot, self.image.as_mut(), &mut self.state, &mut self.work)
-    }
-
     pub fn write(&mut self, block: u64, data: &[u8]) -> Result<(), Refusal> {
         let image = self.image.as_mut();
         write(block, data, image, &mut self.state, &mut self.work)
@@ -390,22 +250,6 @@ impl<I: AsRef<[u8]> + AsMut<[u8]>> Shelf<I> {
     pub fn read(&mut self, block: u64, data: &mut [u8]) -> Result<(), Refusal> {
         let image = self.image.as_ref();
         read(block, data, image, &self.state, &mut self.work)
-    }
-
-    pub fn begin(&mut self, slot: u32) -> Result<(), Refusal> {
-        begin(slot, self.image.as_mut(), &mut self.state, &mut self.work)
-    }
-
-    pub fn rebuild_on(&mut self, batch: u32) -> Result<(), Refusal> {
-        rebuild_on(batch, self.image.as_mut(), &mut self.state, &mut self.work)
-    }
-
-    pub fn scrub_stripe(&mut self, stripe: u64) -> Result<Verdict, Refusal> {
-        scrub_stripe(stripe, self.image.as_mut(), &mut self.state, &mut self.work)
-    }
-
-    pub fn repair_stripe(&mut self, stripe: u64) -> Result<(), Refusal> {
-        repair_stripe(stripe, self.image.as_mut(), &mut self.state, &mut self.work)
     }
 
     pub fn step(&mut self) -> Step {

@@ -73,7 +73,7 @@ module _ {X : Type 0} (z : Size) (W : Quorum (z .n)) (C : LabelCodec X (z .n)) w
   aside-about Q N top d l j h =
       record {
         cap = omega (arith, h .cap);
-        fine = λ p q. let y = h .fine p q in record { few-out = y .few-out; narrow = inl (⊎-elim (λ n. n) (λ n. n .1) (y .narrow)) };
+        fine = λ p q. let y = h .fine p q in record { few-out = y .few-out; same-out = y .same-out; narrow = inl (⊎-elim (λ n. n) (λ n. n .1) (y .narrow)) };
         own = h .own;
         near = h .near;
       }

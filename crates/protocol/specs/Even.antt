@@ -1,13 +1,13 @@
--- WHERE TWO SETS OF FEW SLOTS CAN BE ALL SLOTS (k <= m): what has to be asked of the world, and the promise where it is kept. (That something has to be asked: no-telling, in Limits.)
--- The program is the same one, and its own test of few slots is any test at all: "at most m", say. Of the world is asked that the sets of slots that are left out by accepted start-ups and
--- take-outs lie in one family of which any two sets leave a slot out (a Quorum): so any two of them have a slot in common that took part in both.
+-- WHERE TWO SETS OF FEW SLOTS CAN BE ALL SLOTS (k <= m). The program is the same one, and its own test of few slots is any test at all: "at most m", say. As long as the sets of slots that are left
+-- out by accepted start-ups and take-outs lie in one family of which any two sets leave a slot out (a Quorum), it does what the program does whose test is that family. (What is asked of the world
+-- there, and the promise: Since.)
 use Prim.Native.Nat.{ℕ, suc}
 use mathlib.Core.Path.{_≡_, refl, sym, ap, subst}
 use mathlib.Core.Bool.{Bool, true, false, cond, not, _||_, true≢false, false≢true}
 use mathlib.Core.Logic.{_⊎_, ⊎-elim, inl, inr}
 use mathlib.Core.List.{List, [], _∷_, List·Memᴰ, List·Memᴰ·head, List·Memᴰ·tail, List·Memᴰ·not-nil, List·Memᴰ·append-cases, Memᴰ·append-left, Memᴰ·append-right, _++_}
 use lib.Dec.{ltb, leb}
-use Rattle.protocol.specs.World.{Image, World, Sane, Always}
+use Rattle.protocol.specs.World.{Image, World}
 use Rattle.protocol.specs.Log.{RecordCodec}
 use Rattle.protocol.specs.Label.{plainly-out, Size, Quorum, LabelCodec}
 use Rattle.protocol.specs.Startup.{labelled, M}
@@ -15,10 +15,7 @@ use Rattle.protocol.specs.Request.{outed}
 use Rattle.protocol.specs.Host.{Code}
 use Rattle.protocol.specs.Program.{Stamps, Medium, Refusal, NO_LABEL, TOO_FEW, BAD_BLOCK, BUSY, NOT_NOW, Verdict, clear, because, first, Own, Memory, nothing, idle, doing, Input, create, start, read-block, write, take-out, begin, rebuild-on, scrub-stripe, repair, step, Reply, accepted, refused, did, safe, done, block, found, beyond, mask, left-out, may-start, may, generations-left, answer, asked-start, asked-out, from-nothing, from-idle, from-doing, unseen, program}
 use Rattle.protocol.specs.Machine as Machine
-use Rattle.protocol.specs.Machine.{Machine, at, effect, Event, ask, Outside, Runs, View, sure, Views, next}
-use Rattle.protocol.specs.Invariant.{Invariant}
-use Rattle.protocol.specs.Promise.{Zeros}
-use Rattle.protocol.specs.Kept.{promised}
+use Rattle.protocol.specs.Machine.{Machine, at, effect, Event, ask, Outside, Runs, View, Views, next}
 
 -- ---- the same events, but for which refusal it was of which request: nothing comes of a refusal
 
@@ -317,13 +314,6 @@ module _ {X : Type 0} (z : Size) (W : Quorum (z .n)) (C : LabelCodec X (z .n)) (
   asked-runs (goes s r) h =
       let y = asked-runs r (λ t j. h t (Memᴰ·append-right (left-one s) j)) in
       one-by s (λ t j. h t (Memᴰ·append-left (left-by r) j)) (y .1) (y .2)
-
-  -- THE PROMISE, from zeros on, for whatever happens in such a world
-  pub half-promised : (w : World X) → Sane w → W .few (λ d. false) ≡ true → Always w (Zeros z W C K E S R) → {m : Machine X} {l : List (Event X)} (r : RunsBy (at w nothing) l m) → Shared (W .few) (left-by r) → (p : View X) × Views (K .c) (sure (λ t i j. K .zeros)) l p × Invariant z W C K E S R m p
-  half-promised w sane few h r s =
-      let a = asked-runs r s in
-      let b = promised z W C K E S R w sane few h (a .2) in
-      (b .0, views-alike (a .1) (b .1), b .2)
 
   -- the program's own test holds of all of them
   one-passed : {m m' : Machine X} {e : Event X} (s : HappensBy m e m') → Shared test (left-one s)

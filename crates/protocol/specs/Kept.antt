@@ -1,13 +1,16 @@
 -- WHAT FOLLOWS from the promise: the whole history of a shelf from zeros on; what every sector holds; what labels may say; which slots are touched.
-use Prim.Native.Nat.{ℕ, suc, _≤_, _<_}
-use mathlib.Core.Path.{_≡_, refl, sym, ap, subst, _∙_}
+use Prim.Native.Nat.{ℕ, zero, suc, _≤_, _<_}
+use mathlib.Core.Path.{_≡_, refl, sym, ap, ap₂, subst, _∙_}
 use mathlib.Core.Bool.{Bool, true, false, not, false≢true}
-use mathlib.Core.Logic.{⊎-elim}
+use mathlib.Core.Logic.{_⊎_, ⊎-elim, inl, inr}
 use mathlib.Core.List.{List, [], _∷_, _++_}
-use Rattle.protocol.specs.World.{Place, label, log, strip, slot, Image, World, Action, put, flush, Sane, Always, always-map}
+use native.Mathlib.Omega.{arith}
+use native.Mathlib.Decide.{ℕ-discrete}
+use Rattle.protocol.specs.World.{Place, label, log, strip, slot, Image, World, Action, put, flush, Sane, Always, During, always-map, during-start}
 use Rattle.protocol.specs.Batch.{Each, each-append, each-batch}
 use Rattle.protocol.specs.Slots.{keep, of-rows}
-use Rattle.protocol.specs.Log.{RecordCodec, Quiet}
+use Rattle.protocol.specs.Log.{Write, RecordCodec, Belief, Wrote, Complete, Old, New, Quiet}
+use Rattle.protocol.specs.Write.{Mid}
 use Rattle.protocol.specs.Redo.{redo}
 use Rattle.protocol.specs.Label.{Label, again, Size, believed, belief, Quorum, LabelCodec, copy, Aged, there, round, round-batch, prep, prepared, of-prep, prep-batch}
 use Rattle.protocol.specs.Startup.{L, M, late, level-to, again-to, last-to, rounds}
@@ -15,8 +18,8 @@ use Rattle.protocol.specs.Decide.{in-turn, settled, startup, Rest}
 use Rattle.protocol.specs.Spare.{Spares}
 use Rattle.protocol.specs.Host.{Host, Code, table}
 use Rattle.protocol.specs.Program.{Stamps, Medium, Verdict, clear, because, Own, Kind, creating, starting, logging, storing, labelling, Memory, nothing, idle, doing, Input, create, start, read-block, write, take-out, begin, rebuild-on, scrub-stripe, repair, step, Reply, accepted, refused, did, safe, done, block, found, scrubbed, beyond, mask, asked-start, may-start, may, may-repair, may-create, answer, one-step, meanwhile, choose, program}
-use Rattle.protocol.specs.Machine.{Machine, at, Event, Runs, View, sure, Views}
-use Rattle.protocol.specs.Invariant.{Ghost, Left, Off, Invariant}
+use Rattle.protocol.specs.Machine.{Machine, at, Event, Runs, View, sure, open-write, kept-write, Views}
+use Rattle.protocol.specs.Invariant.{Ghost, Under, Left, Pends, Off, Busy, Invariant}
 use Rattle.protocol.specs.Promise.{Zeros, zeros-off, promise}
 
 -- the slot that an action touches
@@ -40,8 +43,114 @@ module _ {X : Type 0} (z : Size) (W : Quorum (z .n)) (C : LabelCodec X (z .n)) (
   unfolding Quiet belief
   sound v w o h = always-map (Rest z W C K (h .1 .history) (h .1 .u) (o .now) (table z W K E v)) (λ f. (d t j : ℕ) → believed z (o .now) d t ≡ true → j < K .c → f (strip d t j) ≡ table z W K E v t d j) w (λ f r. r .quiet .strips) (h .1 .rest)
 
-  -- NO LABEL LIES. Of whatever a cut leaves there is a settled generation q, which every disk has that is not called out by it; and each label of generation q
-  -- or newer, on any disk, present or not, calls few slots out and believes only sectors that are what the list wants (healthy slots, and strips below the mark).
+  -- WHAT A BELIEVED STRIP IS, while a write may be under way.
+
+  -- strip t of slot d is what the list v wants
+  abbrev pub Wanted : Host X → Image X → ℕ → ℕ → Type 0
+  Wanted v f d t = (j : ℕ) → j < K .c → f (strip d t j) ≡ table z W K E v t d j
+
+  -- slot d's log holds strip t of the list v, whole: all its sectors have one stamp, its tail tells the stripe t, and each sector of the strip comes back from it
+  pub record Logged (v : Host X) (f : Image X) (d t : ℕ) : Type 0 where
+    pub stamp : ℕ
+    pub some : 0 < stamp
+    pub complete : Complete K f d stamp
+    pub stripe : K .stripeOf (f (log d (K .c))) ≡ t
+    pub back : (j : ℕ) → j < K .c → K .piece (f (log d (K .c))) (f (log d j)) j ≡ table z W K E v t d j
+
+  -- it is one of the strips that the write x changes, and the new one is in the slot's log
+  abbrev pub InLog : Host X → Write X → Image X → ℕ → ℕ → Type 0
+  InLog v' x f d t = (t ≡ x .stripe) × (x .changes d ≡ true) × Logged v' f d t
+
+  -- with the view p, and x the write under way: what the list wants (the old one until the write is safe, then the new one); but a strip that the write changes may hold anything once the slot's log holds the new one whole
+  abbrev pub StripTrue : View X → Write X → Image X → ℕ → ℕ → Type 0
+  StripTrue (sure v) x f d t = Wanted v f d t
+  StripTrue (open-write v v') x f d t = Wanted v f d t ⊎ InLog v' x f d t
+  StripTrue (kept-write v') x f d t = Wanted v' f d t ⊎ InLog v' x f d t
+
+  -- x is the write under way: it turns the one list into the other, and no strip but those that it changes is another by the new list
+  abbrev pub Between : View X → Write X → Type 0
+  Between (sure v) x = Unit {0}
+  Between (open-write v v') x = Wrote (z .n) (K .c) x (table z W K E v) (table z W K E v')
+  Between (kept-write v') x = (v : Host X) × Wrote (z .n) (K .c) x (table z W K E v) (table z W K E v')
+
+  new-true : (B : Belief) (history : ℕ → Write X) (u : ℕ) (v v' : Host X) → 0 < u → Wrote (z .n) (K .c) (history u) (table z W K E v) (table z W K E v') → (f : Image X) → New K B history u (table z W K E v') f
+      → (e t : ℕ) → B .believe e t ≡ true → (((t ≡ history u .stripe) × (history u .changes e ≡ true) → ⊥) × Wanted v' f e t) ⊎ InLog v' (history u) f e t
+  unfolding Complete
+  new-true B history zero v v' pos wr f n e t a = absurd (omega arith)
+  new-true B history (suc τ) v v' pos wr f n e t a = by (ℕ-discrete t (history (suc τ) .stripe)) (history (suc τ) .changes e) refl
+    where
+      other : ((t ≡ history (suc τ) .stripe) × (history (suc τ) .changes e ≡ true) → ⊥) → (((t ≡ history (suc τ) .stripe) × (history (suc τ) .changes e ≡ true) → ⊥) × Wanted v' f e t) ⊎ InLog v' (history (suc τ)) f e t
+      other r = inl (r, λ j c. n .strips e t j a c r)
+
+      whole : t ≡ history (suc τ) .stripe → history (suc τ) .changes e ≡ true → Logged v' f e t
+      whole q r =
+          let full : (j : ℕ) → j ≤ K .c → K .stamp (f (log e j)) ≡ suc τ = n .full e (subst (λ (x : ℕ). B .believe e x ≡ true) q a) r in
+          let real : (j : ℕ) → j ≤ K .c → (f (log e j) ≡ K .sector (suc τ) (history (suc τ)) e j) × (history (suc τ) .changes e ≡ true) × K .Fits (suc τ) (history (suc τ)) =
+          λ j l. n .logs .real e j τ (B .believe-look e t a) l (full j l) in
+          let tail = real (K .c) (omega arith) in
+          record {
+            stamp = suc τ;
+            some = pos;
+            complete = full;
+            stripe = ap (K .stripeOf) (tail .0) ∙ K .stripe-tail (suc τ) (history (suc τ)) e (tail .2) ∙ sym q;
+            back = λ j c.
+                ap₂ (λ (x y : X). K .piece x y j) (tail .0) (real j (omega arith) .0) ∙ K .piece-back (suc τ) (history (suc τ)) e j (tail .2) c ∙ wr .changed e j r c
+                ∙ ap (λ (x : ℕ). table z W K E v' x e j) (sym q);
+          }
+
+      by : Dec (t ≡ history (suc τ) .stripe) → (b : Bool) → history (suc τ) .changes e ≡ b → (((t ≡ history (suc τ) .stripe) × (history (suc τ) .changes e ≡ true) → ⊥) × Wanted v' f e t) ⊎ InLog v' (history (suc τ)) f e t
+      by (no q) b r = other (λ y. q (y .0))
+      by (yes q) false r = other (λ y. false≢true (sym r ∙ y .1))
+      by (yes q) true r = inr (q, r, whole q r)
+
+  -- what is known under a label is true of what it believes
+  under-true : (g : Ghost X) (p : View X) → Pends z W C K E S R g p → (l : Label) (f : Image X) → Under z W C K E S R g p (belief z l) f → (e t : ℕ) → believed z l e t ≡ true → StripTrue p (g .history (g .u)) f e t
+  unfolding Quiet Mid belief
+  under-true g (sure v) h l f u e t a = λ j c. u .strips e t j a c
+  under-true g (open-write v v') h l f u e t a =
+      ⊎-elim (λ (o : Old K (belief z l) (g .history) (g .u) (g .u) (table z W K E v) f). inl (λ j c. o .strips e t j a c))
+      (λ (n : New K (belief z l) (g .history) (g .u) (table z W K E v') f).
+      ⊎-elim (λ y. inl (λ j c. y .1 j c ∙ sym (h .wrote .same t e j (belief z l .look-n e (belief z l .believe-look e t a)) (y .0)))) inr
+      (new-true (belief z l) (g .history) (g .u) v v' (h .pos) (h .wrote) f n e t a)) u
+  under-true g (kept-write v') h l f n e t a = ⊎-elim (λ y. inl (y .1)) inr (new-true (belief z l) (g .history) (g .u) (h .0) v' (h .1 .pos) (h .1 .wrote) f n e t a)
+
+  pending-between : (g : Ghost X) (p : View X) → Pends z W C K E S R g p → Between p (g .history (g .u))
+  pending-between g (sure v) h = tt
+  pending-between g (open-write v v') h = h .wrote
+  pending-between g (kept-write v') h = (h .0, h .1 .wrote)
+
+  -- NO LABEL LIES, at any moment. Of whatever a cut leaves there is a settled generation q, which every disk has that is not called out by it; and of each label of generation q
+  -- or newer, on any disk, present or not, few slots are called out, and each strip that it believes (of healthy slots, and below the mark) is true, with one write under way at most.
+  pub record Truthful (p : View X) (f : Image X) : Type 0 where
+    pub q : ℕ
+    pub out : ℕ → Bool
+    pub few-out : W .few out ≡ true
+    pub everyone : (d : ℕ) → d < z .n → out d ≡ false → Aged C f d q
+    pub few : (d : ℕ) (b : Bool) → d < z .n → 0 < copy C f d b .generation → q ≤ copy C f d b .generation → W .few (copy C f d b .out) ≡ true
+    pub written : Write X
+    pub between : Between p written
+    pub right : (d : ℕ) (b : Bool) → d < z .n → 0 < copy C f d b .generation → q ≤ copy C f d b .generation → (e t : ℕ) → believed z (copy C f d b) e t ≡ true → StripTrue p written f e t
+
+  left-truthful : (g : Ghost X) (p : View X) → Pends z W C K E S R g p → (f : Image X) → Left z W C K E S R g p f → Truthful p f
+  unfolding belief
+  left-truthful g p pends f h =
+      record {
+        q = h .Q .generation;
+        out = h .Q .out;
+        few-out = h .labels .few-Q;
+        everyone = h .labels .low;
+        few = λ d b i p q. h .labels .fine d b i p q .few-out;
+        written = g .history (g .u);
+        between = pending-between g p pends;
+        right = λ d b i o q e t a.
+            let l = belief z (copy C f d b) .believe-look e t a in
+            ⊎-elim (λ n. under-true g p pends (h .Q) f (h .under-Q) e t (sym (n .believe-in e t l) ∙ a)) (λ n. under-true g p pends (h .N) f (h .under-N) e t (sym (n .1 .believe-in e t l) ∙ a)) (h .labels .fine d b i o q .narrow);
+      }
+
+  pub truthful : (p : View X) (w : World X) → Off z W C K E S R p w → Always w (Truthful p)
+  truthful p w h = always-map (Left z W C K E S R (h .ghost) p) (Truthful p) w (λ f x. left-truthful (h .ghost) p (h .pends) f x) (h .left)
+
+  -- while no write is under way: it believes only sectors that are what the list wants
   pub record Honest (v : Host X) (f : Image X) : Type 0 where
     pub q : ℕ
     pub out : ℕ → Bool
@@ -50,23 +159,56 @@ module _ {X : Type 0} (z : Size) (W : Quorum (z .n)) (C : LabelCodec X (z .n)) (
     pub few : (d : ℕ) (b : Bool) → d < z .n → 0 < copy C f d b .generation → q ≤ copy C f d b .generation → W .few (copy C f d b .out) ≡ true
     pub right : (d : ℕ) (b : Bool) → d < z .n → 0 < copy C f d b .generation → q ≤ copy C f d b .generation → (e t j : ℕ) → believed z (copy C f d b) e t ≡ true → j < K .c → f (strip e t j) ≡ table z W K E v t e j
 
-  left-honest : (g : Ghost X) (v : Host X) (f : Image X) → Left z W C K E S R g (sure v) f → Honest v f
-  unfolding Quiet belief
-  left-honest g v f h =
+  pub honest : (v : Host X) (w : World X) → Off z W C K E S R (sure v) w → Always w (Honest v)
+  honest v w h =
+      always-map (Truthful (sure v)) (Honest v) w
+      (λ f x. record { q = x .q; out = x .out; few-out = x .few-out; everyone = x .everyone; few = x .few; right = λ d b i o q e t j a c. x .right d b i o q e t a j c }) (truthful (sure v) w h)
+
+  -- THE PROGRAM'S OWN LABEL IS TRUE, at rest (`sound`) and while a request is under way that began at rest: every one but create and start-up, which have none of their own
+  abbrev pub FromRest : Kind X → Type 0
+  FromRest creating = ⊥
+  FromRest starting = ⊥
+  FromRest (logging x) = Unit {0}
+  FromRest (storing x) = Unit {0}
+  FromRest labelling = Unit {0}
+
+  pub record OwnTrue (p : View X) (w : World X) (o : Own) : Type 0 where
+    pub written : Write X
+    pub between : Between p written
+    pub right : Always w (λ f. (e t : ℕ) → believed z (o .now) e t ≡ true → StripTrue p written f e t)
+
+  pub own-rests : (v : Host X) (w : World X) (o : Own) → Invariant z W C K E S R (at w (idle o)) (sure v) → OwnTrue (sure v) w o
+  own-rests v w o h =
       record {
-        q = h .Q .generation;
-        out = h .Q .out;
-        few-out = h .labels .few-Q;
-        everyone = h .labels .low;
-        few = λ d b i p q. h .labels .fine d b i p q .few-out;
-        right = λ d b i p q e t j a c.
-            let y = h .labels .fine d b i p q in
-            let l = belief z (copy C f d b) .believe-look e t a in
-            ⊎-elim (λ n. h .under-Q .strips e t j (sym (n .believe-in e t l) ∙ a) c) (λ n. h .under-N .strips e t j (sym (n .1 .believe-in e t l) ∙ a) c) (y .narrow);
+        written = h .1 .history 0;
+        between = tt;
+        right = always-map (λ f. (d t j : ℕ) → believed z (o .now) d t ≡ true → j < K .c → f (strip d t j) ≡ table z W K E v t d j) (λ f. (e t : ℕ) → believed z (o .now) e t ≡ true → Wanted v f e t) w
+            (λ f q e t a j c. q e t j a c) (sound v w o h);
       }
 
-  pub honest : (v : Host X) (w : World X) → Off z W C K E S R (sure v) w → Always w (Honest v)
-  honest v w h = always-map (Left z W C K E S R (h .ghost) (sure v)) (Honest v) w (λ f x. left-honest (h .ghost) v f x) (h .left)
+  own-by : (p : View X) (w : World X) (l : List (Action X)) (o : Own) (g : Ghost X) → Pends z W C K E S R g p → (P : Image X → Type 0) → During w l P
+      → ((f : Image X) → P f → Under z W C K E S R g p (belief z (o .now)) f) → OwnTrue p w o
+  own-by p w l o g pends P d is =
+      record {
+        written = g .history (g .u);
+        between = pending-between g p pends;
+        right = always-map P (λ f. (e t : ℕ) → believed z (o .now) e t ≡ true → StripTrue p (g .history (g .u)) f e t) w (λ f q. under-true g p pends (o .now) f (is f q)) (during-start P w l d);
+      }
+
+  pub own-true : (k : Kind X) (p : View X) (w : World X) (l : List (Action X)) (o o' : Own) → FromRest k → Busy z W C K E S R k p w l o o' → OwnTrue p w o
+  unfolding Mid
+  own-true creating p w l o o' from h = absurd from
+  own-true starting p w l o o' from h = absurd from
+  own-true (logging x) (sure v) w l o o' from h = absurd (h .reads)
+  own-true (logging x) (open-write v v') w l o o' from h =
+      own-by (open-write v v') w l o (h .ghost) (h .pends) (Old K (belief z (o .now)) (h .ghost .history) (h .ghost .u) (h .ghost .u) (table z W K E v)) (h .reads .1) (λ f q. inl q)
+  own-true (logging x) (kept-write v') w l o o' from h = absurd (h .reads)
+  own-true (storing x) (sure v) w l o o' from h = absurd (h .reads)
+  own-true (storing x) (open-write v v') w l o o' from h = absurd (h .reads)
+  own-true (storing x) (kept-write v') w l o o' from h = own-by (kept-write v') w l o (h .ghost) (h .pends) (New K (belief z (o .now)) (h .ghost .history) (h .ghost .u) (table z W K E v')) (h .reads .2) (λ f q. q)
+  own-true labelling (sure v) w l o o' from h = own-by (sure v) w l o (h .ghost) (h .pends) (Quiet K (belief z (o .now)) (h .ghost .history) (h .ghost .u) (table z W K E v)) (h .reads .1) (λ f q. q)
+  own-true labelling (open-write v v') w l o o' from h = absurd (h .reads)
+  own-true labelling (kept-write v') w l o o' from h = absurd (h .reads)
 
   -- ABSENT SLOTS ARE NOT TOUCHED
   abbrev is-did : Reply X → Bool

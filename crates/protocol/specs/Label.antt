@@ -288,9 +288,10 @@ module _ {X : Type 0} {n : ℕ} (C : LabelCodec X n) where
 
 module _ {X : Type 0} (z : Size) (W : Quorum (z .n)) (C : LabelCodec X (z .n)) where
   -- Q is settled; N is Q, or the label that a request was about to settle. A label that may come to rule: few slots are out in it, and it believes nothing that Q does not, or, if it
-  -- is newer than Q, nothing that N does not.
+  -- is newer than Q, nothing that N does not. One of Q's own generation calls out what Q does.
   pub record MayRule (Q N l : Label) : Type 0 where
     pub few-out : W .few (l .out) ≡ true
+    pub same-out : l .generation ≡ Q .generation → l .out ≡ Q .out
     pub narrow : Within (belief z l) (belief z Q) ⊎ ((Q .generation < l .generation) × Within (belief z l) (belief z N))
 
   -- THE INVARIANT OF THE LABELS, of whatever a cut leaves, on all disks, present or not. top: no generation above it is anywhere. Whoever is not in far is at most one behind it.
@@ -351,7 +352,7 @@ module _ {X : Type 0} (z : Size) (W : Quorum (z .n)) (C : LabelCodec X (z .n)) w
 
   pub rules-self : (Q : Label) → W .few (Q .out) ≡ true → MayRule Q Q Q
   unfolding belief
-  rules-self Q h = record { few-out = h; narrow = inl (record { look-in = λ d e. e; believe-in = λ d t e. refl }) }
+  rules-self Q h = record { few-out = h; same-out = λ e. refl; narrow = inl (record { look-in = λ d e. e; believe-in = λ d t e. refl }) }
 
   -- a label is settled: whoever is not out has it, and nobody has another one of its generation or more
   pub labels-settle : (l : Label) (f : Image X) → W .few (l .out) ≡ true → ((d g : ℕ) → d < z .n → l .out d ≡ false → g ≤ l .generation → Aged C f d g) → Only (l .generation) l f → ((d : ℕ) (b : Bool) → d < z .n → copy C f d b .generation ≤ l .generation) → Labels l l (l .generation) (l .out) f

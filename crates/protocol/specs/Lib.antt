@@ -45,4 +45,5 @@ pub mod Walk
 pub mod Phases
 pub mod Even
 pub mod Pairs
+pub mod Since
 pub mod Pool

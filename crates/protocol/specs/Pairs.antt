@@ -1,6 +1,5 @@
--- FAMILIES OF SETS OF SLOTS of which any two leave a slot out, for shelves with k <= m; and THE PROMISE FOR EVERY RUN in which any two of the sets that are left out leave a slot out: a slot that took part
--- in both. Some such thing has to be asked: if two sets are all slots, and a write was acknowledged with the first one left out, a start-up that leaves out the second cannot tell (no-telling, in Limits).
--- It is asked of all sets of a history, also of those before the last label was settled. (Those since then should do; that is not shown.)
+-- FAMILIES OF SETS OF SLOTS of which any two leave a slot out, for shelves with k <= m; a code and a medium for each of them; and that the family is no part of the program. What is asked of the world
+-- there, and the promise: Since.
 use Prim.Native.Nat.{ℕ, zero, suc, _<_}
 use mathlib.Core.Path.{_≡_, refl, sym, ap, subst, _∙_}
 use mathlib.Core.Bool.{Bool, true, false, cond, not, _&&_, _||_, true≢false, false≢true}
@@ -8,8 +7,7 @@ use mathlib.Core.Logic.{_⊎_, ⊎-elim, inl, inr}
 use mathlib.Core.List.{List, [], _∷_, List·Memᴰ, List·Memᴰ·head, List·Memᴰ·tail, List·Memᴰ·not-nil, List·Memᴰ·cases-cons}
 use native.Mathlib.Nat.{eq-or-lt-of-le, le-of-suc-le-suc}
 use native.Mathlib.Omega.{arith}
-use borrow.Author.Tests.{not-true}
-use Rattle.protocol.specs.World.{Image, World, Sane, Always, always-map}
+use Rattle.protocol.specs.World.{Image}
 use Rattle.protocol.specs.Slots.{from, in-from, of-from, every, every-of, every-all}
 use Rattle.protocol.specs.Log.{RecordCodec}
 use Rattle.protocol.specs.Write.{both}
@@ -17,10 +15,10 @@ use Rattle.protocol.specs.Label.{Size, Quorum, LabelCodec}
 use Rattle.protocol.specs.Host.{Blocks, Code, read, read-through, writeOf, whole-change, repairOf, rebuilt}
 use Rattle.protocol.specs.Program.{Stamps, Medium, Memory, nothing, idle, doing, Input, create, start, read-block, write, take-out, begin, rebuild-on, scrub-stripe, repair, step, Reply, mask, change-made, left-out, flushed-first, told-to}
 use Rattle.protocol.specs.Machine as Machine
-use Rattle.protocol.specs.Machine.{Machine, at, effect, Event, ask, Outside, View, sure, Views}
+use Rattle.protocol.specs.Machine.{Machine, at, effect, Event, ask, Outside}
 use Rattle.protocol.specs.Promise.{Zeros}
 use Rattle.protocol.specs.Even as Even
-use Rattle.protocol.specs.Even.{is-accepted, program-by, leaves, HappensBy, RunsBy, left-one, left-by, Shared, all-passed, half-promised}
+use Rattle.protocol.specs.Even.{is-accepted, program-by, leaves, HappensBy, RunsBy, left-one, left-by}
 
 -- a part of a set that passes the test passes it
 abbrev pub Parts : ℕ → ((ℕ → Bool) → Bool) → Type 0
@@ -60,20 +58,6 @@ within test part F =
       part = λ a b h e. let p = both (test b) (F .few b) e in and-is (test a) (F .few a) (part a b h (p .0)) (F .part a b h (p .1));
       meet = λ a b p q. F .meet a b (both (test a) (F .few a) p .1) (both (test b) (F .few b) q .1);
     }
-
--- the sets that slot w is not in: it always takes part
-abbrev pub with-slot : (n w : ℕ) → w < n → Quorum n
-with-slot n w i =
-    record {
-      few = λ a. not (a w);
-      part = λ a b h e. go (a w) (b w) (h w i) e;
-      meet = λ a b p q. (w, i, not-true (a w) p, not-true (b w) q);
-    }
-  where
-    go : (x y : Bool) → (x ≡ true → y ≡ true) → not y ≡ true → not x ≡ true
-    go true true h e = e
-    go true false h e = absurd (false≢true (h refl))
-    go false y h e = refl
 
 -- the parts of the sets of a list
 unfoldable pub part-of : ℕ → (ℕ → Bool) → (ℕ → Bool) → Bool
@@ -137,6 +121,23 @@ parts-of n l two =
 -- with the empty set too
 pub with-none : (n : ℕ) → 0 < n → (l : List (ℕ → Bool)) → AnyTwo n l → AnyTwo n ((λ d. false) ∷ l)
 with-none n some l two s t i j = ⊎-elim (λ e. ⊎-elim (λ e'. (0, some, ap (λ (a : ℕ → Bool). a 0) e, ap (λ (a : ℕ → Bool). a 0) e')) (λ m. let y = two t t m m in (y .0, y .1, ap (λ (a : ℕ → Bool). a (y .0)) e, y .3)) (List·Memᴰ·cases-cons j)) (λ m. ⊎-elim (λ e'. let y = two s s m m in (y .0, y .1, y .2, ap (λ (a : ℕ → Bool). a (y .0)) e')) (λ m'. two s t m m') (List·Memᴰ·cases-cons j)) (List·Memᴰ·cases-cons i)
+
+-- the parts of the sets of a list that pass the test
+module _ {n : ℕ} (test : (ℕ → Bool) → Bool) (part : Parts n test) (none : test (λ d. false) ≡ true) (some : 0 < n) (l : List (ℕ → Bool)) (two : AnyTwo n l) where
+  abbrev parts : Quorum n
+  parts = parts-of n ((λ d. false) ∷ l) (with-none n some l two)
+
+  abbrev pub tested-parts : Quorum n
+  tested-parts = within test part parts
+
+  pub parts-pass : (a : ℕ → Bool) → tested-parts .few a ≡ true → test a ≡ true
+  parts-pass a e = both (test a) (parts .few a) e .0
+
+  pub none-in : tested-parts .few (λ d. false) ≡ true
+  none-in = and-is (test (λ d. false)) (parts .few (λ d. false)) none (some-is n (λ d. false) (λ d. false) ((λ d. false) ∷ l) (List·Memᴰ·head refl) (λ d i e. e))
+
+  pub in-parts : (s : ℕ → Bool) → List·Memᴰ s l → test s ≡ true → tested-parts .few s ≡ true
+  in-parts s m e = and-is (test s) (parts .few s) e (some-is n s s ((λ d. false) ∷ l) (List·Memᴰ·tail m) (λ d i q. q))
 
 -- ---- a code, and a medium, for a family whose sets pass the test
 
@@ -258,7 +259,7 @@ module _ {X : Type 0} (z : Size) (C : LabelCodec X (z .n)) (K : RecordCodec X) (
         subst (λ (b : Memory X × Reply X). (s' : HappensBy z W C K code-of S medium-for test (at w m) (ask i (b .1)) (at (effect w (b .1)) (b .0))) × (left-one z W C K code-of S medium-for test s' ≡ cond (is-accepted (b .1)) (leaves z (no-sets (z .n)) C K E S R test m (w .cur) i) [])) (sym (same-by m (w .cur) i))
         (Even.from-host {w = w} {m = m} i, ap (λ (l : List (ℕ → Bool)). cond (is-accepted (program-by z W C K code-of S medium-for test m (w .cur) i .1)) l []) (sym (same-leaves m (w .cur) i)))
 
-    same-runs : {m m' : Machine X} {l : List (Event X)} (r : RunsBy z (no-sets (z .n)) C K E S R test m l m') → (r' : RunsBy z W C K code-of S medium-for test m l m') × (left-by z W C K code-of S medium-for test r' ≡ left-by z (no-sets (z .n)) C K E S R test r)
+    pub same-runs : {m m' : Machine X} {l : List (Event X)} (r : RunsBy z (no-sets (z .n)) C K E S R test m l m') → (r' : RunsBy z W C K code-of S medium-for test m l m') × (left-by z W C K code-of S medium-for test r' ≡ left-by z (no-sets (z .n)) C K E S R test r)
     same-runs Even.stays = (Even.stays, refl)
     same-runs (Even.goes s r) =
         let x = same-happens s in
@@ -267,26 +268,3 @@ module _ {X : Type 0} (z : Size) (C : LabelCodec X (z .n)) (K : RecordCodec X) (
 
     pub same-zeros-of : (f : Image X) → Zeros z (no-sets (z .n)) C K E S R f → Zeros z W C K code-of S medium-for f
     same-zeros-of f h = record { labels = h .labels; logs = h .logs; strips = h .strips }
-
-  -- THE PROMISE WHERE THE SETS THAT ARE LEFT OUT LIE IN A FAMILY of which any two leave a slot out. (Each of them passes the test: that is the program's own doing.)
-  pub family-promised : (F : Quorum (z .n)) → Parts (z .n) test → test (λ d. false) ≡ true → F .few (λ d. false) ≡ true → (w : World X) → Sane w → Always w (Zeros z (no-sets (z .n)) C K E S R) → {m : Machine X} {l : List (Event X)} (r : RunsBy z (no-sets (z .n)) C K E S R test (at w nothing) l m) → Shared (F .few) (left-by z (no-sets (z .n)) C K E S R test r) → (p : View X) × Views (K .c) (sure (λ t i j. K .zeros)) l p
-  family-promised F part none-test none-F w sane h r shared =
-      let W = within test part F in
-      let sub : (a : ℕ → Bool) → W .few a ≡ true → test a ≡ true = λ a e. both (test a) (F .few a) e .0 in
-      let y = same-runs W sub r in
-      let p = half-promised z W C K (code-of W sub) S (medium-for W sub) test w sane (and-is (test (λ d. false)) (F .few (λ d. false)) none-test none-F) (always-map (Zeros z (no-sets (z .n)) C K E S R) (Zeros z W C K (code-of W sub) S (medium-for W sub)) w (same-zeros-of W sub) h) (y .0)
-      (λ s j. let i = subst (λ (l : List (ℕ → Bool)). List·Memᴰ s l) (y .1) j in and-is (test s) (F .few s) (all-passed z (no-sets (z .n)) C K E S R test r s i) (shared s i)) in
-      (p .0, p .1)
-
-  -- WHERE ANY TWO OF THEM LEAVE A SLOT OUT: nothing else is asked
-  pub pairs-promised : Parts (z .n) test → test (λ d. false) ≡ true → 0 < z .n → (w : World X) → Sane w → Always w (Zeros z (no-sets (z .n)) C K E S R) → {m : Machine X} {l : List (Event X)} (r : RunsBy z (no-sets (z .n)) C K E S R test (at w nothing) l m) → AnyTwo (z .n) (left-by z (no-sets (z .n)) C K E S R test r) → (p : View X) × Views (K .c) (sure (λ t i j. K .zeros)) l p
-  pairs-promised part none-test some w sane h r two =
-      family-promised (parts-of (z .n) ((λ d. false) ∷ sets) (with-none (z .n) some sets two)) part none-test (some-is (z .n) (λ d. false) (λ d. false) ((λ d. false) ∷ sets) (List·Memᴰ·head refl) (λ d i e. e)) w sane h r
-      (λ s j. some-is (z .n) s s ((λ d. false) ∷ sets) (List·Memᴰ·tail j) (λ d i e. e))
-    where
-      sets : List (ℕ → Bool)
-      sets = left-by z (no-sets (z .n)) C K E S R test r
-
-  -- WHERE ONE SLOT ALWAYS TAKES PART
-  pub slot-promised : Parts (z .n) test → test (λ d. false) ≡ true → (v : ℕ) → v < z .n → (w : World X) → Sane w → Always w (Zeros z (no-sets (z .n)) C K E S R) → {m : Machine X} {l : List (Event X)} (r : RunsBy z (no-sets (z .n)) C K E S R test (at w nothing) l m) → ((s : ℕ → Bool) → List·Memᴰ s (left-by z (no-sets (z .n)) C K E S R test r) → s v ≡ false) → (p : View X) × Views (K .c) (sure (λ t i j. K .zeros)) l p
-  slot-promised part none-test v i w sane h r takes = family-promised (with-slot (z .n) v i) part none-test refl w sane h r (λ s j. ap not (takes s j))

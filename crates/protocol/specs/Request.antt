@@ -62,7 +62,7 @@ module _ {X : Type 0} (z : Size) (W : Quorum (z .n)) (C : LabelCodec X (z .n)) (
         let fr = quiet-framed K history u s in
         let E : Image X → Type 0 = λ f. QuietB (belief z Q) f × QuietB (belief z N) f in
         let bare : Bare z W C E = λ f d b x o. (framed-bare QuietB fr (belief z Q) f d b x (o .0), framed-bare QuietB fr (belief z N) f d b x (o .1)) in
-        let okN : MayRule z W C Q N N = record { few-out = few; narrow = inr (omega arith, within-self (belief z N)) } in
+        let okN : MayRule z W C Q N N = record { few-out = few; same-out = λ e. absurd (omega arith); narrow = inr (omega arith, within-self (belief z N)) } in
         let start : Always w (λ f. Labels z W C Q N (N .generation) (Q .out) f × E f × Only z W C (N .generation) N f) =
         always-map (λ f. Rest z W C K history u Q s f × Quiet K (belief z N) history u s f) (λ f. Labels z W C Q N (N .generation) (Q .out) f × E f × Only z W C (N .generation) N f) w
         (λ f o. (
@@ -72,7 +72,7 @@ module _ {X : Type 0} (z : Size) (W : Quorum (z .n)) (C : LabelCodec X (z .n)) (
             low = o .0 .labels .low;
             cap = λ d b i. omega (arith, o .0 .labels .cap d b i);
             near = λ d x i e j. aged-less C f d x (Q .generation) (omega arith) (o .0 .labels .low d i e);
-            fine = λ d b i p j. let y = o .0 .labels .fine d b i p j in record { few-out = y .few-out; narrow = inl (⊎-elim (λ x. x) (λ x. x .1) (y .narrow)) };
+            fine = λ d b i p j. let y = o .0 .labels .fine d b i p j in record { few-out = y .few-out; same-out = y .same-out; narrow = inl (⊎-elim (λ x. x) (λ x. x .1) (y .narrow)) };
           },
           (o .0 .quiet, o .1),
           only-start z W C (Q .generation) (N .generation) N f (omega arith) (o .0 .labels .cap),

@@ -402,7 +402,7 @@ module _ {X : Type 0} (z : Size) (W : Quorum (z .n)) (C : LabelCodec X (z .n)) (
         ⊎-elim (λ n. inl (within-trans (belief z (next z C absent f0 g)) (belief z (L z C absent f0)) (belief z Q) h n)) (λ n. inr (omega (arith, M-low), within-trans (belief z (next z C absent f0 g)) (belief z (L z C absent f0)) (belief z N) h (n .1))) (L-ok .narrow)
 
     next-ok : (g : ℕ) → M z C absent f0 < g → MayRule z W C Q N (next z C absent f0 g)
-    next-ok g i = record { few-out = enough; narrow = next-narrow g i }
+    next-ok g i = record { few-out = enough; same-out = λ e. absurd (omega (arith, M-low)); narrow = next-narrow g i }
 
     -- L with a greater generation rules as L does
     again-ok : (g : ℕ) → M z C absent f0 < g → MayRule z W C Q N (again (L z C absent f0) g)
@@ -410,6 +410,7 @@ module _ {X : Type 0} (z : Size) (W : Quorum (z .n)) (C : LabelCodec X (z .n)) (
     again-ok g i =
         record {
           few-out = L-ok .few-out;
+          same-out = λ e. absurd (omega (arith, M-low));
           narrow = ⊎-elim (λ n. inl (record { look-in = n .look-in; believe-in = n .believe-in })) (λ n. inr (omega (arith, M-low), record { look-in = n .1 .look-in; believe-in = n .1 .believe-in })) (L-ok .narrow);
         }
 

@@ -1,19 +1,15 @@
--- THE PROMISE OF THE CODE, over chains of calls of the public functions create, start, take_out and step, on disks with caches, with
+-- THE TIE BETWEEN THE CALLS AND THE PROTOCOL'S MACHINE, of the public functions create, start, take_out and step, on disks with caches, with
 -- power cuts and deaths of the caller in between. What the functions return and leave is said in the words of their contracts
--- (`createOf`, `startOf`, `takeOutOf`, `stepWith`). Nothing is asked of the caller but that it creates this shelf, that it hands back
--- to take_out and to step the state that it was handed last, that it does with the disks what a step's answer says, and that it does
--- not start with another S and slot 0 called absent (Other says why). Of the world is asked, where k <= m, that any two of the sets of
--- slots that accepted start-ups and take-outs leave out leave a slot out in common.
--- Each call is an event of the protocol's machine or changes nothing, and the disks are that machine's; so what the protocol
--- promises holds of them. Assumes nothing.
+-- (`createOf`, `startOf`, `takeOutOf`, `stepWith`). Each call is an event of the protocol's machine or changes nothing, and the disks are
+-- that machine's. (Hosts has the chains of calls, with those that need the work area too.) Assumes nothing.
 --
 -- A refusal is an answer that leaves everything as it was, and needs no event. The code may refuse more than the protocol's program:
 -- a disk whose newest label is another shelf's.
 use mathlib.Core.Path.{_≡_, refl, sym, ap, ap₂, subst, _∙_}
 use mathlib.Core.Logic.{_⊎_, ⊎-elim, inl, inr}
 use mathlib.Core.Bool.{Bool, true, false, cond, _&&_, true≢false, false≢true}
-use mathlib.Core.List.{List, [], _∷_, _++_, append-assoc, List·Memᴰ, List·Memᴰ·head, List·Memᴰ·not-nil, List·Memᴰ·cases-cons, List·Memᴰ·append-cases, Memᴰ·append-left, Memᴰ·append-right}
-use Prim.Native.Nat.{ℕ, zero, suc, _<_}
+use mathlib.Core.List.{List, [], _∷_, _++_, List·Memᴰ, List·Memᴰ·head, List·Memᴰ·not-nil, List·Memᴰ·cases-cons}
+use Prim.Native.Nat.{ℕ, _<_}
 use lib.Dec.{eqb, leb, ltb}
 use lib.ListN.{length}
 use Rattle.disk.specs.Mask.{inMask}
@@ -44,13 +40,13 @@ use Rattle.protocol.specs.Shaped.{Shaped, AllShaped, shaped, zeros-shaped}
 use Rattle.protocol.specs.Promise.{zeros-off, simulate}
 use Rattle.protocol.specs.Even.{is-accepted}
 use Rattle.protocol.specs.Even as even
-use Rattle.protocol.specs.Pairs.{AnyTwo, no-sets}
+use Rattle.protocol.specs.Pairs.{no-sets}
 use Rattle.codecs.specs.Sector.{Sector, zeros}
 use Rattle.codecs.specs.Shelf.{Shelf, slots, geometry, size}
 use Rattle.codecs.specs.Labels.{ours, labels}
 use Rattle.codecs.specs.Records.{records}
 use Rattle.codecs.specs.Media.{stamps}
-use Rattle.shards.specs.Quorum.{fewOf, quorum}
+use Rattle.shards.specs.Quorum.{fewOf}
 use Rattle.shards.specs.Even.{any-code, any-sectors, ShelfRuns}
 use Rattle.shelf.specs.Act.{Move, refuses}
 use Rattle.shelf.specs.Step.{underWay, sound, walk, stepMove, finished}
@@ -69,7 +65,7 @@ use Rattle.requests.specs.Step.{otherWork, stepWith, step-short, step-goes, ste
 use Rattle.requests.specs.Accepted.{create-done, take-done}
 use Rattle.requests.specs.Ready.{isIdle}
 use Rattle.requests.specs.declared.begun.Begun.{Begun}
-use Rattle.refine.specs.Family.{Family, codeIn, sectorsIn, ZerosIn, HappensIn, KeepsIn, leavesOf, program-in, every-few, parts-few, in-parts}
+use Rattle.refine.specs.Family.{Family, codeIn, sectorsIn, ZerosIn, HappensIn, KeepsIn, leavesOf, program-in}
 use Rattle.refine.specs.Places.{sectorOf, inside, place-one}
 use Rattle.refine.specs.Disks.{Disks, curOf}
 use Rattle.refine.specs.Labels.{Led}
@@ -78,7 +74,6 @@ use Rattle.refine.specs.ToDo.{toDo}
 use Rattle.refine.specs.Steps.{Fair}
 use Rattle.refine.specs.Tied.{ownOf, writeIn, writeMemory, memoryOf, memoryBy, plain, Same, programOf, Tied, step-tied}
 use Rattle.refine.specs.Requests.{goes, first-ours, create-begins, out-ours, out-begins}
-use Rattle.refine.specs.Ends.{nth}
 use Rattle.refine.specs.StartBegins.{start-begins}
 use Rattle.refine.specs.Accepts.{all-zeros, create-accepted, start-leaves, start-few, start-accepted, start-real, out-leaves, out-few, out-accepted}
 use Rattle.refine.specs.Other.{Sits, same-numbers, start-other, create-late}
@@ -90,10 +85,6 @@ use Rattle.refine.specs.Named.{Named, zeros-named, Names, leftIn, create
 pub data Hand : Type 0 where
   none : Hand
   has : State → Hand
-
--- the disks with their caches, the image that is lent, and what the caller holds
-pub data Moment : Type 1 where
-  at : World Sector → List ℕ → Hand → Moment
 
 -- the state of a request that was accepted; a refusal leaves what was held
 abbrev answered : Outcome → Hand → State → Hand
@@ -111,27 +102,7 @@ Heard z w (answer.Flush d) img w' = w' ≡ act w (flush d)
 Heard z w answer.Done img w' = w' ≡ w
 Heard z w (answer.Refused why) img w' = w' ≡ w
 
-pub data Calls (z : Shelf) : Moment → Moment → Type 1 where
-  -- create and start begin anew, in any state, whatever state they are handed (its bytes may be anything). On an image of zeros create is called for this shelf, later with any numbers; start with any
-  -- numbers, but if it is told another S it is not told that slot 0 is absent
-  creates : {w : World Sector} {img : List ℕ} {h : Hand} (s : State) (room : ℕ) → Calls z (at w img h) (at w img (handed h (createOf s (z .k) (z .m) (z .c) (z .sectors) (z .number) img room)))
-  starts : {w : World Sector} {img : List ℕ} {h : Hand} (s : State) (g : Geometry) (absent room : ℕ) → Sits z g absent → Calls z (at w img h) (at w img (handed h (startOf s g absent img room)))
-  creates-late : {w : World Sector} {img : List ℕ} {h : Hand} (s : State) (k m c S number room : ℕ) → allZero img ≡ false → Calls z (at w img h) (at w img (handed h (createOf s k m c S number img room)))
-  -- the state that was handed out last is handed back
-  takes-out : {w : World Sector} {img : List ℕ} {s : State} (d room : ℕ) → Calls z (at w img (has s)) (at w img (handed (has s) (takeOutOf s d img room)))
-  steps : {w w' : World Sector} {img : List ℕ} {s : State} (work : List ℕ) → Heard z w (stepWith s img work .stepped .answer) (stepWith s img work .image) w'
-      → Calls z (at w img (has s)) (at w' (stepWith s img work .image) (has (stepWith s img work .stepped .state)))
-  -- power is lost: each sector holds something that its cache allows, each by itself; the state is lost
-  cut : {w : World Sector} {img : List ℕ} {h : Hand} (left : List ℕ) → Disks z left → Possible w (curOf z left) → Calls z (at w img h) (at (after (curOf z left)) left none)
-  -- the program dies: the state is lost
-  dies : {w : World Sector} {img : List ℕ} {h : Hand} → Calls z (at w img h) (at w img none)
-
--- any number of calls
-pub data Chain (z : Shelf) : Moment → Moment → Type 1 where
-  stays : {a : Moment} → Chain z a a
-  goes-on : {a b c : Moment} → Chain z a b → Calls z b c → Chain z a c
-
--- THE SETS OF SLOTS THAT A CHAIN LEAVES OUT: those that the labels call out which its accepted start-ups and take-outs settle
+-- THE SET OF SLOTS THAT A START-UP OR A TAKE-OUT LEAVES OUT, if it is accepted: those that the label calls out which it settles
 abbrev outs-by : Outcome → State → List (ℕ → Bool)
 outs-by Done s = inMask (s .next .out) ∷ []
 outs-by (Refused why) s = []
@@ -139,31 +110,9 @@ outs-by (Refused why) s = []
 abbrev pub outs : Begun → List (ℕ → Bool)
 outs b = outs-by (b .outcome) (b .state)
 
-abbrev pub sets-call : {z : Shelf} {a b : Moment} → Calls z a b → List (ℕ → Bool)
-sets-call (creates s room) = []
-sets-call (creates-late s k m c S number room e) = []
-sets-call (starts {img = img} s g absent room sits) = outs (startOf s g absent img room)
-sets-call (takes-out {img = img} {s = s} d room) = outs (takeOutOf s d img room)
-sets-call (steps work heard) = []
-sets-call (cut left d p) = []
-sets-call dies = []
+-- ---- THE TIE with the protocol's machine
 
-abbrev pub sets : {z : Shelf} {a b : Moment} → Chain z a b → List (ℕ → Bool)
-sets stays = []
-sets (goes-on c x) = sets-call x ++ sets c
-
-pub chained-on : {z : Shelf} {a b c : Moment} → Chain z a b → Chain z b c → Chain z a c
-chained-on p stays = p
-chained-on p (goes-on q x) = goes-on (chained-on p q) x
-
-pub sets-on : {z : Shelf} {a b c : Moment} (p : Chain z a b) (q : Chain z b c) → sets (chained-on p q) ≡ sets q ++ sets p
-unfolding chained-on
-sets-on p stays = refl
-sets-on p (goes-on q x) = ap (λ (l : List (ℕ → Bool)). sets-call x ++ l) (sets-on p q) ∙ sym (append-assoc (sets-call x) (sets q) (sets p))
-
--- ---- THE TIE between a moment and the protocol's machine
-
--- the host's blocks are zeros: nothing here writes any
+-- the host's blocks at first: all zeros
 abbrev pub blocks : Host Sector
 blocks t i j = zeros
 
@@ -212,9 +161,6 @@ module _ (z : Shelf) (F : Family z) (first : Machine Sector) where
     pub named : Always w (Named z)
     pub names : Names z (leftIn z (memoryIn z h img))
     pub order : InOrder z h img
-
-  abbrev pub On : View Sector → Moment → Type 1
-  On p (at w img h) = Tie p w img h
 
   -- one event more: the view goes on as it may
   happens-to : {p : View Sector} {w w' : World Sector} {m m' : Memory Sector} {e : Event Sector} → Reached p w m → HappensTo z (machine.at w m) e (machine.at w' m') → (h : HappensIn z F (machine.at w m) e (machine.at w' m'))
@@ -479,52 +425,8 @@ module _ (z : Shelf) (F : Family z) (first : Machine Sector) (view : View Sector
       busy f p true e = inr (BadBuffer, step-short s img work (f .in-range) e)
       busy f p false e = inl (subst (Tied z s [] img) (sym (step-goes s img work (f .in-range) e)) (step-tied z s [] work img p f))
 
--- ---- NOTHING IS WRITTEN: the host's blocks stay zeros
-
-module _ (z : Shelf) (F : Family z) (first : Machine Sector) where
-  -- no answer of a step changes the blocks
-  step-same : (r : Reply Sector) (a : Answer) → Same z a r → (q : View Sector) → Answered (z .c) step r (sure blocks) q → q ≡ sure blocks
-  step-same accepted a s q h = absurd s
-  step-same (refused why) a s q h = absurd s
-  step-same (did x) a s q h = h
-  step-same safe a s q h = absurd s
-  step-same (done program.creating) a s q h = h
-  step-same (done program.starting) a s q h = h
-  step-same (done (program.logging x)) a s q h = absurd h
-  step-same (done (program.storing x)) a s q h = absurd h
-  step-same (done program.labelling) a s q h = h
-  step-same (block b) a s q h = absurd s
-  step-same (found x) a s q h = absurd s
-
-  -- a step of a request under way
-  goes-kept : (w : World Sector) (img : List ℕ) (s : State) (m : Move) (w' : World Sector) → Tied z s [] img m → Tie z F first (sure blocks) w img (has s) → Heard z w (m .stepped .answer) (m .image) w' → Tie z F first (sure blocks) w' (m .image) (has (m .stepped .state))
-  goes-kept w img s m w' tied t h =
-      let y = goes-to z F first (sure blocks) w img s m w' tied t h in
-      subst (λ (p : View Sector). Tie z F first p w' (m .image) (has (m .stepped .state))) (step-same (tied .reply) (m .stepped .answer) (tied .answers) (y .0) (y .1)) (y .2)
-
-  step-kept : (w : World Sector) (img : List ℕ) (s : State) (work : List ℕ) (w' : World Sector) → Tie z F first (sure blocks) w img (has s)
-      → Heard z w (stepWith s img work .stepped .answer) (stepWith s img work .image) w' → Tie z F first (sure blocks) w' (stepWith s img work .image) (has (stepWith s img work .stepped .state))
-  step-kept w img s work w' t h =
-      ⊎-elim (λ (d : Tied z s [] img (stepWith s img work)). goes-kept w img s (stepWith s img work) w' d t h)
-      (λ (d : (why : Refusal) × (stepWith s img work ≡ refuses s why img)). refused-kept z F first (sure blocks) w img s (d .0) (stepWith s img work) w' (d .1) t h) (step-is z F first (sure blocks) w img s work t)
-
-  -- ---- A CALL KEEPS THE TIE
-
-  pub call-kept : {a b : Moment} (x : Calls z a b) → Allowed z F (sets-call x) → On z F first (sure blocks) a → On z F first (sure blocks) b
-  call-kept (creates {w} {img} {h} s room) ok t = create-kept z F first (sure blocks) w img h s room t
-  call-kept (creates-late {w} {img} {h} s k m c S number room e) ok t = late-kept z F first (sure blocks) w img h s k m c S number room e t
-  call-kept (starts {w} {img} {h} s g absent room sits) ok t = start-any z F first (sure blocks) w img h s g absent room sits ok t
-  call-kept (takes-out {w} {img} {s} d room) ok t = out-kept z F first (sure blocks) w img s d room ok t
-  call-kept (steps {w} {w'} {img} {s} work heard) ok t = step-kept w img s work w' t heard
-  call-kept (cut {w} {img} {h} left d p) ok t = cut-kept z F first (sure blocks) w img h left d p t
-  call-kept (dies {w} {img} {h}) ok t = record { disks = t .disks; reads = t .reads; reached = off z F first (sure blocks) (t .reached); named = t .named; names = tt; order = tt }
-
-  pub chain-kept : {a b : Moment} (c : Chain z a b) → Allowed z F (sets c) → On z F first (sure blocks) a → On z F first (sure blocks) b
-  chain-kept stays ok t = t
-  chain-kept (goes-on c x) ok t = call-kept x (λ s m. ok s (Memᴰ·append-left (sets c) m)) (chain-kept c (λ s m. ok s (Memᴰ·append-right (sets-call x) m)) t)
-
-  -- THE SETS THAT A CHAIN LEAVES OUT are of at most m slots each
-  start-passed : (w : World Sector) (img : List ℕ) (h : Hand) (s : State) (absent room : ℕ) → Tie z F first (sure blocks) w img h → (a : ℕ → Bool) → List·Memᴰ a (outs (startOf s (geometry z) absent img room)) → fewOf z a ≡ true
+  -- THE SETS THAT ARE LEFT OUT are of at most m slots each
+  start-passed : (w : World Sector) (img : List ℕ) (h : Hand) (s : State) (absent room : ℕ) → Tie z F first view w img h → (a : ℕ → Bool) → List·Memᴰ a (outs (startOf s (geometry z) absent img room)) → fewOf z a ≡ true
   start-passed w img h s absent room t a = by (surveyOf (geometry z) img absent) refl
     where
       by : (x : Survey) → surveyOf (geometry z) img absent ≡ x → List·Memᴰ a (outs (bySurvey x s (geometry z) absent img room)) → fewOf z a ≡ true
@@ -532,10 +434,16 @@ module _ (z : Shelf) (F : Family z) (first : Machine Sector) where
       by (survey.Plan p) e m = fits (eqb room (workBytes (slots z) (z .c))) m
         where
           fits : (b : Bool) → List·Memᴰ a (outs (cond b (record { state = started (geometry z) absent p img; outcome = Done }) (record { state = s; outcome = Refused BadBuffer }))) → fewOf z a ≡ true
-          fits true m = ⊎-elim (λ q. ap (fewOf z) q ∙ start-few z img absent p e (led-by z F first (sure blocks) w img h absent t p e)) (λ n. absurd (List·Memᴰ·not-nil n)) (List·Memᴰ·cases-cons m)
+          fits true m = ⊎-elim (λ q. ap (fewOf z) q ∙ start-few z img absent p e (led-by w img h absent t p e)) (λ n. absurd (List·Memᴰ·not-nil n)) (List·Memᴰ·cases-cons m)
           fits false m = absurd (List·Memᴰ·not-nil m)
 
-  out-passed : (w : World Sector) (img : List ℕ) (s : State) (d room : ℕ) → Tie z F first (sure blocks) w img (has s) → (a : ℕ → Bool) → List·Memᴰ a (outs (takeOutOf s d img room)) → fewOf z a ≡ true
+  pub start-any-passed : (w : World Sector) (img : List ℕ) (h : Hand) (s : State) (g : Geometry) (absent room : ℕ) → Sits z g absent → Tie z F first view w img h
+      → (a : ℕ → Bool) → List·Memᴰ a (outs (startOf s g absent img room)) → fewOf z a ≡ true
+  start-any-passed w img h s g absent room sits t a =
+      ⊎-elim (λ (e : g ≡ geometry z). subst (λ (x : Geometry). List·Memᴰ a (outs (startOf s x absent img room)) → fewOf z a ≡ true) (sym e) (start-passed w img h s absent room t a))
+      (λ (other : g ≡ geometry z → ⊥). subst (λ (x : Survey). List·Memᴰ a (outs (bySurvey x s g absent img room)) → fewOf z a ≡ true) (sym (start-other z img (t .disks) (ours-in w img h t) g absent other sits)) (λ n. absurd (List·Memᴰ·not-nil n))) (same-numbers z g)
+
+  pub out-passed : (w : World Sector) (img : List ℕ) (s : State) (d room : ℕ) → Tie z F first view w img (has s) → (a : ℕ → Bool) → List·Memᴰ a (outs (takeOutOf s d img room)) → fewOf z a ≡ true
   out-passed w img s d room t a = by (takeAnswer (s .now) (s .kind) (s .absent) img d room) refl
     where
       own : ours z (s .now) ≡ true
@@ -545,25 +453,8 @@ module _ (z : Shelf) (F : Family z) (first : Machine Sector) where
       by Done e m = ⊎-elim (λ q. ap (fewOf z) q ∙ out-few z img (t .disks) s own d room e) (λ n. absurd (List·Memᴰ·not-nil n)) (List·Memᴰ·cases-cons m)
       by (Refused why) e m = absurd (List·Memᴰ·not-nil m)
 
-  pub call-passed : {a b : Moment} (x : Calls z a b) → On z F first (sure blocks) a → (s : ℕ → Bool) → List·Memᴰ s (sets-call x) → fewOf z s ≡ true
-  call-passed (creates s room) t a m = absurd (List·Memᴰ·not-nil m)
-  call-passed (creates-late s k m c S number room e) t a n = absurd (List·Memᴰ·not-nil n)
-  call-passed (starts {w} {img} {h} s g absent room sits) t a m =
-      ⊎-elim (λ (e : g ≡ geometry z). subst (λ (x : Geometry). List·Memᴰ a (outs (startOf s x absent img room)) → fewOf z a ≡ true) (sym e) (start-passed w img h s absent room t a))
-      (λ (other : g ≡ geometry z → ⊥). subst (λ (x : Survey). List·Memᴰ a (outs (bySurvey x s g absent img room)) → fewOf z a ≡ true) (sym (start-other z img (t .disks) (ours-in z F first (sure blocks) w img h t) g absent other sits)) (λ n. absurd (List·Memᴰ·not-nil n))) (same-numbers z g) m
-  call-passed (takes-out {w} {img} {s} d room) t a m = out-passed w img s d room t a m
-  call-passed (steps work heard) t a m = absurd (List·Memᴰ·not-nil m)
-  call-passed (cut left d p) t a m = absurd (List·Memᴰ·not-nil m)
-  call-passed dies t a m = absurd (List·Memᴰ·not-nil m)
-
-  pub chain-passed : {a b : Moment} (c : Chain z a b) → Allowed z F (sets c) → On z F first (sure blocks) a → (s : ℕ → Bool) → List·Memᴰ s (sets c) → fewOf z s ≡ true
-  chain-passed stays ok t s m = absurd (List·Memᴰ·not-nil m)
-  chain-passed (goes-on c x) ok t s m =
-      let before : Allowed z F (sets c) = λ a n. ok a (Memᴰ·append-right (sets-call x) n) in
-      let there = chain-kept c before t in
-      ⊎-elim (λ n. call-passed x there s n) (λ n. chain-passed c before t s n) (List·Memᴰ·append-cases (sets-call x) m)
-
-  -- and each step can be followed: its answer names a sector of the shelf
+module _ (z : Shelf) (F : Family z) (first : Machine Sector) where
+  -- each step can be followed: its answer names a sector of the shelf
   pub heard-by : (w : World Sector) (img : List ℕ) (r : Reply Sector) (a : Answer) → Same z a r → effect w r .cur ≡ curOf z img → (w' : World Sector) × Heard z w a img w'
   heard-by w img accepted a s c = absurd s
   heard-by w img (refused why) a s c = absurd s
@@ -574,21 +465,7 @@ module _ (z : Shelf) (F : Family z) (first : Machine Sector) where
   heard-by w img (block b) a s c = absurd s
   heard-by w img (found x) a s c = absurd s
 
-  pub followed : (w : World Sector) (img : List ℕ) (s : State) (work : List ℕ) → On z F first (sure blocks) (at w img (has s)) → (w' : World Sector) × Heard z w (stepWith s img work .stepped .answer) (stepWith s img work .image) w'
-  followed w img s work t =
-      ⊎-elim (λ (d : Tied z s [] img (stepWith s img work)). heard-by w (stepWith s img work .image) (d .reply) (stepWith s img work .stepped .answer) (d .answers) (d .acts w (t .reads)))
-      (λ (d : (why : Refusal) × (stepWith s img work ≡ refuses s why img)). subst (λ (m : Move). (w' : World Sector) × Heard z w (m .stepped .answer) (m .image) w') (sym (d .1)) (w, refl)) (step-is z F first (sure blocks) w img s work t)
-
-  -- step after step; they leave nothing out
-  pub followed-on : (work : List ℕ) (n : ℕ) (w : World Sector) (img : List ℕ) (s : State) → On z F first (sure blocks) (at w img (has s))
-      → (w' : World Sector) × (c : Chain z (at w img (has s)) (at w' (nth work n s img .image) (has (nth work n s img .stepped .state)))) × (sets c ≡ [])
-  followed-on work zero w img s t = let y = followed w img s work t in (y .0, goes-on stays (steps work (y .1)), refl)
-  followed-on work (suc n) w img s t =
-      let y = followed w img s work t in
-      let r = followed-on work n (y .0) (stepWith s img work .image) (stepWith s img work .stepped .state) (step-kept w img s work (y .0) t (y .1)) in
-      (r .0, chained-on (goes-on stays (steps work (y .1))) (r .1), sets-on (goes-on stays (steps work (y .1))) (r .1) ∙ ap (λ (l : List (ℕ → Bool)). l ++ []) (r .2))
-
--- ---- THE PROMISE
+-- ---- THE BEGINNING
 
 module _ (z : Shelf) (img : List ℕ) (disks : Disks z img) (blank : allZero img ≡ true) where
   -- the protocol's machine on these disks, with nothing in their caches and no program
@@ -615,22 +492,3 @@ module _ (z : Shelf) (img : List ℕ) (disks : Disks z img) (blank : allZero img
         names = tt;
         order = tt;
       }
-
-  -- FROM AN IMAGE OF ZEROS ON, whatever is called, and however often power is lost or the program dies: the disks and what the
-  -- program remembers beside the state are reached by the protocol's own events, and its invariant holds of them, with the host's
-  -- blocks all zeros; for any family that the sets are in which the chain leaves out
-  pub chained-in : (F : Family z) {b : Moment} (c : Chain z (at (after (curOf z img)) img none) b) → Allowed z F (sets c) → On z F fresh (sure blocks) b
-  chained-in F c ok = chain-kept z F fresh c ok (fresh-tie F)
-
-  -- FOR EVERY SHELF, where any two of these sets leave a slot out in common
-  pub chained-any : {b : Moment} (c : Chain z (at (after (curOf z img)) img none) b) (two : AnyTwo (slots z) (sets c)) → On z (parts-few z (sets c) two) fresh (sure blocks) b
-  chained-any c two = chained-in (parts-few z (sets c) two) c (in-parts z (sets c) two)
-
-  -- FOR k > m nothing is asked: any two sets of at most m slots leave a slot out
-  pub nothing-asked : (more : z .m < z .k) {b : Moment} (c : Chain z (at (after (curOf z img)) img none) b) → AnyTwo (slots z) (sets c)
-  nothing-asked more c s t i j =
-      let passed = chain-passed z (every-few z more) fresh c (λ a m e. e) (fresh-tie (every-few z more)) in
-      quorum z more .meet s t (passed s i) (passed t j)
-
-  pub chained : (more : z .m < z .k) {b : Moment} → Chain z (at (after (curOf z img)) img none) b → On z (every-few z more) fresh (sure blocks) b
-  chained more c = chained-in (every-few z more) c (λ s m e. e)

@@ -1,13 +1,12 @@
 -- A FAMILY OF SETS OF SLOTS, of which any two leave a slot out, and each is at most m: what is kept along a history is kept for such a family, in which lie the sets of slots that accepted
 -- start-ups and take-outs leave out. For k > m all sets of at most m are one, and nothing is asked. For every shelf the parts of sets of which any two leave a slot out are one.
 -- The program is the shelf's own throughout, whose test is "at most m". Assumes nothing.
-use mathlib.Core.Path.{_≡_, refl, sym, ap, subst, _∙_}
+use mathlib.Core.Path.{_≡_, sym, ap, subst, _∙_}
 use mathlib.Core.Bool.{Bool, true, false}
 use mathlib.Core.Logic.{⊎-elim}
-use mathlib.Core.List.{List, _∷_, List·Memᴰ, List·Memᴰ·head, List·Memᴰ·tail}
+use mathlib.Core.List.{List, List·Memᴰ}
 use Prim.Native.Nat.{ℕ, _<_}
 use Rattle.protocol.specs.World.{Image, World, strip, Always}
-use Rattle.protocol.specs.Write.{both}
 use Rattle.protocol.specs.Label.{Quorum, believed}
 use Rattle.protocol.specs.Host.{Host, Code, table}
 use Rattle.protocol.specs.Program.{Medium, Refusal, Own, Memory, idle, Input, Reply, accepted, refused, program}
@@ -16,7 +15,9 @@ use Rattle.protocol.specs.Invariant.{Invariant}
 use Rattle.protocol.specs.Promise.{Zeros}
 use Rattle.protocol.specs.Kept as Kept
 use Rattle.protocol.specs.Even.{leaves, by-step}
-use Rattle.protocol.specs.Pairs.{AnyTwo, and-is, no-sets, within, parts-of, with-none, some-is, code-for, medium-for, same-by, same-leaves}
+use Rattle.protocol.specs.Pairs.{AnyTwo, no-sets, tested-parts, parts-pass, none-in, code-for, medium-for, same-by, same-leaves}
+use Rattle.protocol.specs.Pairs as Pairs
+use Rattle.protocol.specs.Since.{rest-for, rest-few}
 use Rattle.codecs.specs.Sector.{Sector}
 use Rattle.codecs.specs.Shelf.{Shelf, slots, size, some-slots}
 use Rattle.codecs.specs.Labels.{labels}
@@ -40,19 +41,16 @@ one-takes-part n v i l takes s t a b = (v, i, takes s a, takes t b)
 
 -- for every shelf: the parts of the sets of a list, where any two of them leave a slot out
 module _ (z : Shelf) (l : List (ℕ → Bool)) (two : AnyTwo (slots z) l) where
-  abbrev parts : Quorum (slots z)
-  parts = parts-of (slots z) ((λ d. false) ∷ l) (with-none (slots z) (some-slots z) l two)
-
   abbrev pub parts-few : Family z
   parts-few =
       record {
-        sets = within (fewOf z) (few-parts z) parts;
-        few = λ a e. both (fewOf z a) (parts .few a) e .0;
-        none = and-is (fewOf z (λ d. false)) (parts .few (λ d. false)) (few-none z) (some-is (slots z) (λ d. false) (λ d. false) ((λ d. false) ∷ l) (List·Memᴰ·head refl) (λ d i e. e));
+        sets = tested-parts (fewOf z) (few-parts z) (few-none z) (some-slots z) l two;
+        few = parts-pass (fewOf z) (few-parts z) (few-none z) (some-slots z) l two;
+        none = none-in (fewOf z) (few-parts z) (few-none z) (some-slots z) l two;
       }
 
   pub in-parts : (s : ℕ → Bool) → List·Memᴰ s l → fewOf z s ≡ true → parts-few .sets .few s ≡ true
-  in-parts s m e = and-is (fewOf z s) (parts .few s) e (some-is (slots z) s s ((λ d. false) ∷ l) (List·Memᴰ·tail m) (λ d i q. q))
+  in-parts = Pairs.in-parts (fewOf z) (few-parts z) (few-none z) (some-slots z) l two
 
 -- the set of slots that a request leaves out, if it is accepted
 abbrev pub leavesOf : (z : Shelf) → Memory Sector → Image Sector → Input Sector → List (ℕ → Bool)
@@ -94,3 +92,11 @@ module _ (z : Shelf) (F : Family z) where
       → Always w (λ f. (d t j : ℕ) → believed (size z) (o .now) d t ≡ true → j < z .c → f (strip d t j) ≡ any-code z .shard t (v t) d j)
   unfolding table
   sound-in = Kept.sound (size z) (F .sets) (labels z) (records z) codeIn stamps sectorsIn
+
+-- AT REST what is kept for one family is kept for every other that has the set of slots which the settled label calls out
+pub keeps-for : (z : Shelf) (F F' : Family z) (w : World Sector) (o : Own) (p : View Sector) → F' .sets .few (o .now .out) ≡ true → KeepsIn z F (at w (idle o)) p → KeepsIn z F' (at w (idle o)) p
+keeps-for z F F' = rest-for (size z) (labels z) (records z) (any-code z) stamps (any-sectors z) (fewOf z) (mends z) (F .sets) (F .few) (F' .sets) (F' .few)
+
+-- and that set is in the first one
+pub keeps-few : (z : Shelf) (F : Family z) (w : World Sector) (o : Own) (p : View Sector) → KeepsIn z F (at w (idle o)) p → F .sets .few (o .now .out) ≡ true
+keeps-few z F = rest-few (size z) (labels z) (records z) (any-code z) stamps (any-sectors z) (fewOf z) (mends z) (F .sets) (F .few)

@@ -89,7 +89,8 @@ abbrev pub held : Held → Begun → List ℕ → Held
 held h b work = heldBy (b .outcome) h (b .state) work
 
 pub data HostCalls (z : Shelf) : Time → Time → Type 1 where
-  -- as in Chain, with the work area
+  -- create and start begin anew, in any state, whatever state they are handed (its bytes may be anything). On an image of zeros create is called for this shelf, later with any numbers; start with any
+  -- numbers, but if it is told another S it is not told that slot 0 is absent (Other says why)
   creates : {w : World Sector} {img : List ℕ} {h : Held} (s : State) (work : List ℕ) → HostCalls z (at w img h) (at w img (held h (createOf s (z .k) (z .m) (z .c) (z .sectors) (z .number) img (length work)) work))
   starts : {w : World Sector} {img : List ℕ} {h : Held} (s : State) (g : Geometry) (absent : ℕ) (work : List ℕ) → Sits z g absent → HostCalls z (at w img h) (at w img (held h (startOf s g absent img (length work)) work))
   creates-late : {w : World Sector} {img : List ℕ} {h : Held} (s : State) (k m c S number : ℕ) (work : List ℕ) → allZero img ≡ false → HostCalls z (at w img h) (at w img (held h (createOf s k m c S number img (length work)) work))
@@ -272,7 +273,7 @@ module _ (z : Shelf) (F : Family z) (first : Machine Sector) where
       by (Refused why) n = t
 
   -- no request of these is at rest
-  not-rest : (p : View Sector) (w : World Sector) (img : List ℕ) (s : State) (work : List ℕ) → Busy p w img s work → isIdle (s .kind) ≡ true → ⊥
+  pub not-rest : (p : View Sector) (w : World Sector) (img : List ℕ) (s : State) (work : List ℕ) → Busy p w img s work → isIdle (s .kind) ≡ true → ⊥
   not-rest p w img s work (inl t) e = false≢true (sym (ap isIdle (t .writes .kind)) ∙ e)
   not-rest p w img s work (inr (inl t)) e = false≢true (sym (ap isIdle (t .kind)) ∙ e)
   not-rest p w img s work (inr (inr t)) e = false≢true (sym (ap isIdle (t .refills .kind)) ∙ e)

@@ -34,13 +34,15 @@ pub mod Named
 pub mod Chain
 pub mod Refills
 pub mod Holds
-pub mod Promise
 pub mod Blind
 pub mod Strips
 pub mod Sees
 pub mod WriteAsked
 pub mod Mends
 pub mod Hosts
+pub mod Since
 pub mod Reads
 pub mod HostHolds
+pub mod HostTrue
 pub mod Serves
+pub mod Promise

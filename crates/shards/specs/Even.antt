@@ -1,5 +1,6 @@
 -- THE PROMISE AT REAL SECTORS FOR EVERY SHELF within the limits, k <= m among them (2 + 2, 2 + 3, 3 + 3), if the world does what is then asked of it: any two of the sets of slots that
--- accepted start-ups and take-outs leave out, leave a slot out in common. The program's own test is "at most m" throughout. For k > m it is the same program, and nothing is asked. Assumes nothing.
+-- accepted start-ups and take-outs leave out from one moment of rest to the next, and of the set that the label calls out which is settled at the first, leave a slot out in common. The program's own
+-- test is "at most m" throughout. For k > m it is the same program, and nothing is asked. Assumes nothing.
 use mathlib.Core.Path.{_≡_, refl}
 use mathlib.Core.Bool.{Bool, true, false, false≢true}
 use mathlib.Core.List.{List, List·Memᴰ}
@@ -16,7 +17,7 @@ use Rattle.protocol.specs.Machine.{Machine, at, Event, View, sure, Views}
 use Rattle.protocol.specs.Promise.{Zeros}
 use Rattle.protocol.specs.Even.{Shared, program-by, RunsBy, left-by, all-passed}
 use Rattle.protocol.specs.Pairs.{Parts, AnyTwo, no-sets, within, Mends}
-use Rattle.protocol.specs.Pairs as Pairs
+use Rattle.protocol.specs.Since as Since
 use Rattle.protocol.specs.Exchange.{Disks, Room, room, Strange}
 use Rattle.protocol.specs.Pool.{BefellBy, left-all}
 use Rattle.protocol.specs.Pool as Pool
@@ -89,27 +90,35 @@ module _ (z : Shelf) where
   abbrev pub left-room : (F : Quorum (slots z)) {r r' : Room Sector} {l : List (Event Sector)} → ShelfBefell F r l r' → List (ℕ → Bool)
   left-room F b = left-all (size z) (no-sets (slots z)) (labels z) (records z) any-code stamps any-sectors (fewOf z) (within (fewOf z) few-parts F .few) b
 
-  -- THE PROMISE, where any two of them leave a slot out
-  pub pairs-promised : (w : World Sector) → Sane w → Always w ShelfZeros → {a : Machine Sector} {l : List (Event Sector)} (r : ShelfRuns (at w nothing) l a) → AnyTwo (slots z) (left r) → (p : View Sector) × Views (z .c) (sure (λ t i j. zeros)) l p
-  pairs-promised w sane h r two = Pairs.pairs-promised (size z) (labels z) (records z) any-code stamps any-sectors (fewOf z) mends few-parts (few-none z) (some-slots z) w sane h r two
+  -- any two of those that are left out from one moment of rest to the next, and of what the label calls out that is settled at the first, leave a slot out
+  abbrev pub AnyTwoSince : {a b : Machine Sector} {l : List (Event Sector)} → ShelfRuns a l b → Type 0
+  AnyTwoSince r = Since.AnyTwoSince (size z) (labels z) (records z) any-code stamps any-sectors (fewOf z) mends r
 
-  -- so where one slot always takes part
-  pub slot-promised : (v : ℕ) → v < slots z → (w : World Sector) → Sane w → Always w ShelfZeros → {a : Machine Sector} {l : List (Event Sector)} (r : ShelfRuns (at w nothing) l a) → ((s : ℕ → Bool) → List·Memᴰ s (left r) → s v ≡ false) → (p : View Sector) × Views (z .c) (sure (λ t i j. zeros)) l p
-  slot-promised v i w sane h r takes = Pairs.slot-promised (size z) (labels z) (records z) any-code stamps any-sectors (fewOf z) mends few-parts (few-none z) v i w sane h r takes
+  -- THE PROMISE, where it is so
+  pub since-promised : (w : World Sector) → Sane w → Always w ShelfZeros → {a : Machine Sector} {l : List (Event Sector)} (r : ShelfRuns (at w nothing) l a) → AnyTwoSince r → (p : View Sector) × Views (z .c) (sure (λ t i j. zeros)) l p
+  since-promised w sane h r two = Since.since-promised (size z) (labels z) (records z) any-code stamps any-sectors (fewOf z) mends few-parts (few-none z) (some-slots z) w sane h r two
+
+  -- it is so where any two of all sets of the history leave a slot out,
+  pub pairs-since : (w : World Sector) → Sane w → Always w ShelfZeros → {a : Machine Sector} {l : List (Event Sector)} (r : ShelfRuns (at w nothing) l a) → AnyTwo (slots z) (left r) → AnyTwoSince r
+  pairs-since w sane h r two = Since.pairs-since (size z) (labels z) (records z) any-code stamps any-sectors (fewOf z) mends few-parts (few-none z) (some-slots z) w sane h r two
+
+  -- so where one slot always takes part;
+  pub slot-since : (v : ℕ) → v < slots z → (w : World Sector) → Sane w → Always w ShelfZeros → {a : Machine Sector} {l : List (Event Sector)} (r : ShelfRuns (at w nothing) l a) → ((s : ℕ → Bool) → List·Memᴰ s (left r) → s v ≡ false) → AnyTwoSince r
+  slot-since v i w sane h r takes = pairs-since w sane h r (λ s t a b. (v, i, takes s a, takes t b))
+
+  -- and for k > m: nothing is asked
+  pub nothing-asked : z .m < z .k → (w : World Sector) → Sane w → Always w ShelfZeros → {a : Machine Sector} {l : List (Event Sector)} (r : ShelfRuns (at w nothing) l a) → AnyTwoSince r
+  nothing-asked more w sane h r = pairs-since w sane h r (λ s t i j. quorum z more .meet s t (passed s i) (passed t j))
+    where
+      passed : (s : ℕ → Bool) → List·Memᴰ s (left r) → fewOf z s ≡ true
+      passed = all-passed (size z) (no-sets (slots z)) (labels z) (records z) any-code stamps any-sectors (fewOf z) r
 
   -- with exchanged disks: the sets that are left out lie in a family F of which any two leave a slot out, and so do, and are at most m, the slots that are absent or hold another disk than
   -- their last, at an accepted start-up that may miss the newest label
   pub exchange-promised : (F : Quorum (slots z)) → F .few (λ d. false) ≡ true → (w : World Sector) (x : Disks Sector) → Sane w → Always w ShelfZeros → x .made ≡ false → Strange (size z) (labels z) x → {r : Room Sector} {l : List (Event Sector)} (b : ShelfBefell F (room w nothing x) l r) → Shared (F .few) (left-room F b) → (p : View Sector) × Views (z .c) (sure (λ t i j. zeros)) l p
   exchange-promised F none w x sane h made strange b shared = Pool.exchange-family-promised (size z) (labels z) (records z) any-code stamps any-sectors (fewOf z) mends F few-parts (few-none z) none w x sane h made strange b shared
 
-  -- for k > m nothing is asked,
-  pub nothing-asked : z .m < z .k → {a b : Machine Sector} {l : List (Event Sector)} (r : ShelfRuns a l b) → AnyTwo (slots z) (left r)
-  nothing-asked more r s t i j = quorum z more .meet s t (passed s i) (passed t j)
-    where
-      passed : (s : ℕ → Bool) → List·Memᴰ s (left r) → fewOf z s ≡ true
-      passed = all-passed (size z) (no-sets (slots z)) (labels z) (records z) any-code stamps any-sectors (fewOf z) r
-
-  -- and it is the program that Promise is about
+  -- for k > m it is the program that Promise is about
   pub same-program : (more : z .m < z .k) (m : Memory Sector) (f : Image Sector) (i : Input Sector) → shelf-program m f i ≡ program (size z) (quorum z more) (labels z) (records z) (code z more) stamps (sectors z more) m f i
   unfolding program-by program mask left-out flushed-first told-to read read-through writeOf change-made whole-change repairOf rebuilt sectors any-sectors medium
   same-program more nothing f create = refl

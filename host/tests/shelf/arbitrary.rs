@@ -53,31 +53,6 @@ fn moments() -> Vec<(Vec<u8>, Vec<u8>)> {
     all
 }
 
-/// Some of the state's numbers become others.
-fn disturb(state: &mut [u8], random: &mut Random) {
-    for _ in 0..random.below(4) {
-        let at = random.below(state.len() / 8) * 8;
-        let number = match random.below(5) {
-            0 => random.next(),
-            1 => u64::MAX,
-            2 => 1 << random.below(64),
-            3 => u64::from_le_bytes(state[at..at + 8].try_into().unwrap()) ^ 1 << random.below(5),
-            _ => random.below(20) as u64,
-        };
-        state[at..at + 8].copy_from_slice(&number.to_le_bytes());
-    }
-}
-
-/// Sometimes the length is wrong, sometimes everything is.
-fn spoil(bytes: &mut Vec<u8>, random: &mut Random) {
-    match random.below(24) {
-        0 => bytes.truncate(random.below(bytes.len() + 1)),
-        1 => bytes.push(0),
-        2 => random.fill(bytes),
-        _ => {}
-    }
-}
-
 enum Answer {
     Begun(Result<(), Refusal>),
     Stepped(Step),
@@ -135,9 +110,9 @@ fn arbitrary_bytes() {
             let at = random.below(200) * 512;
             random.fill(&mut image[at..at + 512]);
         }
-        disturb(&mut state, &mut random);
+        random.disturb(&mut state);
         for bytes in [&mut image, &mut state, &mut work] {
-            spoil(bytes, &mut random);
+            random.spoil(bytes);
         }
         let lent = &mut [Lent::new(&image), Lent::new(&state), Lent::new(&work)];
         let [a, b, c] = lent;

@@ -1,9 +1,10 @@
 //! What start-up is to do, worked out from the documents on the disks as they are seen: refusals and labels (document 03, and the
 //! rules for who is stale), and the log (docs/LOG.md).
 use crate::bytes::{
-    parse_tail, restored, stamp_at, Content, Sector, MOST_GENERATION, SECTOR, ZEROS,
+    parse_tail, restored, stamp_at, Content, Sector, Shape, MOST_GENERATION, SECTOR, ZEROS,
 };
 use crate::disks::Disks;
+use paritylocker::shelf::Status;
 use paritylocker::Refusal;
 
 fn has(mask: u64, slot: usize) -> bool {
@@ -91,4 +92,21 @@ pub fn log(disks: &Disks, settled: &Content) -> Vec<(usize, usize, Sector)> {
     }
     let marked = looked.into_iter().filter(|&d| stamp_at(&raw(d)) == stamp);
     marked.map(|slot| (slot, tail_at, ZEROS)).collect()
+}
+
+/// What the state says of a shelf that is ready under this label.
+pub fn status(shape: &Shape, l: &Content, absent: u64) -> Status {
+    Status {
+        ready: true,
+        k: shape.k,
+        m: shape.m,
+        c: shape.c,
+        sectors: shape.sectors,
+        shelf: shape.shelf,
+        generation: l.generation,
+        out: l.out.into(),
+        absent,
+        rebuilding: l.rebuilding,
+        mark: l.mark,
+    }
 }

@@ -3,7 +3,7 @@ use crate::bytes::{Content, Sector, Shape};
 use crate::disks::{Disks, World};
 use crate::expect;
 use crate::writes::Write;
-use paritylocker::shelf::{Status, Step};
+use paritylocker::shelf::Step;
 use paritylocker::Refusal;
 use std::collections::BTreeMap;
 
@@ -174,7 +174,7 @@ impl Watch {
     fn check_done(&mut self, goal: &Goal) {
         let (shape, l) = (self.disks.shape, goal.label);
         assert!(goal.puts.is_empty(), "the log is not dealt with");
-        assert_eq!(self.disks.status(), status(&shape, &l, self.absent));
+        assert_eq!(self.disks.status(), expect::status(&shape, &l, self.absent));
         for slot in (0..shape.n()).filter(|d| self.absent >> d & 1 == 0) {
             assert_eq!(self.disks.label(slot), Some((shape, l)), "slot {slot}");
             assert!(self.disks.flushed(slot), "slot {slot} is not flushed");
@@ -223,21 +223,5 @@ impl Watch {
                 assert_eq!(decided, new, "slot {slot}: the write was decided otherwise");
             }
         }
-    }
-}
-
-fn status(shape: &Shape, l: &Content, absent: u64) -> Status {
-    Status {
-        ready: true,
-        k: shape.k,
-        m: shape.m,
-        c: shape.c,
-        sectors: shape.sectors,
-        shelf: shape.shelf,
-        generation: l.generation,
-        out: l.out.into(),
-        absent,
-        rebuilding: l.rebuilding,
-        mark: l.mark,
     }
 }

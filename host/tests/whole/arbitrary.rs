@@ -83,31 +83,6 @@ fn moments() -> Vec<Moment> {
     all
 }
 
-/// Some of the state's numbers become others.
-fn disturb(state: &mut [u8], random: &mut Random) {
-    for _ in 0..random.below(4) {
-        let at = random.below(state.len() / 8) * 8;
-        let number = match random.below(5) {
-            0 => random.next(),
-            1 => u64::MAX,
-            2 => 1 << random.below(64),
-            3 => u64::from_le_bytes(state[at..at + 8].try_into().unwrap()) ^ 1 << random.below(5),
-            _ => random.below(20) as u64,
-        };
-        state[at..at + 8].copy_from_slice(&number.to_le_bytes());
-    }
-}
-
-/// Sometimes the length is wrong, sometimes everything is.
-fn spoil(bytes: &mut Vec<u8>, random: &mut Random) {
-    match random.below(24) {
-        0 => bytes.truncate(random.below(bytes.len() + 1)),
-        1 => bytes.push(0),
-        2 => random.fill(bytes),
-        _ => {}
-    }
-}
-
 enum Answer {
     Begun(Result<(), Refusal>),
     Read(Result<(), Refusal>),
@@ -164,9 +139,9 @@ fn arbitrary_bytes() {
         if random.once_in(3) {
             random.fill(&mut work);
         }
-        disturb(&mut state, &mut random);
+        random.disturb(&mut state);
         for bytes in [&mut image, &mut state, &mut work, &mut data] {
-            spoil(bytes, &mut random);
+            random.spoil(bytes);
         }
         let mut lent = [&image, &state, &work, &data].map(|b| Lent::new(b));
         let answer = ask(&mut random, lent.each_mut().map(Lent::inner));

@@ -5,7 +5,7 @@ use crate::expect;
 use crate::list::{content, Shards};
 use crate::random::Random;
 use paritylocker::code::Verdict;
-use paritylocker::shelf::{self, Status, Step};
+use paritylocker::shelf::{self, Step};
 use paritylocker::Refusal;
 
 /// A write that was cut, or is under way.
@@ -520,7 +520,7 @@ impl Rig {
     /// The label is what it was to be, the same on all present slots, flushed.
     fn check_labels(&self) {
         let (shape, l) = (self.shape(), self.facts.settled);
-        assert_eq!(self.disks.status(), status(&shape, &l, self.absent));
+        assert_eq!(self.disks.status(), expect::status(&shape, &l, self.absent));
         for slot in (0..shape.n()).filter(|&d| !has(self.absent, d)) {
             assert_eq!(self.disks.label(slot), Some((shape, l)), "slot {slot}");
             assert!(self.disks.flushed(slot), "slot {slot} is not flushed");
@@ -751,22 +751,6 @@ impl Rig {
                 (None, None) => {}
             }
         }
-    }
-}
-
-pub fn status(shape: &Shape, l: &Content, absent: u64) -> Status {
-    Status {
-        ready: true,
-        k: shape.k,
-        m: shape.m,
-        c: shape.c,
-        sectors: shape.sectors,
-        shelf: shape.shelf,
-        generation: l.generation,
-        out: l.out.into(),
-        absent,
-        rebuilding: l.rebuilding,
-        mark: l.mark,
     }
 }
 
