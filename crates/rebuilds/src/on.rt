@@ -198,9 +198,10 @@ fn on_state(s: State, batch: usize, image: &[u8]) -> State
     }
 }
 
-// Rebuilds the next strips, at most `batch` of them and one at least; none where all are rebuilt, and then the slot is healthy. Refused, in this order: no shelf is started NOT_NOW; another
-// image BAD_IMAGE; a present disk whose label is not the state's NO_LABEL; more than m slots out or absent TOO_FEW; a request under way
-// BUSY; no slot is being rebuilt, or it is absent, or no generation is left, NOT_NOW; another work area BAD_BUFFER.
+// Rebuilds the next strips, at most `batch` of them and one at least; none where all are rebuilt already. Refused, in this order: no
+// shelf is started NOT_NOW; another image BAD_IMAGE; a present disk whose label is not the state's NO_LABEL; more than m slots out or
+// absent TOO_FEW; a request under way BUSY; no slot is being rebuilt, or it is absent, or no generation is left, NOT_NOW; another work
+// area BAD_BUFFER.
 // What is accepted says in its marks (forward) whether survivors contradict each other.
 pub fn rebuild_on(s: State, batch: usize, image: &[u8], room: usize) -> Begun
     ensures { λ r. ⌜ r ≡ onOf s batch (now (image .entry)) room ⌝ }

@@ -282,6 +282,7 @@ module _ (z : Shelf) (img : List ℕ) (disks : Disks z img) (s : State) (own : o
 
   -- ---- the beginning
 
+  -- the stage with which it begins is one of those that there are
   early : (n : ℕ) → leb (firstStage n) mostStages ≡ true
   early zero = refl
   early (suc n) = refl
