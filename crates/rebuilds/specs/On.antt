@@ -24,10 +24,10 @@ use Rattle.requests.specs.Ready.{isIdle, hasShelf, readyOf}
 use Rattle.requests.specs.Accepted.{passed, ready-done}
 use Rattle.requests.specs.TakeOut.{nextLabel}
 use Rattle.requests.specs.declared.begun.Begun.{Begun}
-use Rattle.shelf.specs.declared.state.State.{State}
-use Rattle.shelf.specs.declared.state.Marks.{Marks}
-use Rattle.shelf.specs.declared.state.Kind.{Kind}
-use Rattle.shelf.specs.declared.state.Kind.the-variants.{Filling}
+use Rattle.stages.specs.declared.state.State.{State}
+use Rattle.stages.specs.declared.state.Marks.{Marks}
+use Rattle.stages.specs.declared.state.Kind.{Kind}
+use Rattle.stages.specs.declared.state.Kind.the-variants.{Filling}
 use Rattle.rebuilds.specs.Judge.{tooFew, lastOne, sized, judged, judged-done, first-done}
 use Rattle.rebuilds.specs.Begin.{only}
 use Rattle.rebuilds.specs.Survivors.{contradicted}

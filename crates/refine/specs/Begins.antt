@@ -22,11 +22,11 @@ use Rattle.codecs.specs.Shelf.{Shelf, slots, geometry, size}
 use Rattle.codecs.specs.Labels.{ours, labels}
 use Rattle.codecs.specs.Records.{records}
 use Rattle.shelf.specs.Act.{named}
-use Rattle.shelf.specs.Stage.{again, stageAt, stageOf}
+use Rattle.stages.specs.Stage.{again, stageAt, stageOf}
 use Rattle.shelf.specs.Step.{sound}
-use Rattle.shelf.specs.declared.state.State.{State}
-use Rattle.shelf.specs.declared.state.Kind.{Kind}
-use Rattle.shelf.specs.declared.state.Kind.the-variants.{Creating, Starting, Labelling}
+use Rattle.stages.specs.declared.state.State.{State}
+use Rattle.stages.specs.declared.state.Kind.{Kind}
+use Rattle.stages.specs.declared.state.Kind.the-variants.{Creating, Starting, Labelling}
 use Rattle.refine.specs.Disks.{Disks}
 use Rattle.refine.specs.ToDo.{round-each, create-each, start-each, underOf}
 use Rattle.refine.specs.Steps.{Present, Tells, Can, Narrow, Fair, first-narrow}

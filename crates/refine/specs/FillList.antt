@@ -25,15 +25,15 @@ use Rattle.codecs.specs.Labels.{labelOf, labels, ours}
 use Rattle.codecs.specs.Records.{records}
 use Rattle.codecs.specs.Media.{stamps}
 use Rattle.shards.specs.Even.{any-code, any-sectors}
-use Rattle.shelf.specs.Limits.{mostStages}
-use Rattle.shelf.specs.State.{moved}
-use Rattle.shelf.specs.Stage.{roundStage, fillStage, stageAt, stageOf}
+use Rattle.stages.specs.Limits.{mostStages}
+use Rattle.stages.specs.State.{moved}
+use Rattle.stages.specs.Stage.{roundStage, fillStage, stageAt, stageOf}
 use Rattle.shelf.specs.Step.{isEnd, onStage, sound, stepMove}
-use Rattle.shelf.specs.declared.state.State.{State}
-use Rattle.shelf.specs.declared.state.Kind.{Kind}
-use Rattle.shelf.specs.declared.state.Kind.the-variants.{Filling}
-use Rattle.shelf.specs.declared.stage.Stage.{Stage}
-use Rattle.shelf.specs.declared.stage.Stage.the-variants.{Flush, Give, Fill}
+use Rattle.stages.specs.declared.state.State.{State}
+use Rattle.stages.specs.declared.state.Kind.{Kind}
+use Rattle.stages.specs.declared.state.Kind.the-variants.{Filling}
+use Rattle.stages.specs.declared.stage.Stage.{Stage}
+use Rattle.stages.specs.declared.stage.Stage.the-variants.{Flush, Give, Fill}
 use Rattle.rebuilds.specs.On.{firstStage}
 use Rattle.refine.specs.Disks.{Disks, curOf, seenOf, seen-present}
 use Rattle.refine.specs.Fills.{Fillable}

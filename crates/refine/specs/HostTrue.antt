@@ -33,12 +33,12 @@ use Rattle.codecs.specs.Labels.{ours, labelOf, labels}
 use Rattle.codecs.specs.Records.{records}
 use Rattle.codecs.specs.Media.{stamps}
 use Rattle.shards.specs.Quorum.{fewOf}
-use Rattle.shelf.specs.declared.state.State.{State}
-use Rattle.shelf.specs.declared.state.Stepped.{Stepped}
-use Rattle.shelf.specs.declared.state.Kind.{Kind}
-use Rattle.shelf.specs.declared.state.Kind.the-variants.{Nothing, Idle, Creating, Starting, Labelling, Writing, Beginning, Filling}
-use Rattle.shelf.specs.State.{rested}
-use Rattle.shelf.specs.Limits.{mostStages}
+use Rattle.stages.specs.declared.state.State.{State}
+use Rattle.stages.specs.declared.state.Stepped.{Stepped}
+use Rattle.stages.specs.declared.state.Kind.{Kind}
+use Rattle.stages.specs.declared.state.Kind.the-variants.{Nothing, Idle, Creating, Starting, Labelling, Writing, Beginning, Filling}
+use Rattle.stages.specs.State.{rested}
+use Rattle.stages.specs.Limits.{mostStages}
 use Rattle.requests.specs.Begun.{workBytes, begun}
 use Rattle.requests.specs.Create.{shelfFits, createAnswer, created, createOf}
 use Rattle.requests.specs.Start.{started, bySurvey, startOf}

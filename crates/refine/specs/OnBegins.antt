@@ -39,12 +39,12 @@ use Rattle.codecs.specs.Records.{records}
 use Rattle.codecs.specs.Media.{stamps, medium}
 use Rattle.shards.specs.Quorum.{fewOf, few-count, count-few, few-mask}
 use Rattle.shards.specs.Even.{any-code, any-sectors}
-use Rattle.shelf.specs.Limits.{mostStages}
+use Rattle.stages.specs.Limits.{mostStages}
 use Rattle.shelf.specs.Act.{named}
 use Rattle.shelf.specs.Step.{sound}
 use Rattle.shelf.specs.Says.{when, unless}
-use Rattle.shelf.specs.declared.state.State.{State}
-use Rattle.shelf.specs.declared.state.Kind.{Kind}
+use Rattle.stages.specs.declared.state.State.{State}
+use Rattle.stages.specs.declared.state.Kind.{Kind}
 use Rattle.requests.specs.Begun.{workBytes, slotsBut}
 use Rattle.requests.specs.Ready.{isIdle, readyOf}
 use Rattle.requests.specs.TakeOut.{nextLabel}

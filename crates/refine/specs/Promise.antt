@@ -38,11 +38,11 @@ use Rattle.shards.specs.Quorum.{quorum}
 use Rattle.shelf.specs.Laws.{Legal, step-one}
 use Rattle.shelf.specs.Act.{refuses}
 use Rattle.shelf.specs.Step.{sound, stepMove}
-use Rattle.shelf.specs.declared.state.State.{State}
-use Rattle.shelf.specs.declared.state.Answer.{Answer}
-use Rattle.shelf.specs.declared.state.Answer.the-variants as answer
-use Rattle.shelf.specs.declared.state.Kind.the-variants.{Idle}
-use Rattle.shelf.specs.State.{rested}
+use Rattle.stages.specs.declared.state.State.{State}
+use Rattle.stages.specs.declared.state.Answer.{Answer}
+use Rattle.stages.specs.declared.state.Answer.the-variants as answer
+use Rattle.stages.specs.declared.state.Kind.the-variants.{Idle}
+use Rattle.stages.specs.State.{rested}
 use Rattle.requests.specs.Begun.{workBytes, begun}
 use Rattle.requests.specs.Create.{shardsFit, shelfFits, createAnswer, created, createOf}
 use Rattle.requests.specs.Start.{startOf}

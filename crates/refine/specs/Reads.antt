@@ -47,11 +47,11 @@ use Rattle.views.specs.Program.{bad-same}
 use Rattle.blocks.specs.Slots.{tooFew}
 use Rattle.blocks.specs.Answers.{serves, lookAnswer, sizes, blockAnswer, first-done, answered-done}
 use Rattle.blocks.specs.Read.{laidBy, laidOver, blockShown, halfOf, shownOf, readAnswer, afterRead, Shows, read-done, shows-block}
-use Rattle.shelf.specs.Limits.{mostStages}
-use Rattle.shelf.specs.Stage.{writeStage}
-use Rattle.shelf.specs.declared.state.State.{State}
-use Rattle.shelf.specs.declared.state.Kind.{Kind}
-use Rattle.shelf.specs.declared.state.Kind.the-variants.{Nothing, Idle, Creating, Starting, Labelling, Writing, Beginning, Filling}
+use Rattle.stages.specs.Limits.{mostStages}
+use Rattle.stages.specs.Stage.{writeStage}
+use Rattle.stages.specs.declared.state.State.{State}
+use Rattle.stages.specs.declared.state.Kind.{Kind}
+use Rattle.stages.specs.declared.state.Kind.the-variants.{Nothing, Idle, Creating, Starting, Labelling, Writing, Beginning, Filling}
 use Rattle.refine.specs.Given.{shelf-geometry}
 use Rattle.refine.specs.Family.{Family}
 use Rattle.refine.specs.Disks.{Disks, curOf, seenOf}

@@ -22,16 +22,16 @@ use Rattle.codecs.specs.Sector.{Sector, zeros}
 use Rattle.codecs.specs.Shelf.{Shelf, slots}
 use Rattle.codecs.specs.Labels.{ours}
 use Rattle.codecs.specs.Records.{records}
-use Rattle.shelf.specs.Limits.{mostStages}
-use Rattle.shelf.specs.State.{moved}
-use Rattle.shelf.specs.Stage.{roundStage, lastStage, beginStage, stageAt, stageOf}
+use Rattle.stages.specs.Limits.{mostStages}
+use Rattle.stages.specs.State.{moved}
+use Rattle.stages.specs.Stage.{roundStage, lastStage, beginStage, stageAt, stageOf}
 use Rattle.shelf.specs.Act.{Move}
 use Rattle.shelf.specs.Step.{isEnd, finished, sound, stepMove}
-use Rattle.shelf.specs.declared.state.State.{State}
-use Rattle.shelf.specs.declared.state.Kind.{Kind}
-use Rattle.shelf.specs.declared.state.Kind.the-variants.{Beginning}
-use Rattle.shelf.specs.declared.stage.Stage.{Stage}
-use Rattle.shelf.specs.declared.stage.Stage.the-variants.{Flush, Give, Clear, Erase}
+use Rattle.stages.specs.declared.state.State.{State}
+use Rattle.stages.specs.declared.state.Kind.{Kind}
+use Rattle.stages.specs.declared.state.Kind.the-variants.{Beginning}
+use Rattle.stages.specs.declared.stage.Stage.{Stage}
+use Rattle.stages.specs.declared.stage.Stage.the-variants.{Flush, Give, Clear, Erase}
 use Rattle.refine.specs.Disks.{Disks, curOf}
 use Rattle.refine.specs.Lists.{Says, slots-are}
 use Rattle.refine.specs.ToDo.{slotsFrom, toldAt, copyAt, given, rows-fresh, underOf, actsOf, leftOf, toDo, stage-same, left-ended, begin-each}

@@ -22,8 +22,8 @@ use Rattle.protocol.specs.Pairs.{AnyTwo}
 use Rattle.codecs.specs.Sector.{Sector, Bytes}
 use Rattle.codecs.specs.Shelf.{Shelf, slots}
 use Rattle.codecs.specs.Records.{stripBytes}
-use Rattle.shelf.specs.declared.state.State.{State}
-use Rattle.shelf.specs.declared.state.Kind.the-variants.{Idle}
+use Rattle.stages.specs.declared.state.State.{State}
+use Rattle.stages.specs.declared.state.Kind.the-variants.{Idle}
 use Rattle.requests.specs.declared.begun.Begun.{Begun}
 use Rattle.blocks.specs.Read.{readAnswer, afterRead}
 use Rattle.scrubs.specs.Repair.{Repairs}

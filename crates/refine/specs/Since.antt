@@ -17,7 +17,7 @@ use Rattle.protocol.specs.Pairs.{AnyTwo, parts-of, with-none, some-is}
 use Rattle.codecs.specs.Sector.{Sector}
 use Rattle.codecs.specs.Shelf.{Shelf, slots, some-slots}
 use Rattle.shards.specs.Quorum.{fewOf}
-use Rattle.shelf.specs.declared.state.State.{State}
+use Rattle.stages.specs.declared.state.State.{State}
 use Rattle.requests.specs.Ready.{isIdle}
 use Rattle.refine.specs.Family.{Family, parts-few, in-parts, keeps-for, keeps-few}
 use Rattle.refine.specs.Tied.{ownOf}

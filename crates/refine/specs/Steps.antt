@@ -35,19 +35,19 @@ use Rattle.codecs.specs.Shelf.{Shelf, slots, geometry, size, limits, some-secto
 use Rattle.codecs.specs.Labels.{sideOf, ours, labelOf}
 use Rattle.codecs.specs.Records.{counts, stampNumber, records}
 use Rattle.shards.specs.Even.{any-code}
-use Rattle.shelf.specs.Limits.{mostStages}
-use Rattle.shelf.specs.State.{moved}
-use Rattle.shelf.specs.Stage.{slotsOf, stageAt, stageOf}
+use Rattle.stages.specs.Limits.{mostStages}
+use Rattle.stages.specs.State.{moved}
+use Rattle.stages.specs.Stage.{slotsOf, stageAt, stageOf}
 use Rattle.shelf.specs.Act.{Move, inStrips, byRebuilt, fillMove, onward, refuses, named, byOutcome, putMove, flushMove, giveMove, wipeMove, byStrip, byRestored, restoreMove, byLogged, logMove, byStored, storeMove, clearMove, eraseMove, actMove}
 use Rattle.shelf.specs.Step.{seek, isEnd, finished, onStage, nextSlot, walk, keeps, underWay, sound, stepMove}
 use Rattle.shelf.specs.Says.{when, unless, step-goes}
 use Rattle.shelf.specs.Bound.{widthOf}
 use Rattle.shelf.specs.Kept.{keptOf}
-use Rattle.shelf.specs.declared.state.State.{State}
-use Rattle.shelf.specs.declared.state.Stepped.{Stepped}
-use Rattle.shelf.specs.declared.state.Answer.the-variants as answer
-use Rattle.shelf.specs.declared.stage.Stage.{Stage}
-use Rattle.shelf.specs.declared.stage.Stage.the-variants.{Flush, Give, Wipe, Restore, Log, Store, Clear, Erase, Fill, End}
+use Rattle.stages.specs.declared.state.State.{State}
+use Rattle.stages.specs.declared.state.Stepped.{Stepped}
+use Rattle.stages.specs.declared.state.Answer.the-variants as answer
+use Rattle.stages.specs.declared.stage.Stage.{Stage}
+use Rattle.stages.specs.declared.stage.Stage.the-variants.{Flush, Give, Wipe, Restore, Log, Store, Clear, Erase, Fill, End}
 use Rattle.refine.specs.Places.{sectorOf, inside, slot-below, sector-below, label-inside, log-inside, strip-is-inside}
 use Rattle.refine.specs.Disks.{Disks, curOf, image-fits, disks-put, cur-put}
 use Rattle.refine.specs.Restored.{restores, piece-is}

@@ -21,18 +21,18 @@ use Rattle.codecs.specs.Labels.{labelOf}
 use Rattle.codecs.specs.Records.{stampNumber}
 use Rattle.protocol.specs.Log.{Write}
 use Rattle.shards.specs.Even.{shelf-program}
-use Rattle.shelf.specs.State.{moved}
+use Rattle.stages.specs.State.{moved}
 use Rattle.shelf.specs.Act.{Move}
-use Rattle.shelf.specs.Limits.{mostStages}
-use Rattle.shelf.specs.Stage.{stageAt, stageOf}
+use Rattle.stages.specs.Limits.{mostStages}
+use Rattle.stages.specs.Stage.{stageAt, stageOf}
 use Rattle.shelf.specs.Step.{isEnd, onStage, finished, underWay, sound, stepMove}
-use Rattle.shelf.specs.declared.state.State.{State}
-use Rattle.shelf.specs.declared.state.Kind.{Kind}
-use Rattle.shelf.specs.declared.state.Kind.the-variants.{Nothing, Idle, Creating, Starting, Labelling, Writing, Beginning, Filling}
-use Rattle.shelf.specs.declared.stage.Stage.{Stage}
-use Rattle.shelf.specs.declared.stage.Stage.the-variants.{Flush, Give, Wipe, Restore, Clear, Erase, End}
-use Rattle.shelf.specs.declared.state.Answer.{Answer}
-use Rattle.shelf.specs.declared.state.Answer.the-variants as answer
+use Rattle.stages.specs.declared.state.State.{State}
+use Rattle.stages.specs.declared.state.Kind.{Kind}
+use Rattle.stages.specs.declared.state.Kind.the-variants.{Nothing, Idle, Creating, Starting, Labelling, Writing, Beginning, Filling}
+use Rattle.stages.specs.declared.stage.Stage.{Stage}
+use Rattle.stages.specs.declared.stage.Stage.the-variants.{Flush, Give, Wipe, Restore, Clear, Erase, End}
+use Rattle.stages.specs.declared.state.Answer.{Answer}
+use Rattle.stages.specs.declared.state.Answer.the-variants as answer
 use Rattle.refine.specs.Places.{sectorOf, inside}
 use Rattle.refine.specs.Disks.{curOf}
 use Rattle.refine.specs.Keeps.{keptWrite}

@@ -31,17 +31,17 @@ use Rattle.shards.specs.Parity.{shard-ext}
 use Rattle.shards.specs.Strips.{shardIn, blocksFrom}
 use Rattle.shards.specs.Exact.{blocks-blind}
 use Rattle.shards.specs.Even.{any-code}
-use Rattle.shelf.specs.Limits.{mostStages}
-use Rattle.shelf.specs.State.{moved}
-use Rattle.shelf.specs.Stage.{again, roundStage, lateStage, startStage, createStage, writeStage, lastStage, beginStage, fillStage, stageAt, stageOf}
+use Rattle.stages.specs.Limits.{mostStages}
+use Rattle.stages.specs.State.{moved}
+use Rattle.stages.specs.Stage.{again, roundStage, lateStage, startStage, createStage, writeStage, lastStage, beginStage, fillStage, stageAt, stageOf}
 use Rattle.shelf.specs.Act.{oddSector}
 use Rattle.shelf.specs.Step.{seek, isEnd, onStage}
-use Rattle.shelf.specs.declared.state.State.{State}
-use Rattle.shelf.specs.declared.state.Marks.{Marks}
-use Rattle.shelf.specs.declared.state.Kind.{Kind}
-use Rattle.shelf.specs.declared.state.Kind.the-variants.{Nothing, Idle, Creating, Starting, Labelling, Writing, Beginning, Filling}
-use Rattle.shelf.specs.declared.stage.Stage.{Stage}
-use Rattle.shelf.specs.declared.stage.Stage.the-variants.{Flush, Give, Wipe, Restore, Log, Store, Clear, Erase, Fill, End}
+use Rattle.stages.specs.declared.state.State.{State}
+use Rattle.stages.specs.declared.state.Marks.{Marks}
+use Rattle.stages.specs.declared.state.Kind.{Kind}
+use Rattle.stages.specs.declared.state.Kind.the-variants.{Nothing, Idle, Creating, Starting, Labelling, Writing, Beginning, Filling}
+use Rattle.stages.specs.declared.stage.Stage.{Stage}
+use Rattle.stages.specs.declared.stage.Stage.the-variants.{Flush, Give, Wipe, Restore, Log, Store, Clear, Erase, Fill, End}
 use Rattle.refine.specs.Places.{copySector, sectorOf}
 use Rattle.refine.specs.Disks.{curOf}
 use Rattle.refine.specs.Keeps.{keptStrip, keptWrite}

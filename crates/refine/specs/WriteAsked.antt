@@ -46,7 +46,7 @@ use Rattle.blocks.specs.Answers.{work-is, range-of}
 use Rattle.blocks.specs.Read.{Shows, halfOf, shows-block}
 use Rattle.blocks.specs.Write.{mostCount, writeAnswer, changing, Written, write-done}
 use Rattle.shelf.specs.Step.{sound}
-use Rattle.shelf.specs.declared.state.State.{State}
+use Rattle.stages.specs.declared.state.State.{State}
 use Rattle.refine.specs.Given.{shelf-geometry}
 use Rattle.refine.specs.Disks.{Disks, curOf, seenOf}
 use Rattle.refine.specs.Keeps.{Works, kept-bytes, keptStrip}

@@ -24,15 +24,15 @@ use Rattle.codecs.specs.Sector.{Sector, sector-path}
 use Rattle.codecs.specs.Shelf.{Shelf, slots, size}
 use Rattle.codecs.specs.Labels.{labelOf}
 use Rattle.codecs.specs.Records.{stampNumber, stampOf, stripBytes, tailOf, logOf, endOf, recordSector, records}
-use Rattle.shelf.specs.Limits.{mostStages}
-use Rattle.shelf.specs.State.{moved}
-use Rattle.shelf.specs.Stage.{writeStage, stageAt, stageOf}
+use Rattle.stages.specs.Limits.{mostStages}
+use Rattle.stages.specs.State.{moved}
+use Rattle.stages.specs.Stage.{writeStage, stageAt, stageOf}
 use Rattle.shelf.specs.Step.{isEnd, onStage}
-use Rattle.shelf.specs.declared.state.State.{State}
-use Rattle.shelf.specs.declared.state.Kind.{Kind}
-use Rattle.shelf.specs.declared.state.Kind.the-variants.{Writing}
-use Rattle.shelf.specs.declared.stage.Stage.{Stage}
-use Rattle.shelf.specs.declared.stage.Stage.the-variants.{Flush, Log, Store}
+use Rattle.stages.specs.declared.state.State.{State}
+use Rattle.stages.specs.declared.state.Kind.{Kind}
+use Rattle.stages.specs.declared.state.Kind.the-variants.{Writing}
+use Rattle.stages.specs.declared.stage.Stage.{Stage}
+use Rattle.stages.specs.declared.stage.Stage.the-variants.{Flush, Log, Store}
 use Rattle.refine.specs.Keeps.{keptStrip, keptWrite, Works}
 use Rattle.refine.specs.ToDo.{slotsFrom, rows-fresh, stampIn, underOf, actsOf, leftOf, stage-same, restores, fills, Alike, left-same, left-any, left-ended}
 use Rattle.refine.specs.Lists.{Says, slots-are}

@@ -27,14 +27,14 @@ use Rattle.codecs.specs.Labels.{labelOf, labels, ours}
 use Rattle.codecs.specs.Records.{counts, stampNumber, records}
 use Rattle.codecs.specs.Media.{stamps}
 use Rattle.shards.specs.Even.{any-code, any-sectors}
-use Rattle.shelf.specs.Limits.{mostStages}
-use Rattle.shelf.specs.State.{moved}
-use Rattle.shelf.specs.Stage.{stageAt, stageOf}
+use Rattle.stages.specs.Limits.{mostStages}
+use Rattle.stages.specs.State.{moved}
+use Rattle.stages.specs.Stage.{stageAt, stageOf}
 use Rattle.shelf.specs.Act.{Move}
 use Rattle.shelf.specs.Step.{finished, sound, stepMove}
-use Rattle.shelf.specs.declared.state.State.{State}
-use Rattle.shelf.specs.declared.state.Kind.{Kind}
-use Rattle.shelf.specs.declared.state.Kind.the-variants.{Writing}
+use Rattle.stages.specs.declared.state.State.{State}
+use Rattle.stages.specs.declared.state.Kind.{Kind}
+use Rattle.stages.specs.declared.state.Kind.the-variants.{Writing}
 use Rattle.refine.specs.Disks.{Disks, curOf}
 use Rattle.refine.specs.Keeps.{Works}
 use Rattle.refine.specs.ToDo.{stampIn, underOf, leftOf, toDo, write-each}

@@ -2,8 +2,8 @@
 use mathlib.Core.Path.{_≡_, refl, sym, ap, ap₂, _∙_}
 use mathlib.Core.Bool.{Bool}
 use Rattle.label.specs.declared.fields.Label.{Label}
-use Rattle.shelf.specs.declared.state.Marks.{Marks}
-use Rattle.shelf.specs.declared.state.Kind.the-variants.{Filling}
+use Rattle.stages.specs.declared.state.Marks.{Marks}
+use Rattle.stages.specs.declared.state.Kind.the-variants.{Filling}
 use Rattle.rebuilds.specs.On.{wentOnWith, onMarks}
 use borrow.Author.Needs.{needs}
 use Rattle.rebuilds.proofs.on.on_state.Statement.{statement}
