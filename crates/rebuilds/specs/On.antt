@@ -80,6 +80,11 @@ onMarks l absent b x =
       forward = x;
     }
 
+-- the stage with which it begins: its strips; where it has none, the flush behind them
+abbrev pub firstStage : ℕ → ℕ
+firstStage zero = 1
+firstStage (suc n) = 0
+
 abbrev pub wentOnWith : State → Label → Marks → State
 wentOnWith s next marks =
     record {
@@ -90,7 +95,7 @@ wentOnWith s next marks =
       count = s .count;
       marks = marks;
       kind = Filling;
-      cursor = record { stage = 0; slot = 0; sector = 0 };
+      cursor = record { stage = firstStage (marks .stripe); slot = 0; sector = 0 };
     }
 
 abbrev pub wentOn : State → ℕ → List ℕ → State
@@ -158,6 +163,13 @@ at-least (suc b) h = refl
 pub at-none : (b : ℕ) → b < 1 → 1 ≡ atLeastOne b
 at-none zero h = refl
 at-none (suc b) h = absurd (omega arith)
+
+pub first-none : (n : ℕ) → n ≡ 0 → firstStage n ≡ 1
+first-none n e = ap firstStage e
+
+pub first-some : (n : ℕ) → (n ≡ 0 → ⊥) → firstStage n ≡ 0
+first-some zero h = absurd (h refl)
+first-some (suc n) h = refl
 
 pub left-is : (t m b : ℕ) → m ≤ t → leb (t - m) b ≡ leb t (m + b)
 left-is t m b h = by (leb t (m + b)) refl

@@ -30,7 +30,7 @@ ghost use Rattle.disk.specs.Geometry.{stripesOf};
 ghost use Rattle.disk.specs.Image.{fitsImage};
 ghost use Rattle.label.specs.Fields.{fitsOf, geometryOf};
 ghost use Rattle.rebuilds.specs.Judge.{lastOne};
-ghost use Rattle.rebuilds.specs.On.{cannotGoOn, askedOn, onAnswer, atLeastOne, lastBatch, stripsOn, onLabel, someContradict, onMarks, wentOn, onOf, GoesOn};
+ghost use Rattle.rebuilds.specs.On.{cannotGoOn, askedOn, onAnswer, atLeastOne, lastBatch, stripsOn, onLabel, someContradict, onMarks, firstStage, wentOn, onOf, GoesOn};
 
 // Whether this is not the time: no slot is being rebuilt, or it is absent, or no generation is left.
 fn cannot_go_on(l: Label, absent: u64) -> bool
@@ -159,6 +159,19 @@ fn on_marks(l: Label, absent: u64, batch: usize, odd: bool) -> Marks
     }
 }
 
+// The stage with which it begins: its strips; where it has none (the mark is T already), the flush behind them. A stage that fills
+// nothing would refuse every step.
+fn first_stage(count: usize) -> usize
+    ensures { λ r. ⌜ r ≡ firstStage count ⌝ }
+{
+    let fill = 0;
+    let flush = 1;
+    if count == 0 {
+        return flush;
+    }
+    fill
+}
+
 // The rebuild of these strips at its beginning.
 fn on_state(s: State, batch: usize, image: &[u8]) -> State
     requires { ⌜ GoesOn (s .now) × (fitsImage (geometryOf (s .now)) (length (now image)) ≡ true) ⌝ }
@@ -168,6 +181,7 @@ fn on_state(s: State, batch: usize, image: &[u8]) -> State
     let next = on_label(now, batch);
     let odd = are_contradicted(now, s.absent, batch, image);
     let marks = on_marks(now, s.absent, batch, odd);
+    let stage = first_stage(marks.stripe);
     State {
         now: now,
         next: next,
@@ -177,16 +191,17 @@ fn on_state(s: State, batch: usize, image: &[u8]) -> State
         marks: marks,
         kind: Kind::Filling,
         cursor: Cursor {
-            stage: 0,
+            stage: stage,
             slot: 0,
             sector: 0,
         },
     }
 }
 
-// Rebuilds the next strips, at most `batch` of them and one at least. Refused, in this order: no shelf is started NOT_NOW; another
-// image BAD_IMAGE; a present disk whose label is not the state's NO_LABEL; more than m slots out or absent TOO_FEW; a request under way
-// BUSY; no slot is being rebuilt, or it is absent, or no generation is left, NOT_NOW; another work area BAD_BUFFER.
+// Rebuilds the next strips, at most `batch` of them and one at least; none where all are rebuilt already. Refused, in this order: no
+// shelf is started NOT_NOW; another image BAD_IMAGE; a present disk whose label is not the state's NO_LABEL; more than m slots out or
+// absent TOO_FEW; a request under way BUSY; no slot is being rebuilt, or it is absent, or no generation is left, NOT_NOW; another work
+// area BAD_BUFFER.
 // What is accepted says in its marks (forward) whether survivors contradict each other.
 pub fn rebuild_on(s: State, batch: usize, image: &[u8], room: usize) -> Begun
     ensures { λ r. ⌜ r ≡ onOf s batch (now (image .entry)) room ⌝ }

@@ -73,7 +73,7 @@ module _ (z : Shelf) (s : State) (img : List ℕ) (in-range : sound s ≡ true) 
         ours-now = ours-now;
         disks = disks;
         narrow = subst (Narrow (z .c) (stageOf s)) (sym first) (first-narrow z (s .absent) (underOf s) [] (stageOf s) (c (s .cursor .stage)));
-        stages = c;
+        stages = λ i l. c i;
       }
 
   -- CREATE

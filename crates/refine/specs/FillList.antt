@@ -34,10 +34,11 @@ use Rattle.stages.specs.declared.state.Kind.{Kind}
 use Rattle.stages.specs.declared.state.Kind.the-variants.{Filling}
 use Rattle.stages.specs.declared.stage.Stage.{Stage}
 use Rattle.stages.specs.declared.stage.Stage.the-variants.{Flush, Give, Fill}
+use Rattle.rebuilds.specs.On.{firstStage}
 use Rattle.refine.specs.Disks.{Disks, curOf, seenOf, seen-present}
 use Rattle.refine.specs.Fills.{Fillable}
 use Rattle.refine.specs.Lists.{Says, round-is}
-use Rattle.refine.specs.ToDo.{slotsFrom, rowsFrom, fillAt, refilled, underOf, actsOf, leftOf, toDo, stage-same, left-ended, fill-each, rebuilt-same}
+use Rattle.refine.specs.ToDo.{slotsFrom, rowsFrom, fillAt, refilled, underOf, actsOf, leftOf, toDo, stage-same, left-ended, fill-later, fill-each, rebuilt-same}
 use Rattle.refine.specs.Steps.{Present, Tells, Can, Narrow, Fair, first-narrow}
 use Rattle.refine.specs.Tied.{ownOf, writeIn, writeMemory, memoryBy, memoryOf}
 use Rattle.refine.specs.Relabels.{TiedLabel, label-tied}
@@ -108,23 +109,40 @@ module _ (z : Shelf) (s : State) (work img : List ℕ) (kind : s .kind ≡ Filli
       ap (λ (b : Bool). cond b [] (X (stageOf (moved s i 0 0)) ++ leftOf z work (curOf z img) k (moved s (i + 1) 0 0))) (ap isEnd (stage-is i ∙ e) ∙ n)
       ∙ ap (λ (y : Stage). X y ++ leftOf z work (curOf z img) k (moved s (i + 1) 0 0)) (stage-is i ∙ e)
 
-  -- the strips, flushed, and then the label to all, flushed
-  fill-stages : s .cursor ≡ record { stage = 0; slot = 0; sector = 0 }
-      → toDo z s work img
-      ≡ X (Fill (s .marks .redo) (s .now .mark) (s .marks .stripe)) ++ (X (Flush (s .marks .redo)) ++ (X (Give (s .marks .present) 0 (s .next)) ++ (X (Flush (s .marks .present)) ++ [])))
-  unfolding toDo fillStage roundStage
-  fill-stages first =
-      ap (leftOf z work (curOf z img) mostStages) (λ j. record { now = s .now; next = s .next; absent = s .absent; epoch = s .epoch; count = s .count; marks = s .marks; kind = s .kind; cursor = first j })
-      ∙ staged 0 13 (Fill (s .marks .redo) (s .now .mark) (s .marks .stripe)) refl refl ∙ on (Fill (s .marks .redo) (s .now .mark) (s .marks .stripe))
-      (staged 1 12 (Flush (s .marks .redo)) refl refl ∙ on (Flush (s .marks .redo))
-      (staged 2 11 (Give (s .marks .present) 0 (s .next)) refl refl ∙ on (Give (s .marks .present) 0 (s .next))
-      (staged 3 10 (Flush (s .marks .present)) refl refl ∙ on (Flush (s .marks .present)) over)))
+  -- behind the strips: a flush of the slot, and then the label to all, flushed
+  abbrev Behind : List (Action Sector)
+  Behind = X (Flush (s .marks .redo)) ++ (X (Give (s .marks .present) 0 (s .next)) ++ (X (Flush (s .marks .present)) ++ []))
+
+  behind : (k : ℕ) → leftOf z work (curOf z img) (suc (suc (suc (suc k)))) (moved s 1 0 0) ≡ Behind
+  unfolding fillStage roundStage
+  behind k =
+      staged 1 (suc (suc (suc k))) (Flush (s .marks .redo)) refl refl ∙ on (Flush (s .marks .redo))
+      (staged 2 (suc (suc k)) (Give (s .marks .present) 0 (s .next)) refl refl ∙ on (Give (s .marks .present) 0 (s .next))
+      (staged 3 (suc k) (Flush (s .marks .present)) refl refl ∙ on (Flush (s .marks .present)) over))
     where
       on : (x : Stage) {a b : List (Action Sector)} → a ≡ b → X x ++ a ≡ X x ++ b
       on x e = ap (λ (l : List (Action Sector)). X x ++ l) e
 
-      over : leftOf z work (curOf z img) (suc 9) (moved s 4 0 0) ≡ []
-      over = left-ended z work (curOf z img) 9 (moved s 4 0 0) (ap isEnd (stage-is 4))
+      over : leftOf z work (curOf z img) (suc k) (moved s 4 0 0) ≡ []
+      over = left-ended z work (curOf z img) k (moved s 4 0 0) (ap isEnd (stage-is 4))
+
+  -- where there are no strips, nothing is put
+  no-strips : slotsFrom (slots z) (s .marks .redo) 0 ≡ Q .rebuilding ∷ [] → s .marks .stripe ≡ 0 → X (Fill (s .marks .redo) (s .now .mark) (s .marks .stripe)) ≡ []
+  no-strips are e =
+      ap₂ (λ (ds : List ℕ) (n : ℕ). puts (refilled z (s .now) (curOf z img)) (rowsFrom (fillAt z (s .now .mark)) (n * z .c) 0 ds)) are e
+      ∙ ap (puts (refilled z (s .now) (curOf z img))) (strips-rows z (s .now .mark) (Q .rebuilding) 0)
+
+  -- the strips come first, if there are any
+  fill-stages : s .cursor ≡ record { stage = firstStage (s .marks .stripe); slot = 0; sector = 0 } → slotsFrom (slots z) (s .marks .redo) 0 ≡ Q .rebuilding ∷ []
+      → toDo z s work img ≡ X (Fill (s .marks .redo) (s .now .mark) (s .marks .stripe)) ++ Behind
+  unfolding toDo fillStage
+  fill-stages first are =
+      ap (leftOf z work (curOf z img) mostStages) (λ j. record { now = s .now; next = s .next; absent = s .absent; epoch = s .epoch; count = s .count; marks = s .marks; kind = s .kind; cursor = first j })
+      ∙ by (s .marks .stripe) refl
+    where
+      by : (n : ℕ) → s .marks .stripe ≡ n → leftOf z work (curOf z img) mostStages (moved s (firstStage n) 0 0) ≡ X (Fill (s .marks .redo) (s .now .mark) (s .marks .stripe)) ++ Behind
+      by zero e = behind 10 ∙ ap (λ (l : List (Action Sector)). l ++ Behind) (sym (no-strips are e))
+      by (suc n) e = staged 0 13 (Fill (s .marks .redo) (s .now .mark) (s .marks .stripe)) refl refl ∙ ap (λ (l : List (Action Sector)). X (Fill (s .marks .redo) (s .now .mark) (s .marks .stripe)) ++ l) (behind 9)
 
   -- what is rebuilt, of what the image holds
   abbrev Rebuilt : Image Sector → ℕ → ℕ → Sector
@@ -145,28 +163,33 @@ module _ (z : Shelf) (s : State) (work img : List ℕ) (kind : s .kind ≡ Filli
   fill-seen A dark = fun-ext (λ t. fun-ext (λ j. rebuilt-same z Q (seenOf z A img) (curOf z img) t (λ d i l e. sym (seen-present z A img (strip d t i) (dark d t l e))) (Q .rebuilding) j))
 
   -- THE LIST OF A REBUILD is the protocol's
-  pub fill-list : s .cursor ≡ record { stage = 0; slot = 0; sector = 0 } → slotsFrom (slots z) (s .marks .redo) 0 ≡ Q .rebuilding ∷ []
+  pub fill-list : s .cursor ≡ record { stage = firstStage (s .marks .stripe); slot = 0; sector = 0 } → slotsFrom (slots z) (s .marks .redo) 0 ≡ Q .rebuilding ∷ []
       → (A : ℕ → Bool) (N : Label) → ((d t : ℕ) → d < slots z → believed (size z) Q d t ≡ true → A d ≡ false) → Says z (s .marks .present) (λ d. not (A d)) → labelOf z (s .next) ≡ N
       → toDo z s work img
       ≡ fill (records z) Q (s .marks .stripe) (Rebuilt (seenOf z A img)) ++ round (labels z) N (told-to (size z) (no-sets (slots z)) (labels z) (records z) (any-code z) stamps (any-sectors z) A)
   fill-list first one A N dark says label-is =
-      fill-stages first ∙ fill-is one _
+      fill-stages first one ∙ fill-is one _
       ∙ ap₂ (λ (v : ℕ → ℕ → Sector) (l : List (Action Sector)). fill (records z) Q (s .marks .stripe) v ++ l) (fill-seen A dark)
       (round-is z s img (s .marks .present) (λ d. not (A d)) says (s .next) N label-is [] ∙ sym (change-phases (size z) (no-sets (slots z)) (labels z) (records z) (any-code z) stamps (any-sectors z) N A))
 
   -- AND IT CAN BE CARRIED OUT
   pub fill-fair : sound s ≡ true → ours z (s .now) ≡ true → Disks z img → s .cursor .sector ≡ 0 → Present z (s .absent) (s .marks .redo) → Present z (s .absent) (s .marks .present)
-      → Fillable z (s .absent) (s .now) work (s .marks .redo) (s .now .mark) (s .marks .stripe) → Tells z (s .next) → Fair z s work img
+      → (s .cursor .stage ≤ 0 → Fillable z (s .absent) (s .now) work (s .marks .redo) (s .now .mark) (s .marks .stripe)) → Tells z (s .next) → Fair z s work img
+  unfolding fillStage
   fill-fair in-range ours-now disks first redo present fillable next =
-      let c : (i : ℕ) → Can z (s .absent) (underOf s) work (stageAt (s .kind) s i) =
-      λ i. subst (λ (k : Kind). Can z (s .absent) (underOf s) work (stageAt k s i)) (sym kind) (fill-each (Can z (s .absent) (underOf s) work) tt s (redo, fillable) redo (present, next) present i) in
+      let c : (i : ℕ) → s .cursor .stage ≤ i → Can z (s .absent) (underOf s) work (stageAt (s .kind) s i) =
+      λ i l. subst (λ (k : Kind). Can z (s .absent) (underOf s) work (stageAt k s i)) (sym kind) (each i l) in
       record {
         in-range = in-range;
         ours-now = ours-now;
         disks = disks;
-        narrow = subst (Narrow (z .c) (stageOf s)) (sym first) (first-narrow z (s .absent) (underOf s) work (stageOf s) (c (s .cursor .stage)));
+        narrow = subst (Narrow (z .c) (stageOf s)) (sym first) (first-narrow z (s .absent) (underOf s) work (stageOf s) (c (s .cursor .stage) (omega arith)));
         stages = c;
       }
+    where
+      each : (i : ℕ) → s .cursor .stage ≤ i → Can z (s .absent) (underOf s) work (fillStage s i)
+      each zero l = (redo, fillable l)
+      each (suc i) l = fill-later (Can z (s .absent) (underOf s) work) tt s redo (present, next) present (suc i) (omega arith)
 
   -- ---- the steps
 
@@ -188,9 +211,9 @@ module _ (z : Shelf) (s : State) (work img : List ℕ) (kind : s .kind ≡ Filli
         disks = fair .disks;
         narrow = fair .narrow;
         stages =
-            λ i.
+            λ i l.
             subst (λ (k : Kind). Can z (s .absent) (underOf s) work (stageAt k s i) → Can z (s .absent) (underOf s) other (stageAt k s i)) (sym kind)
-            (fill-each (λ x. Can z (s .absent) (underOf s) work x → Can z (s .absent) (underOf s) other x) (λ c. c) s (λ c. (c .0, again (c .1))) (λ c. c) (λ c. c) (λ c. c) i) (fair .stages i);
+            (fill-each (λ x. Can z (s .absent) (underOf s) work x → Can z (s .absent) (underOf s) other x) (λ c. c) s (λ c. (c .0, again (c .1))) (λ c. c) (λ c. c) (λ c. c) i) (fair .stages i l);
       }
     where
       again : Fillable z (s .absent) (s .now) work (s .marks .redo) (s .now .mark) (s .marks .stripe) → Fillable z (s .absent) (s .now) other (s .marks .redo) (s .now .mark) (s .marks .stripe)

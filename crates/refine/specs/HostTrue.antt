@@ -322,7 +322,7 @@ module _ (z : Shelf) (first : Machine Sector) where
       (λ (other : g ≡ geometry z → ⊥). subst (λ (x : Begun). Room z (held h x work)) (sym (bound-elsewhere z (n .0) first (n .1) w img h (n .2) s g absent (length work) other sits)) t) (same-numbers z g)
   call-sized (takes-out {w} {img} {s} {work} d) n n' t = taken (has s work) (takeAnswer (s .now) (s .kind) (s .absent) img d (length work)) s (tookOut s d) work (λ e. t) t
   call-sized (begins {w} {img} {s} {work} d) n n' t = taken (has s work) (beginAnswer (s .now) (s .kind) (s .absent) img d (length work)) s (began s d img) work (λ e. t) t
-  call-sized (ons {w} {img} {s} {work} b below) n n' t = taken (has s work) (onAnswer (s .now) (s .kind) (s .absent) img (length work)) s (wentOn s b img) work (λ e. t) t
+  call-sized (ons {w} {img} {s} {work} b) n n' t = taken (has s work) (onAnswer (s .now) (s .kind) (s .absent) img (length work)) s (wentOn s b img) work (λ e. t) t
   call-sized (writes {w} {img} {s} {work} b given s' then x y e) n n' t = by (writeAnswer (s .now) (s .kind) (s .absent) (s .count) img b (length given) (length work)) e
     where
       by : (o : Outcome) → AfterWrite o s b given img work s' then → length then ≡ workBytes (slots z) (z .c)
@@ -355,7 +355,7 @@ module _ (z : Shelf) (first : Machine Sector) where
           refused Done e i = absurd (not-rest z (n .0) first (n .1) w img s work t (take-done (s .now) (s .kind) (s .absent) img d (length work) e .1 .at-rest))
           refused (Refused why) e i = absurd (List·Memᴰ·not-nil i)
   call-passed (begins d) n a m = absurd (List·Memᴰ·not-nil m)
-  call-passed (ons b below) n a m = absurd (List·Memᴰ·not-nil m)
+  call-passed (ons b) n a m = absurd (List·Memᴰ·not-nil m)
   call-passed (writes b given s' then x y e) n a m = absurd (List·Memᴰ·not-nil m)
   call-passed (repairs t b then r) n a m = absurd (List·Memᴰ·not-nil m)
   call-passed (steps heard) n a m = absurd (List·Memᴰ·not-nil m)

@@ -8,7 +8,6 @@ use mathlib.Core.Bool.{Bool, true, false, false≢true}
 use mathlib.Core.List.{List, [], _∷_, _++_, List·Memᴰ·not-nil, Memᴰ·append-left, Memᴰ·append-right}
 use Prim.Native.Nat.{ℕ, _+_, _<_, _/_, _%_}
 use lib.ListN.{length}
-use Rattle.disk.specs.Geometry.{stripesOf}
 use Rattle.disk.specs.Mask.{inMask}
 use Rattle.disk.specs.declared.geometry.Geometry.{Geometry}
 use Rattle.disk.specs.declared.refusal.Refusal.{Refusal}
@@ -26,7 +25,7 @@ use Rattle.protocol.specs.Program as program
 use Rattle.protocol.specs.Machine.{Machine, effect, View, sure, open-write, kept-write, Saved, Ended, Answered}
 use Rattle.protocol.specs.Even.{program-by}
 use Rattle.codecs.specs.Sector.{Sector, Bytes}
-use Rattle.codecs.specs.Shelf.{Shelf, slots, geometry, size}
+use Rattle.codecs.specs.Shelf.{Shelf, slots, size}
 use Rattle.codecs.specs.Labels.{fieldsOf, noLabel, ours, labelOf}
 use Rattle.shards.specs.Even.{any-code}
 use Rattle.shelf.specs.Act.{Move, refuses}
@@ -98,9 +97,8 @@ pub data HostCalls (z : Shelf) : Time → Time → Type 1 where
   takes-out : {w : World Sector} {img : List ℕ} {s : State} {work : List ℕ} (d : ℕ) → HostCalls z (at w img (has s work)) (at w img (held (has s work) (takeOutOf s d img (length work)) work))
   -- the disk of slot d is readied, and the label then says that it is being rebuilt
   begins : {w : World Sector} {img : List ℕ} {s : State} {work : List ℕ} (d : ℕ) → HostCalls z (at w img (has s work)) (at w img (held (has s work) (beginOf s d img (length work)) work))
-  -- the next strips of the slot that is being rebuilt are rebuilt, b of them at most (0 means 1). The mark of every label that this software writes is below the number
-  -- of stripes while a slot is rebuilt; a label whose mark is that number, which only other software can have written, is left out
-  ons : {w : World Sector} {img : List ℕ} {s : State} {work : List ℕ} (b : ℕ) → s .now .mark < stripesOf (geometry z) → HostCalls z (at w img (has s work)) (at w img (held (has s work) (onOf s b img (length work)) work))
+  -- the next strips of the slot that is being rebuilt are rebuilt, b of them at most (0 means 1)
+  ons : {w : World Sector} {img : List ℕ} {s : State} {work : List ℕ} (b : ℕ) → HostCalls z (at w img (has s work)) (at w img (held (has s work) (onOf s b img (length work)) work))
   -- the bytes given are written to block b: what write's contract says
   writes : {w : World Sector} {img : List ℕ} {s : State} {work : List ℕ} (b : ℕ) (given : List ℕ) (s' : State) (then : List ℕ) → Bytes given → Bytes then
       → AfterWrite (writeAnswer (s .now) (s .kind) (s .absent) (s .count) img b (length given) (length work)) s b given img work s' then → HostCalls z (at w img (has s work)) (at w img (has s' then))
@@ -122,7 +120,7 @@ sets-call (creates-late s k m c S number work e) = []
 sets-call (starts {img = img} s g absent work sits) = outs (startOf s g absent img (length work))
 sets-call (takes-out {img = img} {s = s} {work = work} d) = outs (takeOutOf s d img (length work))
 sets-call (begins d) = []
-sets-call (ons b below) = []
+sets-call (ons b) = []
 sets-call (writes b given s' then x y e) = []
 sets-call (repairs t b then r) = []
 sets-call (steps heard) = []
@@ -176,7 +174,7 @@ Saw (creates-late s k m c S number work e) p q = q ≡ p
 Saw (starts s g absent work sits) p q = q ≡ p
 Saw (takes-out d) p q = q ≡ p
 Saw (begins d) p q = q ≡ p
-Saw (ons b below) p q = q ≡ p
+Saw (ons b) p q = q ≡ p
 Saw {z} (writes {img = img} {s = s} {work = work} b given s' then x y e) p q =
     SawAsked (writeAnswer (s .now) (s .kind) (s .absent) (s .count) img b (length given) (length work)) (b / z .k) (b % z .k) (sectorsOf (z .c) given) p q
 Saw (repairs t b then r) p q = q ≡ p
@@ -339,8 +337,8 @@ module _ (z : Shelf) (F : Family z) (first : Machine Sector) where
       by (Refused why) e = inr t
 
   -- going on with a rebuild
-  on-bound : (p : View Sector) (w : World Sector) (img : List ℕ) (s : State) (work : List ℕ) (b : ℕ) → s .now .mark < stripesOf (geometry z) → Bound p w img (has s work) → Bound p w img (held (has s work) (onOf s b img (length work)) work)
-  on-bound p w img s work b below (inl t) = by (onAnswer (s .now) (s .kind) (s .absent) img (length work)) refl
+  on-bound : (p : View Sector) (w : World Sector) (img : List ℕ) (s : State) (work : List ℕ) (b : ℕ) → Bound p w img (has s work) → Bound p w img (held (has s work) (onOf s b img (length work)) work)
+  on-bound p w img s work b (inl t) = by (onAnswer (s .now) (s .kind) (s .absent) img (length work)) refl
     where
       own : ours z (s .now) ≡ true
       own = ⊎-elim (λ (f : Fair z s [] img × (plain (s .kind) ≡ true)). f .0 .ours-now) (λ (q : (s .kind ≡ Idle) × (ours z (s .now) ≡ true)). q .1) (t .order .1)
@@ -349,16 +347,16 @@ module _ (z : Shelf) (F : Family z) (first : Machine Sector) where
       by Done e =
           let r : Reached z F first p w (idle (ownOf z s (s .now))) = subst (Reached z F first p w) (rests z s img (idle-is z F first p (s .kind) (on-rests (s .now) (s .kind) (s .absent) img (length work) e))) (t .reached) in
           let dark : (d : ℕ) → d < slots z → inMask (s .absent) d ≡ true → Label.looked (size z) (labelOf z (s .now)) d ≡ true → ⊥ = λ d i a q. rest-dark p w (ownOf z s (s .now)) r d (beyond-below (slots z) (s .absent) d i ∙ a) q in
-          let n : Refilling z F first p w img (onOf s b img (length work) .state) work = on-kept z F first p w img s b work t (ap (λ (o : Outcome). begun o s (wentOn s b img) .outcome) e) below in
+          let n : Refilling z F first p w img (onOf s b img (length work) .state) work = on-kept z F first p w img s b work t (ap (λ (o : Outcome). begun o s (wentOn s b img) .outcome) e) in
           inr
           (inr
           (inr
           (record {
             refills = subst (λ (o : Outcome). Refilling z F first p w img (begun o s (wentOn s b img) .state) work) e n;
-            sized = on-sized z img (t .disks) s own b work e below dark;
+            sized = on-sized z img (t .disks) s own b work e dark;
           })))
       by (Refused why) e = inl t
-  on-bound p w img s work b below (inr t) = by (onAnswer (s .now) (s .kind) (s .absent) img (length work)) refl
+  on-bound p w img s work b (inr t) = by (onAnswer (s .now) (s .kind) (s .absent) img (length work)) refl
     where
       by : (o : Outcome) → onAnswer (s .now) (s .kind) (s .absent) img (length work) ≡ o → Bound p w img (held (has s work) (begun o s (wentOn s b img)) work)
       by Done e = absurd (not-rest p w img s work t (on-rests (s .now) (s .kind) (s .absent) img (length work) e))
@@ -712,7 +710,7 @@ module _ (z : Shelf) (F : Family z) (first : Machine Sector) where
   call-bound (starts {w} {img} {h} s g absent work sits) ok p t = (p, refl, anew p w img h (startOf s g absent img (length work)) work t (start-any z F first p w img chain.none s g absent (length work) sits ok (loose p w img h t)))
   call-bound (takes-out {w} {img} {s} {work} d) ok p t = (p, refl, out-bound p w img s work d ok t)
   call-bound (begins {w} {img} {s} {work} d) ok p t = (p, refl, begin-bound p w img s work d t)
-  call-bound (ons {w} {img} {s} {work} b below) ok p t = (p, refl, on-bound p w img s work b below t)
+  call-bound (ons {w} {img} {s} {work} b) ok p t = (p, refl, on-bound p w img s work b t)
   call-bound (writes {w} {img} {s} {work} b given s' then x y e) ok p t = write-bound p w img s work b given s' then x y e t
   call-bound (repairs {w} {img} {s} {work} t b then r) ok p h = (p, refl, repair-bound p w img s work t b then r h)
   call-bound (steps {w} {w'} {img} {s} {work} heard) ok p t = step-bound p w img s work w' t heard

@@ -1,5 +1,5 @@
 -- GOING ON WITH A REBUILD, accepted at rest: it can be carried out, what the program remembers beside it is what it remembers of that
--- request, and the program accepts it too. The label's mark is below T: a slot whose strips are all rebuilt is healthy. Assumes nothing.
+-- request, and the program accepts it too. Where the mark is T already, it has no strips: a flush, and then the label. Assumes nothing.
 use mathlib.Core.Path.{_≡_, refl, sym, ap, ap₂, subst, _∙_, fun-ext}
 use mathlib.Core.Logic.{inl}
 use mathlib.Core.Bool.{Bool, true, false, cond, not, _&&_, _||_, true≢false}
@@ -39,6 +39,7 @@ use Rattle.codecs.specs.Records.{records}
 use Rattle.codecs.specs.Media.{stamps, medium}
 use Rattle.shards.specs.Quorum.{fewOf, few-count, count-few, few-mask}
 use Rattle.shards.specs.Even.{any-code, any-sectors}
+use Rattle.stages.specs.Limits.{mostStages}
 use Rattle.shelf.specs.Act.{named}
 use Rattle.shelf.specs.Step.{sound}
 use Rattle.shelf.specs.Says.{when, unless}
@@ -49,7 +50,7 @@ use Rattle.requests.specs.Ready.{isIdle, readyOf}
 use Rattle.requests.specs.TakeOut.{nextLabel}
 use Rattle.rebuilds.specs.Judge.{tooFew, lastOne, sized, Passed, judged-done, first-done, one-more}
 use Rattle.rebuilds.specs.Begin.{only}
-use Rattle.rebuilds.specs.On.{cannotGoOn, askedOn, onAnswer, atLeastOne, lastBatch, stripsOn, onLabel, wentOn, onOf, GoesOn, on-done, mark-fits, strips-within}
+use Rattle.rebuilds.specs.On.{cannotGoOn, askedOn, onAnswer, atLeastOne, lastBatch, stripsOn, onLabel, firstStage, wentOn, onOf, GoesOn, on-done, mark-fits, strips-within}
 use Rattle.refine.specs.Disks.{Disks, curOf, seenOf}
 use Rattle.refine.specs.Given.{shelf-geometry}
 use Rattle.refine.specs.Rounds.{beyond-below}
@@ -106,7 +107,7 @@ on-rests l kind absent img room e =
     judged-done (tooFew l absent) false (isIdle kind) (cannotGoOn l absent) (sized l room) (first-done (readyOf l kind absent img) (askedOn l (isIdle kind) absent room) e .1) .free
 
 module _ (z : Shelf) (img : List ℕ) (disks : Disks z img) (s : State) (own : ours z (s .now) ≡ true) (b : ℕ) (work : List ℕ)
-    (ok : onAnswer (s .now) (s .kind) (s .absent) img (length work) ≡ Done) (below : s .now .mark < stripesOf (geometry z))
+    (ok : onAnswer (s .now) (s .kind) (s .absent) img (length work) ≡ Done)
     (dark : (d : ℕ) → d < slots z → inMask (s .absent) d ≡ true → looked (size z) (labelOf z (s .now)) d ≡ true → ⊥) where
   abbrev l : bytes.Label
   l = s .now
@@ -235,25 +236,18 @@ module _ (z : Shelf) (img : List ℕ) (disks : Disks z img) (s : State) (own : o
       by d i true q e = refl
       by d i false q e = absurd (true≢false (sym e ∙ ap not (believe-is (size z) Q d u i hu (inl q))))
 
-  some-strips : 0 < stripsOn l b
-  unfolding stripsOn
-  some-strips = by (lastBatch l b)
-    where
-      one : (x : ℕ) → 0 < atLeastOne x
-      one zero = omega arith
-      one (suc x) = omega arith
+  -- where it begins with its strips, there are some
+  some-strips : (n : ℕ) → firstStage n ≤ 0 → 0 < n
+  some-strips zero h = h
+  some-strips (suc n) h = omega arith
 
-      by : (x : Bool) → 0 < cond x (stripesOf (geometryOf l) - l .mark) (atLeastOne b)
-      by true = omega (arith, T-is, below)
-      by false = one b
-
-  fillable : Fillable z (t .absent) (t .now) work (t .marks .redo) (t .now .mark) (t .marks .stripe)
-  fillable =
+  fillable : t .cursor .stage ≤ 0 → Fillable z (t .absent) (t .now) work (t .marks .redo) (t .now .mark) (t .marks .stripe)
+  fillable h =
       record {
         here = λ d i e. eqb-true d r (sym (only-says d) ∙ e) ∙ sym r-is;
         out = ap (inMask (l .out)) r-is ∙ is-out;
         mark = omega arith;
-        some = some-strips;
+        some = some-strips (stripsOn l b) h;
         within = omega (arith, T-is, strips-within l b (fits .mark-below));
         few = few-missing;
         dark = dark;
@@ -288,10 +282,15 @@ module _ (z : Shelf) (img : List ℕ) (disks : Disks z img) (s : State) (own : o
 
   -- ---- the beginning
 
+  -- the stage with which it begins is one of those that there are
+  early : (n : ℕ) → leb (firstStage n) mostStages ≡ true
+  early zero = refl
+  early (suc n) = refl
+
   pub on-fair : Fair z t work img
   unfolding sound
   on-fair =
-      fill-fair z t work img refl (both (fitsOf l) _ (goes-on .fits) (lt-ltb 0 (l .sectors) (omega (arith, fits .range .room)))) own disks refl redo-there all-there fillable next-tells
+      fill-fair z t work img refl (both (fitsOf l) _ (goes-on .fits) (both (leb (t .cursor .stage) mostStages) _ (early (stripsOn l b)) (lt-ltb 0 (l .sectors) (omega (arith, fits .range .room))))) own disks refl redo-there all-there fillable next-tells
 
   -- what the program remembers, for so many strips and the label N
   abbrev o : Own
@@ -361,12 +360,12 @@ module _ (z : Shelf) (img : List ℕ) (disks : Disks z img) (s : State) (own : o
 
 -- A REBUILD THAT GOES ON, at rest: no absent slot is looked at, as the protocol's invariant has it
 pub on-begins : (z : Shelf) (img : List ℕ) → Disks z img → (s : State) → ours z (s .now) ≡ true → (b : ℕ) (work : List ℕ) → onOf s b img (length work) .outcome ≡ Done
-    → s .now .mark < stripesOf (geometry z) → ((d : ℕ) → d < slots z → inMask (s .absent) d ≡ true → looked (size z) (labelOf z (s .now)) d ≡ true → ⊥)
+    → ((d : ℕ) → d < slots z → inMask (s .absent) d ≡ true → looked (size z) (labelOf z (s .now)) d ≡ true → ⊥)
     → Fair z (onOf s b img (length work) .state) work img
     × (programOf z (idle (ownOf z s (s .now))) (curOf z img) (rebuild-on b) ≡ (memoryOf z (onOf s b img (length work) .state) work img, accepted))
-on-begins z img disks s own b work e below dark =
+on-begins z img disks s own b work e dark =
     let p = goes (onAnswer (s .now) (s .kind) (s .absent) img (length work)) s (wentOn s b img) e in
     subst (λ (x : State). Fair z x work img × (programOf z (idle (ownOf z s (s .now))) (curOf z img) (rebuild-on b) ≡ (memoryOf z x work img, accepted))) (sym (p .1)) (
-      on-fair z img disks s own b work (p .0) below dark,
-      on-accepted z img disks s own b work (p .0) below dark ∙ ap (λ (m : Memory Sector). (m, accepted)) (sym (on-asked z img disks s own b work (p .0) below dark)),
+      on-fair z img disks s own b work (p .0) dark,
+      on-accepted z img disks s own b work (p .0) dark ∙ ap (λ (m : Memory Sector). (m, accepted)) (sym (on-asked z img disks s own b work (p .0) dark)),
     )

@@ -48,7 +48,7 @@ use Rattle.blocks.specs.Slots.{tooFew}
 use Rattle.blocks.specs.Answers.{serves, lookAnswer, sizes, blockAnswer, first-done, answered-done}
 use Rattle.blocks.specs.Read.{laidBy, laidOver, blockShown, halfOf, shownOf, readAnswer, afterRead, Shows, read-done, shows-block}
 use Rattle.stages.specs.Limits.{mostStages}
-use Rattle.stages.specs.Stage.{writeStage, stageAt}
+use Rattle.stages.specs.Stage.{writeStage}
 use Rattle.stages.specs.declared.state.State.{State}
 use Rattle.stages.specs.declared.state.Kind.{Kind}
 use Rattle.stages.specs.declared.state.Kind.the-variants.{Nothing, Idle, Creating, Starting, Labelling, Writing, Beginning, Filling}
@@ -57,8 +57,8 @@ use Rattle.refine.specs.Family.{Family}
 use Rattle.refine.specs.Disks.{Disks, curOf, seenOf}
 use Rattle.refine.specs.Rounds.{beyond-below}
 use Rattle.refine.specs.Keeps.{Works, keptAt, keptByte, keptStrip}
-use Rattle.refine.specs.ToDo.{underOf, leftOf, toDo}
-use Rattle.refine.specs.Steps.{Can, Fair}
+use Rattle.refine.specs.ToDo.{leftOf, toDo}
+use Rattle.refine.specs.Steps.{Fair}
 use Rattle.refine.specs.Tied.{ownOf, ownBefore, writeIn, writeMemory, memoryBy, memoryWith, memoryOf, plain, programOf}
 use Rattle.refine.specs.WriteList.{strip-same}
 use Rattle.refine.specs.Sees.{seenSlots, there-believed, there-lying}
@@ -314,9 +314,6 @@ module _ (z : Shelf) (F : Family z) (first-one : Machine Sector) (p : View Secto
           lt-leb : s .cursor .stage < 2 → leb 2 (s .cursor .stage) ≡ false
           lt-leb h = lt-leb-false 2 (s .cursor .stage) h
 
-      works : Works z work
-      works = subst (λ (k : Kind). Can z (s .absent) (underOf s) work (stageAt k s 2)) (t .writes .kind) (t .fair .stages 2) .2
-
       same-over : (x : Bool) → eqb (s .marks .stripe) T ≡ x → (d : ℕ) → d < slots z → Label.believed (size z) (labelOf z (s .now)) d T ≡ true → inMask (cond x (s .marks .redo) 0) d ≡ (eqb T (u .stripe) && u .changes d)
       same-over true e d h y =
           let q : T ≡ u .stripe = sym (eqb-true (s .marks .stripe) T e) ∙ t .writes .stripe in
@@ -330,7 +327,7 @@ module _ (z : Shelf) (F : Family z) (first-one : Machine Sector) (p : View Secto
           let d : ℕ = slotOf (slots z) T r in
           let hd : d < slots z = slot-lt (slots z) T (some-slots z) r in
           let c : u .changes d ≡ true = and-right (Label.believed (size z) (labelOf z (s .now)) d (u .stripe)) (u .changes d) (sym (t .writes .involves d hd) ∙ y) in
-          half-keeps z img (t .disks) (s .now) own (s .absent) b work buf shows-it works r j hr hj
+          half-keeps z img (t .disks) (s .now) own (s .absent) b work buf shows-it (t .writes .works) r j hr hj
           ∙ ap (λ (x : ℕ). keptStrip z work x d j .bytes) (sym (eqb-true (s .marks .stripe) T e)) ∙ ap (λ (x : Sector). x .bytes) (t .writes .strips d j c hj)
       keeps-over false e r j hr hj y = absurd (false≢true (sym (in-past 0 0 (slotOf (slots z) T r) (lit< tt) (omega arith)) ∙ y))
 

@@ -7,7 +7,6 @@ use mathlib.Core.List.{List, [], _∷_, List·Memᴰ·not-nil}
 use Prim.Native.Nat.{ℕ, _*_, _≤_, _<_}
 use lib.ListN.{length}
 use Rattle.disk.specs.Limits.{sectorBytes}
-use Rattle.disk.specs.Geometry.{stripesOf}
 use Rattle.disk.specs.Mask.{inMask}
 use Rattle.disk.specs.declared.refusal.Outcome.the-variants.{Done}
 use Rattle.protocol.specs.World.{Image, World, Action, Always}
@@ -17,7 +16,7 @@ use Rattle.protocol.specs.Machine.{Machine, View, sure, open-write, kept-write,
 use Rattle.protocol.specs.Pairs.{no-sets}
 use Rattle.protocol.specs.Even.{program-by}
 use Rattle.codecs.specs.Sector.{Sector}
-use Rattle.codecs.specs.Shelf.{Shelf, slots, geometry, size}
+use Rattle.codecs.specs.Shelf.{Shelf, slots, size}
 use Rattle.codecs.specs.Labels.{labelOf, labels, ours}
 use Rattle.codecs.specs.Records.{records}
 use Rattle.codecs.specs.Media.{stamps}
@@ -62,9 +61,9 @@ module _ (z : Shelf) (F : Family z) (first : Machine Sector) where
   rest-dark (kept-write v') w o r d a q = r .keeps
 
   -- GOING ON WITH A REBUILD, accepted: the program begins it too, and the view stays
-  pub on-kept : (p : View Sector) (w : World Sector) (img : List ℕ) (s : State) (b : ℕ) (work : List ℕ) → Tie z F first p w img (has s) → onOf s b img (length work) .outcome ≡ Done → s .now .mark < stripesOf (geometry z)
+  pub on-kept : (p : View Sector) (w : World Sector) (img : List ℕ) (s : State) (b : ℕ) (work : List ℕ) → Tie z F first p w img (has s) → onOf s b img (length work) .outcome ≡ Done
       → Refilling p w img (onOf s b img (length work) .state) work
-  on-kept p w img s b work t e below = subst (λ (x : State). Refilling p w img x work) (sym (g .1)) begun
+  on-kept p w img s b work t e = subst (λ (x : State). Refilling p w img x work) (sym (g .1)) begun
     where
       g : (onAnswer (s .now) (s .kind) (s .absent) img (length work) ≡ Done) × (onOf s b img (length work) .state ≡ wentOn s b img)
       g = goes (onAnswer (s .now) (s .kind) (s .absent) img (length work)) s (wentOn s b img) e
@@ -88,11 +87,11 @@ module _ (z : Shelf) (F : Family z) (first : Machine Sector) where
       after = doing labelling (toDo z then work img) o (ownOf z then (then .next))
 
       asked-is : asked-on (size z) (no-sets (slots z)) (labels z) (records z) (any-code z) stamps (any-sectors z) o (seenOf z (beyond (slots z) (inMask (s .absent))) img) b ≡ after
-      asked-is = sym (on-asked z img (t .disks) s own b work (g .0) below dark) ∙ fill-memory z then work img refl
+      asked-is = sym (on-asked z img (t .disks) s own b work (g .0) dark) ∙ fill-memory z then work img refl
 
       asked : (q : View Sector) × Answered (z .c) (rebuild-on b) accepted p q × Reached z F first q w after
       asked =
-          asks-to z F first img (t .reads) r after (rebuild-on b) accepted (on-accepted z img (t .disks) s own b work (g .0) below dark ∙ ap (λ (m : Memory Sector). (m, accepted)) asked-is)
+          asks-to z F first img (t .reads) r after (rebuild-on b) accepted (on-accepted z img (t .disks) s own b work (g .0) dark ∙ ap (λ (m : Memory Sector). (m, accepted)) asked-is)
           (accepted-none z F first p) (λ q x n. absurd (List·Memᴰ·not-nil n))
 
       begun : Refilling p w img then work
@@ -106,8 +105,8 @@ module _ (z : Shelf) (F : Family z) (first : Machine Sector) where
             reached = subst (λ (q : View Sector). Reached z F first q w after) (asked .1) (asked .2);
             named = t .named;
             names = subst (λ (x : Memory Sector). Names z (leftIn z x)) asked-is (on-names z o (seenOf z (beyond (slots z) (inMask (s .absent))) img) b);
-            own-next = on-next z img (t .disks) s own b work (g .0) below dark;
-            fair = on-fair z img (t .disks) s own b work (g .0) below dark;
+            own-next = on-next z img (t .disks) s own b work (g .0) dark;
+            fair = on-fair z img (t .disks) s own b work (g .0) dark;
             kind = refl;
           }
 

@@ -240,5 +240,5 @@ module _ (z : Shelf) where
           ours-now = ours-now;
           disks = disks;
           narrow = subst (Narrow (z .c) (stageOf s)) (sym first) (first-narrow z (s .absent) (underOf s) work (stageOf s) (c (s .cursor .stage)));
-          stages = c;
+          stages = λ i l. c i;
         }

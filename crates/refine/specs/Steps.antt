@@ -89,13 +89,13 @@ Can z absent a work End = Unit {0}
 abbrev pub Narrow : ℕ → Stage → ℕ → Type 0
 Narrow c x j = isEnd x ≡ false → j < widthOf x c
 
--- a request is under way on an image of this shelf, and every stage of it can be carried out
+-- a request is under way on an image of this shelf, and every stage of it from the cursor on can be carried out
 pub record Fair (z : Shelf) (s : State) (work img : List ℕ) : Type 0 where
   pub in-range : sound s ≡ true
   pub ours-now : ours z (s .now) ≡ true
   pub disks : Disks z img
   pub narrow : Narrow (z .c) (stageOf s) (s .cursor .sector)
-  pub stages : (i : ℕ) → Can z (s .absent) (underOf s) work (stageAt (s .kind) s i)
+  pub stages : (i : ℕ) → s .cursor .stage ≤ i → Can z (s .absent) (underOf s) work (stageAt (s .kind) s i)
 
 -- every stage that can be carried out has a first sector, and few
 module _ (z : Shelf) (absent : ℕ) (a : Under) (work : List ℕ) where
@@ -193,13 +193,13 @@ module _ (z : Shelf) (s : State) (work img : List ℕ) (fair : Fair z s work img
   some-disk : 0 < z .sectors
   some-disk = omega (arith, limits z .0 .room)
 
-  narrow-at : (i : ℕ) → Narrow (z .c) (stageAt (s .kind) s i) 0
-  narrow-at i = first-narrow z (s .absent) (underOf s) work (stageAt (s .kind) s i) (fair .stages i)
+  narrow-at : (i : ℕ) → s .cursor .stage ≤ i → Narrow (z .c) (stageAt (s .kind) s i) 0
+  narrow-at i l = first-narrow z (s .absent) (underOf s) work (stageAt (s .kind) s i) (fair .stages i l)
 
-  -- with another cursor in range, on another image of this shelf
-  fair-moved : (to : List ℕ) → Disks z to → (i d j : ℕ) → i ≤ mostStages → j < z .sectors → Narrow (z .c) (stageAt (s .kind) s i) j → Fair z (moved s i d j) work to
+  -- with a later cursor in range, on another image of this shelf
+  fair-moved : (to : List ℕ) → Disks z to → (i d j : ℕ) → s .cursor .stage ≤ i → i ≤ mostStages → j < z .sectors → Narrow (z .c) (stageAt (s .kind) s i) j → Fair z (moved s i d j) work to
   unfolding sound
-  fair-moved to disks i d j a b n =
+  fair-moved to disks i d j l a b n =
       record {
         in-range =
             both (fitsOf (s .now)) _ fit-now
@@ -207,7 +207,7 @@ module _ (z : Shelf) (s : State) (work img : List ℕ) (fair : Fair z s work img
         ours-now = fair .ours-now;
         disks = disks;
         narrow = subst (λ (x : Stage). Narrow (z .c) x j) (sym (stage-same (s .kind) s i d j i)) n;
-        stages = λ e. subst (Can z (s .absent) (underOf s) work) (sym (stage-same (s .kind) s i d j e)) (fair .stages e);
+        stages = λ e h. subst (Can z (s .absent) (underOf s) work) (sym (stage-same (s .kind) s i d j e)) (fair .stages e (omega arith));
       }
 
   -- the state after one of `count` sectors was put on slot d
@@ -218,8 +218,8 @@ module _ (z : Shelf) (s : State) (work img : List ℕ) (fair : Fair z s work img
       by : (b : Bool) → ltb (s .cursor .sector + 1) count ≡ b → Fair z (cond b (moved s (s .cursor .stage) d (s .cursor .sector + 1)) (moved s (s .cursor .stage) (d + 1) 0)) work to
       by true e =
           let h = ltb-true (s .cursor .sector + 1) count e in
-          fair-moved to disks (s .cursor .stage) d (s .cursor .sector + 1) staged (omega (arith, h, few-wide z (s .absent) (underOf s) work (stageOf s) (fair .stages (s .cursor .stage)))) (λ o. omega (arith, h))
-      by false e = fair-moved to disks (s .cursor .stage) (d + 1) 0 staged some-disk (narrow-at (s .cursor .stage))
+          fair-moved to disks (s .cursor .stage) d (s .cursor .sector + 1) (omega arith) staged (omega (arith, h, few-wide z (s .absent) (underOf s) work (stageOf s) (fair .stages (s .cursor .stage) (omega arith)))) (λ o. omega (arith, h))
+      by false e = fair-moved to disks (s .cursor .stage) (d + 1) 0 (omega arith) staged some-disk (narrow-at (s .cursor .stage) (omega arith))
 
   onward-kept : (d count : ℕ) → Moved s (onward s d count)
   unfolding onward
@@ -291,7 +291,7 @@ module _ (z : Shelf) (s : State) (work img : List ℕ) (fair : Fair z s work img
     left-once x e g h d = ap (leftOf z work g mostStages) (once d) ∙ left-then x e g h (d + 1) 0
 
     can : (x : Stage) → stageOf s ≡ x → Can z (s .absent) (underOf s) work x
-    can x e = subst (Can z (s .absent) (underOf s) work) e (fair .stages (s .cursor .stage))
+    can x e = subst (Can z (s .absent) (underOf s) work) e (fair .stages (s .cursor .stage) (omega arith))
 
     -- so many sectors are within a stage
     within-stage : (x : Stage) → stageOf s ≡ x → (n : ℕ) → n ≤ widthOf x (z .c) → n ≤ widthOf (stageOf s) (z .c)
@@ -687,7 +687,7 @@ module _ (z : Shelf) (work img : List ℕ) where
           λ i. ap (λ (b : Bool). cond b [] (actsOf z (underOf s) work (curOf z img) (stageOf s) (s .cursor .slot) (s .cursor .sector) ++ leftOf z work (curOf z img) i (onStage s))) e
           ∙ ap (λ (a : List (Action Sector)). a ++ leftOf z work (curOf z img) i (onStage s)) none in
           subst (λ (a : List (Action Sector)). Does z work img s m (a ++ l)) (sym none)
-          (does-on s m l skip (r (fair-moved z s work img fair img (fair .disks) (s .cursor .stage + 1) 0 0 (not-over z s work img fair e) (some-disk z s work img fair) (narrow-at z s work img fair (s .cursor .stage + 1)))))
+          (does-on s m l skip (r (fair-moved z s work img fair img (fair .disks) (s .cursor .stage + 1) 0 0 (omega arith) (not-over z s work img fair e) (some-disk z s work img fair) (narrow-at z s work img fair (s .cursor .stage + 1) (omega arith)))))
 
   does-keeps : (s : State) (m : Move) (l : List (Action Sector)) → Does z work img s m l → Does z work img s (keeps s m) l
   does-keeps s m [] h = ap (keeps s) h

@@ -115,9 +115,9 @@ module _ (z : Shelf) (work other : List ℕ) where
         disks = fair .disks;
         narrow = fair .narrow;
         stages =
-            λ i.
+            λ i l.
             plain-each (λ x. Can z (s .absent) (underOf s) work x → Can z (s .absent) (underOf s) other x) (λ c. c) (λ m c. c) (λ m o l c. c) (λ m c. c) (λ m t c. c) (λ m c. c) (λ m o c. c) (s .kind) e s i
-            (fair .stages i);
+            (fair .stages i l);
       }
 
   -- and do the same with any

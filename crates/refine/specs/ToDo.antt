@@ -255,7 +255,14 @@ module _ (P : Stage → Type 0) (end : P End) where
         (pick (eqb (i - 5) 2) _ _ ready
         (pick (eqb (i - 5) 3) _ _ prep (round-each (s .marks .present) (s .next) tell present (i - 5 - 4))))))))))
 
-    -- the stages of a rebuild
+    -- the stages of a rebuild behind its strips
+    pub fill-later : P (Flush (s .marks .redo)) → P (Give (s .marks .present) 0 (s .next)) → P (Flush (s .marks .present)) → (i : ℕ) → 0 < i → P (fillStage s i)
+    unfolding fillStage
+    fill-later redone tell present i l =
+        subst (λ (b : Bool). P (cond b (Fill (s .marks .redo) (s .now .mark) (s .marks .stripe)) (cond (eqb i 1) (Flush (s .marks .redo)) (roundStage (i - 2) (s .marks .present) (s .next))))) (sym (ne-eqb i 0 (λ q. omega arith)))
+        (pick (eqb i 1) _ _ redone (round-each (s .marks .present) (s .next) tell present (i - 2)))
+
+    -- and all of them
     pub fill-each : P (Fill (s .marks .redo) (s .now .mark) (s .marks .stripe)) → P (Flush (s .marks .redo)) → P (Give (s .marks .present) 0 (s .next)) → P (Flush (s .marks .present)) → (i : ℕ) → P (fillStage s i)
     unfolding fillStage
     fill-each fill redone tell present i = pick (eqb i 0) _ _ fill (pick (eqb i 1) _ _ redone (round-each (s .marks .present) (s .next) tell present (i - 2)))

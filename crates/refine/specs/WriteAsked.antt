@@ -209,7 +209,7 @@ module _ (z : Shelf) (img : List ℕ) (disks : Disks z img) (i : State) (own : o
     -- THE STATE AND THE WORK AREA describe the write that the protocol's program makes
     begun-writes : Writes z begun after W
     unfolding writeOf
-    begun-writes = record { kind = refl; stripe = refl; changes = changes; strips = strips; involves = involves }
+    begun-writes = record { kind = refl; stripe = refl; changes = changes; strips = strips; involves = involves; works = works }
 
     asks-begun : Asks z i begun after W
     asks-begun = record { now = refl; next = refl; absent = refl; epoch = refl; count = refl; cursor = refl; writes = begun-writes }

@@ -33,18 +33,19 @@ use Rattle.stages.specs.declared.state.Kind.{Kind}
 use Rattle.stages.specs.declared.state.Kind.the-variants.{Writing}
 use Rattle.stages.specs.declared.stage.Stage.{Stage}
 use Rattle.stages.specs.declared.stage.Stage.the-variants.{Flush, Log, Store}
-use Rattle.refine.specs.Keeps.{keptStrip, keptWrite}
+use Rattle.refine.specs.Keeps.{keptStrip, keptWrite, Works}
 use Rattle.refine.specs.ToDo.{slotsFrom, rows-fresh, stampIn, underOf, actsOf, leftOf, stage-same, restores, fills, Alike, left-same, left-any, left-ended}
 use Rattle.refine.specs.Lists.{Says, slots-are}
 
 -- w is the write that the state's marks and the work area describe: its stripe, the shards that it changes, their new strips (of what it
--- changes), and the slots of those that are believed
+-- changes), and the slots of those that are believed; the work area has the stripe
 pub record Writes (z : Shelf) (s : State) (work : List ℕ) (w : Write Sector) : Type 0 where
   pub kind : s .kind ≡ Writing
   pub stripe : s .marks .stripe ≡ w .stripe
   pub changes : (d : ℕ) → (ltb d (slots z) && inMask (s .marks .parts) (shardOf (slots z) (s .marks .stripe) d)) ≡ w .changes d
   pub strips : (d j : ℕ) → w .changes d ≡ true → j < z .c → keptStrip z work (s .marks .stripe) d j ≡ w .new d j
   pub involves : Says z (s .marks .redo) (λ d. believed (size z) (labelOf z (s .now)) d (w .stripe) && w .changes d)
+  pub works : Works z work
 
 -- ---- a record goes by the strip and by what the write changes
 

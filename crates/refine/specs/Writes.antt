@@ -105,7 +105,7 @@ module _ (z : Shelf) where
     writes-moved : (t : State) → Moved s t → Writes z t work w
     writes-moved t e =
         subst (λ (x : State). Writes z x work w) (sym e)
-        (record { kind = h .kind; stripe = h .stripe; changes = h .changes; strips = h .strips; involves = h .involves })
+        (record { kind = h .kind; stripe = h .stripe; changes = h .changes; strips = h .strips; involves = h .involves; works = h .works })
 
     by-kind : (t : State) (to : List ℕ) → Moved s t → memoryWith z w t work to ≡ writeMemory z w t work (curOf z to)
     by-kind t to e = ap (λ (k : Kind). memoryBy k z t (writeMemory z w t work (curOf z to)) (toDo z t work to)) (writes-moved t e .kind)
@@ -325,5 +325,5 @@ module _ (z : Shelf) where
           ours-now = ours-now;
           disks = disks;
           narrow = subst (Narrow (z .c) (stageOf s)) (sym first) (first-narrow z (s .absent) (underOf s) work (stageOf s) (c (s .cursor .stage)));
-          stages = c;
+          stages = λ i l. c i;
         }

@@ -623,18 +623,27 @@ steps-left a b (flush {p} {f} {s} work img d e r) =
 
 -- ---- what is left when a request begins
 
+-- it stands before its first stage, or a later one: a rebuild without strips begins with the flush behind them
 pub record Fresh (kind : Kind) (s : State) : Type 0 where
   pub kind-is : s .kind ≡ kind
-  pub stage-is : s .cursor .stage ≡ 0
   pub slot-is : s .cursor .slot ≡ 0
   pub sector-is : s .cursor .sector ≡ 0
 
 module _ (a b : ℕ) where
-  fresh-left : (kind : Kind) (s : State) → Fresh kind s → left a b s ≡ sizeOf a b s (stageAt kind s 0) + later a b kind s 13 1
+  -- before a later stage no more is left than before the first
+  first-most : (s : State) (i : ℕ) → left a b (moved s i 0 0) ≤ left a b (moved s 0 0 0)
+  first-most s zero = omega arith
+  first-most s (suc i) =
+      let e : left a b (moved s (i + 1) 0 0) ≡ left a b (moved s (suc i) 0 0) = ap (λ (j : ℕ). left a b (moved s j 0 0)) (let z : i + 1 ≡ suc i = omega arith in z) in
+      omega (arith, e, stage-falls a b (moved s i 0 0), first-most s i)
+
+  fresh-left : (kind : Kind) (s : State) → Fresh kind s → left a b s ≤ sizeOf a b s (stageAt kind s 0) + later a b kind s 13 1
   unfolding left
   fresh-left kind s f =
-      let e : left a b s ≡ leftAt a b kind s 0 0 0 = λ i. leftAt a b (f .kind-is i) s (f .stage-is i) (f .slot-is i) (f .sector-is i) in
-      e ∙ ap (λ (k : ℕ). k + later a b kind s 13 1) (whole a b s (stageAt kind s 0))
+      let i : ℕ = s .cursor .stage in
+      let e : left a b s ≡ leftAt a b kind s i 0 0 = λ j. leftAt a b (f .kind-is j) s i (f .slot-is j) (f .sector-is j) in
+      let at : (j : ℕ) → left a b (moved s j 0 0) ≡ leftAt a b kind s j 0 0 = λ j. left-moved a b s j 0 0 ∙ ap (λ (k : Kind). leftAt a b k s j 0 0) (f .kind-is) in
+      omega (arith, e, at i, at 0, first-most s i, whole a b s (stageAt kind s 0))
 
   module _ (s : State) where
     -- a stage of puts that is w wide, and a stage of flushes

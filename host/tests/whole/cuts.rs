@@ -3,6 +3,7 @@ use crate::bytes::{label, record, Content, Shape, Stamp};
 use crate::explore::{Explorer, Level};
 use crate::long;
 use crate::rig::Rig;
+use paritylocker::shelf::Step;
 
 /// A shelf of so many stripes.
 pub const fn shape(k: u8, m: u8, c: u8, stripes: u32) -> Shape {
@@ -232,6 +233,34 @@ fn rebuild_last(rig: &mut Rig) {
     assert!(rig.rebuild_on(3));
 }
 
+/// Labels as other software may write them: the slot is being rebuilt, and its mark is behind the last strip. Then start-up.
+fn rebuilt_elsewhere(rig: &mut Rig, slot: usize) {
+    ready(rig);
+    let shape = rig.shape();
+    let told = Content {
+        generation: rig.facts.settled.generation + 1,
+        out: 1 << slot,
+        rebuilding: slot as u8,
+        mark: shape.stripes() as u32,
+    };
+    for d in 0..shape.n() {
+        let place = told.generation as usize % 2;
+        rig.disks.put(d, place, label(&shape, d, &told));
+        rig.disks.flush(d);
+    }
+    rig.facts.settled = told;
+    rig.facts.named |= told.out;
+    restart(rig, 0);
+}
+
+/// No strip is left: a flush, and then the label that calls the slot healthy.
+fn rebuild_on_at_the_end(rig: &mut Rig) {
+    rebuilt_elsewhere(rig, 1);
+    rig.write(0, 5);
+    rig.finish();
+    assert!(rig.rebuild_on(0));
+}
+
 /// With a second slot out, where m allows it.
 fn rebuild_with_two_lost(rig: &mut Rig) {
     rebuilding(rig, 1, 1);
@@ -300,7 +329,7 @@ cut_anywhere! {
     take_out take_out_while_rebuilt
     begin begin_again begin_with_an_old_disk begin_with_garbage begin_with_a_foreign_disk
     begin_with_a_foreign_disk_of_another_slot
-    rebuild_on rebuild_on_after_a_write rebuild_all rebuild_last rebuild_with_two_lost
+    rebuild_on rebuild_on_after_a_write rebuild_all rebuild_last rebuild_on_at_the_end rebuild_with_two_lost
 }
 
 /// The smallest shelf: every outcome of every cut in a write and of every cut in the start-up after it, every set of absent slots.
@@ -350,6 +379,42 @@ fn every_set_of_lost_slots() {
         }
     }
     println!("{tried} sets of lost slots");
+}
+
+/// A slot whose mark is T already: rebuild on flushes it, and then tells all slots that it is healthy. Whatever the batch is.
+#[test]
+fn nothing_left_to_rebuild() {
+    for (seed, shape) in SHAPES.into_iter().enumerate() {
+        for batch in [0, 1, u32::MAX] {
+            let mut rig = Rig::new(shape, 5 + seed as u64);
+            rig.peeks = 0;
+            rebuilt_elsewhere(&mut rig, 1);
+            let told = rig.facts.settled;
+            let mark = (told.out, told.rebuilding, told.mark as usize);
+            assert_eq!(mark, (0b10, 1, shape.stripes()));
+            assert_eq!(rig.disks.rebuild_on(batch), Ok(()));
+            let next = Content::new(told.generation + 1, 0);
+            let sector = next.generation as usize % 2;
+            let puts = (0..shape.n()).map(|slot| Step::Put { slot, sector });
+            let flushes = (0..shape.n()).map(|slot| Step::Flush { slot });
+            let first = [Step::Flush { slot: 1 }];
+            for expected in first.into_iter().chain(puts).chain(flushes) {
+                assert_eq!(rig.disks.step(0), expected);
+            }
+            let done = Step::Healthy {
+                contradicted: false,
+                mark: shape.stripes(),
+            };
+            assert_eq!(rig.disks.step(0), done);
+            for slot in 0..shape.n() {
+                assert_eq!(rig.disks.label(slot), Some((shape, next)));
+            }
+            rig.facts.settled = next;
+            rig.check_quiet();
+            restart(&mut rig, 0);
+            assert_eq!(rig.facts.settled.out, 0);
+        }
+    }
 }
 
 /// Begin without its zeros over a foreign disk's labels would be noticed.
