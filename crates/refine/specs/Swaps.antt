@@ -151,7 +151,7 @@ module _ (z : Shelf) (F : Family z) (first : Machine Sector) (p : View Sector) (
     where
       by : (c : Decoded) → copyOf (geometry z) left d (sectorOf b) ≡ c → meant z c .generation < s .now .generation
       by Nothing e = some
-      by (Valid a) e = let y = x .older (sectorOf b) a (two b) e in subst (λ (o : Bool). cond o (labelOf z a) (noLabel z) .generation < s .now .generation) (sym (y .0)) (y .1)
+      by (Valid a) e = let y = x .older (sectorOf b) a (two b) e in subst (λ (o : Bool). cond o (labelOf z a) (noLabel z) .generation < s .now .generation) (sym (y .0)) (omega (arith, y .1))
 
   -- and the labels have their shape
   zero-is : (b : Bool) → sector (z .sectors) left d (sectorOf b) ≡ zeros .bytes → curOf z left (label d b) ≡ zeros
