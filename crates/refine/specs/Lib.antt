@@ -34,6 +34,7 @@ pub mod Named
 pub mod Chain
 pub mod Refills
 pub mod Holds
+pub mod Merged
 pub mod Swaps
 pub mod Promise
 pub mod Blind

@@ -34,9 +34,10 @@ use Rattle.codecs.specs.Media.{stamps}
 use Rattle.shelf.specs.declared.state.State.{State}
 use Rattle.shelf.specs.declared.state.Kind.the-variants.{Idle}
 use Rattle.refine.specs.Family.{Family, codeIn, sectorsIn}
-use Rattle.refine.specs.Places.{inside, label-inside, slot-below, sector-below}
+use Rattle.refine.specs.Places.{label-inside}
 use Rattle.refine.specs.Places as places
-use Rattle.refine.specs.Disks.{Disks, curOf, cur-bytes, cur-read, cur-outside}
+use Rattle.refine.specs.Disks.{Disks, curOf, cur-bytes, cur-read}
+use Rattle.refine.specs.Merged.{cur-alike}
 use Rattle.refine.specs.Rounds.{beyond-below}
 use Rattle.refine.specs.Steps.{Fair}
 use Rattle.refine.specs.Tied.{ownOf, memoryOf, plain}
@@ -99,13 +100,7 @@ module _ (z : Shelf) (F : Family z) (first : Machine Sector) (p : View Sector) (
   -- ---- the disks
 
   other-same : (k : Place) → slot k ≢ d → curOf z left k ≡ curOf z img k
-  other-same k n = by (inside z k) refl
-    where
-      by : (b : Bool) → inside z k ≡ b → curOf z left k ≡ curOf z img k
-      by true e =
-          sector-path (curOf z left k) (curOf z img k)
-          (cur-bytes z left (x .disks) k e ∙ x .others (slot k) (places.sectorOf z k) (slot-below z k e) (sector-below z k e) n ∙ sym (cur-bytes z img (t .disks) k e))
-      by false e = cur-outside z left k e ∙ sym (cur-outside z img k e)
+  other-same k n = cur-alike z left img (x .disks) (t .disks) k (λ u a l. x .others (slot k) u a l n)
 
   reads : w' .cur ≡ curOf z left
   reads = fun-ext (λ k. by k (eqb (slot k) d) refl)
