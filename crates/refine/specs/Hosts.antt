@@ -169,7 +169,7 @@ SawStep Beginning a p q = q ≡ p
 SawStep Filling a p q = q ≡ p
 
 -- an accepted write opens: the list with the block replaced is the new one
-abbrev SawAsked : Outcome → ℕ → ℕ → (ℕ → Sector) → View Sector → View Sector → Type 0
+abbrev pub SawAsked : Outcome → ℕ → ℕ → (ℕ → Sector) → View Sector → View Sector → Type 0
 SawAsked Done t i x p q = (v : Host Sector) × (p ≡ sure v) × (q ≡ open-write v (replace v t (one-block i x)))
 SawAsked (Refused why) t i x p q = q ≡ p
 
@@ -251,7 +251,7 @@ module _ (z : Shelf) (F : Family z) (first : Machine Sector) where
   BoundAt p (at w img h) = Bound p w img h
 
   -- the state is lost
-  loose-tie : (p : View Sector) (w : World Sector) (img : List ℕ) (h : chain.Hand) → Tie z F first p w img h → Tie z F first p w img chain.none
+  pub loose-tie : (p : View Sector) (w : World Sector) (img : List ℕ) (h : chain.Hand) → Tie z F first p w img h → Tie z F first p w img chain.none
   loose-tie p w img h t = record { disks = t .disks; reads = t .reads; reached = off z F first p (t .reached); named = t .named; names = tt; order = tt }
 
   loose-write : (p : View Sector) (w : World Sector) (img : List ℕ) (s : State) (work : List ℕ) → Laying p w img s work → Tie z F first p w img chain.none
@@ -279,7 +279,7 @@ module _ (z : Shelf) (F : Family z) (first : Machine Sector) where
       by (Refused why) n = t
 
   -- no request of these is at rest
-  not-rest : (p : View Sector) (w : World Sector) (img : List ℕ) (s : State) (work : List ℕ) → Busy p w img s work → isIdle (s .kind) ≡ true → ⊥
+  pub not-rest : (p : View Sector) (w : World Sector) (img : List ℕ) (s : State) (work : List ℕ) → Busy p w img s work → isIdle (s .kind) ≡ true → ⊥
   not-rest p w img s work (inl t) e = false≢true (sym (ap isIdle (t .writes .kind)) ∙ e)
   not-rest p w img s work (inr (inl t)) e = false≢true (sym (ap isIdle (t .kind)) ∙ e)
   not-rest p w img s work (inr (inr t)) e = false≢true (sym (ap isIdle (t .refills .kind)) ∙ e)
@@ -371,10 +371,10 @@ module _ (z : Shelf) (F : Family z) (first : Machine Sector) where
   -- ---- a write is asked for
 
   module _ (p : View Sector) (w : World Sector) (img : List ℕ) (s : State) (work : List ℕ) (b : ℕ) (given : List ℕ) (s' : State) (then : List ℕ) (small : Bytes given) (small' : Bytes then) where
-    abbrev asked : Outcome
+    abbrev pub asked : Outcome
     asked = writeAnswer (s .now) (s .kind) (s .absent) (s .count) img b (length given) (length work)
 
-    rest-of : asked ≡ Done → isIdle (s .kind) ≡ true
+    pub rest-of : asked ≡ Done → isIdle (s .kind) ≡ true
     unfolding blockAnswer stampLeft
     rest-of e =
         answered-done (tooFew (s .now) (s .absent)) _ (isIdle (s .kind)) _ (sizes (s .now .k + s .now .m) (s .now .c) (length given) (length work))

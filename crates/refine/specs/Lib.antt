@@ -46,3 +46,4 @@ pub mod Hosts
 pub mod Reads
 pub mod HostHolds
 pub mod Serves
+pub mod Replaced

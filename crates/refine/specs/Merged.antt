@@ -18,7 +18,7 @@ use Rattle.disk.specs.declared.geometry.Geometry.{Geometry}
 use Rattle.label.specs.Valid.{decodeOf}
 use Rattle.label.specs.Newest.{copyOf}
 use Rattle.protocol.specs.World.{Place, slot}
-use Rattle.codecs.specs.Sector.{Bytes, sector-path, bytes-append, bytes-take, bytes-drop}
+use Rattle.codecs.specs.Sector.{sector-path, bytes-append, bytes-take, bytes-drop}
 use Rattle.codecs.specs.Shelf.{Shelf, slots, geometry, limits}
 use Rattle.refine.specs.Places.{sectorOf, inside, slot-below, sector-below}
 use Rattle.refine.specs.Disks.{Disks, curOf, image-fits, cur-bytes, cur-outside}

@@ -25,7 +25,6 @@ use Rattle.protocol.specs.Exchange.{with-disk}
 use Rattle.protocol.specs.Apart.{same-nat}
 use Rattle.protocol.specs.Even as even
 use Rattle.protocol.specs.Machine.{Machine, disk-swapped, from-outside, View}
-use Rattle.protocol.specs.Machine as machine
 use Rattle.codecs.specs.Sector.{Sector, sector-path, zeros}
 use Rattle.codecs.specs.Shelf.{Shelf, slots, geometry, size}
 use Rattle.codecs.specs.Labels.{sectorOf, ours, noLabel, labelOf, meant, labels}

@@ -1,0 +1,885 @@
+-- DISKS EXCHANGED WHILE NO PROGRAM RUNS: any disk of the shelf, of a slot that was healthy, out or absent, may be exchanged for one that holds no valid label; a fresh one, say. Nothing else is asked:
+-- a start-up that does not call such a slot absent is refused, and one that does never looks at it. So the disk may as well have been exchanged when that start-up came to rest (Swaps): until then the
+-- old disk is told to be there still. So the host's view goes on as without the exchange, and every read shows it. Assumes nothing.
+use mathlib.Core.Path.{_≡_, refl, sym, ap, subst, _∙_, fun-ext}
+use mathlib.Core.Logic.{_⊎_, ⊎-elim, inl, inr, _≢_}
+use mathlib.Core.Bool.{Bool, true, false, cond, not, _&&_, _||_, true≢false, false≢true}
+use mathlib.Core.List.{List, [], _∷_, _++_, List·Memᴰ·not-nil, Memᴰ·append-left, Memᴰ·append-right}
+use Prim.Native.Nat.{ℕ, zero, suc, _+_, _≤_, _<_, _/_, _%_}
+use native.Mathlib.Omega.{arith}
+use native.Mathlib.Decide.{ℕ-discrete}
+use lib.Dec.{eqb}
+use lib.ListN.{length}
+use borrow.Author.Tests.{eq-eqb, ne-eqb, eqb-true, eqb-false}
+use Rattle.disk.specs.Mask.{inMask}
+use Rattle.disk.specs.Image.{sector, Shape, readOf, sector-put-other}
+use Rattle.disk.specs.declared.geometry.Geometry.{Geometry}
+use Rattle.disk.specs.declared.refusal.Refusal.{Refusal}
+use Rattle.disk.specs.declared.refusal.Refusal.the-variants.{BadImage, NoLabel, BadBuffer}
+use Rattle.disk.specs.declared.refusal.Outcome.{Outcome}
+use Rattle.disk.specs.declared.refusal.Outcome.the-variants.{Done, Refused}
+use Rattle.label.specs.Valid.{decodeOf}
+use Rattle.label.specs.Bytes.{allZero}
+use Rattle.label.specs.Fields.{geometryOf}
+use Rattle.label.specs.Newest.{newer, newestOf, copyOf, diskLabel, shelfLabel, agreed}
+use Rattle.label.specs.declared.fields.Label as bytes
+use Rattle.label.specs.declared.codec.Decoded.{Decoded}
+use Rattle.label.specs.declared.codec.Decoded.the-variants.{Valid, Nothing}
+use Rattle.label.proofs.Counts.{all-not, agreed-says}
+use Rattle.rounds.specs.Survey.{fitsShelf, labelled, table, unless, surveyOf}
+use Rattle.rounds.specs.declared.plan.Survey.{Survey}
+use Rattle.rounds.specs.declared.plan.Survey.the-variants as survey
+use Rattle.protocol.specs.World.{Place, label, slot, Image, update, update-other, World, Action, put, flush, act, after, Possible, Sane}
+use Rattle.protocol.specs.Machine.{Machine, View, sure}
+use Rattle.protocol.specs.Pairs.{AnyTwo}
+use Rattle.codecs.specs.Sector.{Sector}
+use Rattle.codecs.specs.Shelf.{Shelf, slots, geometry, limits}
+use Rattle.codecs.specs.Labels.{sectorOf, ours}
+use Rattle.shelf.specs.Act.{Move}
+use Rattle.shelf.specs.Step.{stepMove, finished}
+use Rattle.shelf.specs.Laws.{Legal, Agree, step-one, step-blind, step-agrees}
+use Rattle.shelf.specs.declared.state.State.{State}
+use Rattle.shelf.specs.declared.state.Stepped.{Stepped}
+use Rattle.shelf.specs.declared.state.Kind.{Kind}
+use Rattle.shelf.specs.declared.state.Kind.the-variants.{Idle, Creating, Starting, Labelling, Writing, Beginning, Filling}
+use Rattle.shelf.specs.declared.state.Kind.the-variants as kind
+use Rattle.shelf.specs.declared.state.Answer.{Answer}
+use Rattle.shelf.specs.declared.state.Answer.the-variants as answer
+use Rattle.requests.specs.Begun.{workBytes, begun, accepted, refused}
+use Rattle.requests.specs.Create.{created}
+use Rattle.requests.specs.Start.{started, bySurvey, startOf}
+use Rattle.requests.specs.TakeOut.{takeAnswer, tookOut}
+use Rattle.requests.specs.Step.{otherWork, stepWith, step-short, step-goes}
+use Rattle.requests.specs.Accepted.{take-done}
+use Rattle.requests.specs.Ready.{isIdle}
+use Rattle.requests.specs.declared.begun.Begun.{Begun}
+use Rattle.rebuilds.specs.Begin.{beginAnswer, began}
+use Rattle.rebuilds.specs.On.{onAnswer, wentOn}
+use Rattle.blocks.specs.Slots.{tooFew}
+use Rattle.blocks.specs.Answers.{serves, lookAnswer, sizes, blockAnswer, first-done, answered-done}
+use Rattle.blocks.specs.Read.{readAnswer}
+use Rattle.blocks.specs.Write.{writeAnswer, AfterWrite}
+use Rattle.scrubs.specs.Repair.{mayRepair, repair-refused}
+use Rattle.refine.specs.Family.{Family, every-few, parts-few, in-parts}
+use Rattle.refine.specs.Given.{shelf-geometry}
+use Rattle.refine.specs.Places.{label-inside}
+use Rattle.refine.specs.Places as places
+use Rattle.refine.specs.Disks.{Disks, curOf, image-fits, cur-read}
+use Rattle.refine.specs.Steps.{Fair, Does, step-does}
+use Rattle.refine.specs.ToDo.{toDo}
+use Rattle.refine.specs.Tied.{plain, fair-work, step-tied}
+use Rattle.refine.specs.BeginBegins.{begin-goes}
+use Rattle.refine.specs.OnBegins.{on-rests}
+use Rattle.refine.specs.Mends.{may-whole, asked-refused}
+use Rattle.refine.specs.Other.{Sits, unless-false, same-numbers, start-other, create-late}
+use Rattle.refine.specs.Named.{side}
+use Rattle.refine.specs.Blind.{start-blind}
+use Rattle.refine.specs.Merged.{slotFrom, disk-of, disk-here, disk-other, slotsFrom, slots-disks, slots-other, slots-here, cur-alike, read-alike, copy-alike, same-image}
+use Rattle.refine.specs.Chain.{Heard, outs, handed, Allowed, Tie, off, start-any, cut-kept, heard-is, ours-in, blocks, fresh}
+use Rattle.refine.specs.Chain as chain
+use Rattle.refine.specs.Holds.{Touches}
+use Rattle.refine.specs.Swaps.{Exchanged, newDisk, swap-kept}
+use Rattle.refine.specs.Hosts.{Held, none, has, Time, at, held, HostCalls, creates, starts, creates-late, takes-out, begins, ons, writes, repairs, steps, cut, dies, swaps, HostChain, sets-call, sets, SawStep, SawAsked, Saw, Bound, BoundAt, loose-tie, not-rest, rest-of, call-bound}
+use Rattle.refine.specs.Sees.{sectorsOf}
+use Rattle.refine.specs.Serves.{ReadsAs, Served, served-bound}
+use Rattle.refine.specs.Reads.{read-right}
+
+-- ---- THE CALLS
+
+-- the disk of slot d is exchanged: the image was img and is left then; the new disk holds no valid label, every other slot stays
+pub record Blanked (z : Shelf) (d : ℕ) (img left : List ℕ) : Type 0 where
+  pub there : d < slots z
+  pub disks : Disks z left
+  pub others : (e i : ℕ) → e < slots z → i < z .sectors → e ≢ d → sector (z .sectors) left e i ≡ sector (z .sectors) img e i
+  pub blank : (o : ℕ) → o < 2 → copyOf (geometry z) left d o ≡ Nothing
+
+-- the shelf is not created anew: create is not called on an image of zeros any more
+abbrev pub NotAnew : {z : Shelf} {a b : Time} → HostCalls z a b → Type 0
+NotAnew (creates {img = img} s work) = allZero img ≡ false
+NotAnew (creates-late s k m c S number work e) = Unit {0}
+NotAnew (starts s g absent work sits) = Unit {0}
+NotAnew (takes-out d) = Unit {0}
+NotAnew (begins d) = Unit {0}
+NotAnew (ons b below) = Unit {0}
+NotAnew (writes b given s' then x y e) = Unit {0}
+NotAnew (repairs t b then r) = Unit {0}
+NotAnew (steps heard) = Unit {0}
+NotAnew (cut left d p) = Unit {0}
+NotAnew dies = Unit {0}
+NotAnew (swaps d left x) = Unit {0}
+
+-- a call of Hosts, or, while no state is held, another disk
+pub data Exchanges (z : Shelf) : Time → Time → Type 1 where
+  calls : {a b : Time} (x : HostCalls z a b) → NotAnew x → Exchanges z a b
+  replaced : {w : World Sector} {img : List ℕ} (d : ℕ) (left : List ℕ) → Blanked z d img left → Exchanges z (at w img none) (at (newDisk z w d left) left none)
+
+pub data ExchangeChain (z : Shelf) : Time → Time → Type 1 where
+  stays : {a : Time} → ExchangeChain z a a
+  goes-on : {a b c : Time} → ExchangeChain z a b → Exchanges z b c → ExchangeChain z a c
+
+abbrev pub sets-exchange : {z : Shelf} {a b : Time} → Exchanges z a b → List (ℕ → Bool)
+sets-exchange (calls x n) = sets-call x
+sets-exchange (replaced d left x) = []
+
+abbrev pub all-sets : {z : Shelf} {a b : Time} → ExchangeChain z a b → List (ℕ → Bool)
+all-sets stays = []
+all-sets (goes-on c x) = sets-exchange x ++ all-sets c
+
+-- an exchange leaves the view
+abbrev pub SawExchange : {z : Shelf} {a b : Time} → Exchanges z a b → View Sector → View Sector → Type 0
+SawExchange (calls x n) p q = Saw x p q
+SawExchange (replaced d left x) p q = q ≡ p
+
+-- the views along a chain: each call changes them as its answer says, and reads show their entries at every moment
+abbrev pub AllServed : {z : Shelf} {a b : Time} → ExchangeChain z a b → View Sector → View Sector → Type 0
+AllServed {z} {a} stays p q = (q ≡ p) × ReadsAs z a q
+AllServed {z} {b = b} (goes-on c x) p q = (r : View Sector) × AllServed c p r × SawExchange x r q × ReadsAs z b q
+
+-- ---- A WORLD AND THE ONE THAT IS TOLD: beside the slots of A the one reads as the other, and holds after a cut only what the other may; nothing is cached in the slots of A
+
+pub record Lags (A : ℕ → Bool) (w w0 : World Sector) : Type 0 where
+  pub reads : (k : Place) → A (slot k) ≡ false → w .cur k ≡ w0 .cur k
+  pub fewer : (k : Place) (x : Sector) → A (slot k) ≡ false → w .may k x → w0 .may k x
+  pub certain : (k : Place) (x : Sector) → A (slot k) ≡ true → w .may k x → x ≡ w .cur k
+
+lags-put : (A : ℕ → Bool) (w w0 : World Sector) (k : Place) (v : Sector) → A (slot k) ≡ false → Lags A w w0 → Lags A (act w (put k v)) (act w0 (put k v))
+unfolding update
+lags-put A w w0 k v n h =
+    record {
+      reads = λ l a. ap (λ (y : Sector). update (λ (m : Place). y) k v l) (h .reads l a);
+      fewer = λ l x a m. ⊎-elim (λ (y : w .may l x). inl (h .fewer l x a y)) (λ (y : (l ≡ k) × (x ≡ v)). inr y) m;
+      certain = λ l x a m.
+          ⊎-elim (λ (y : w .may l x). h .certain l x a y ∙ sym (update-other (w .cur) k v l (λ q. true≢false (sym a ∙ (ap (λ (e : Place). A (slot e)) q ∙ n)))))
+          (λ (y : (l ≡ k) × (x ≡ v)). absurd (true≢false (sym a ∙ (ap (λ (e : Place). A (slot e)) (y .0) ∙ n)))) m;
+    }
+
+lags-flush : (A : ℕ → Bool) (w w0 : World Sector) (d : ℕ) → Lags A w w0 → Lags A (act w (flush d)) (act w0 (flush d))
+lags-flush A w w0 d h =
+    record {
+      reads = h .reads;
+      fewer = λ l x a m. (h .fewer l x a (m .0), λ q. m .1 q ∙ h .reads l a);
+      certain = λ l x a m. h .certain l x a (m .0);
+    }
+
+-- what the caller does with the disks is told too
+lags-heard : (z : Shelf) (A : ℕ → Bool) (w w0 : World Sector) (a : Answer) (img img0 : List ℕ) (w' : World Sector) → Lags A w w0 → ((e : ℕ) → Touches a e → A e ≡ false)
+    → ((k : Place) → A (slot k) ≡ false → curOf z img k ≡ curOf z img0 k) → Heard z w a img w' → (w0' : World Sector) × Heard z w0 a img0 w0' × Lags A w' w0'
+lags-heard z A w w0 (answer.Put d to) img img0 w' h t same (k, i, s, o, e) =
+    let n : A (slot k) ≡ false = ap A s ∙ t d refl in (
+      act w0 (put k (curOf z img0 k)),
+      (k, i, s, o, refl),
+      subst (λ (x : World Sector). Lags A x (act w0 (put k (curOf z img0 k)))) (sym e) (subst (λ (v : Sector). Lags A (act w (put k v)) (act w0 (put k (curOf z img0 k)))) (sym (same k n)) (lags-put A w w0 k (curOf z img0 k) n h)),
+    )
+lags-heard z A w w0 (answer.Flush d) img img0 w' h t same e = (act w0 (flush d), refl, subst (λ (x : World Sector). Lags A x (act w0 (flush d))) (sym e) (lags-flush A w w0 d h))
+lags-heard z A w w0 answer.Done img img0 w' h t same e = (w0, refl, subst (λ (x : World Sector). Lags A x w0) (sym e) h)
+lags-heard z A w w0 (answer.Refused why) img img0 w' h t same e = (w0, refl, subst (λ (x : World Sector). Lags A x w0) (sym e) h)
+
+-- no slot
+abbrev pub nowhere : ℕ → Bool
+nowhere d = false
+
+-- ---- THE SAME CALL, TOLD IN A WORLD THAT MAY HOLD MORE
+
+abbrev told : Time → World Sector → Time
+told (at w img h) w0 = at w0 img h
+
+abbrev LagsAt : Time → World Sector → Type 0
+LagsAt (at w img h) w0 = Lags nowhere w w0
+
+module _ (z : Shelf) where
+  record Retold {a b : Time} (x : HostCalls z a b) (w0 : World Sector) : Type 1 where
+    pub world : World Sector
+    pub call : HostCalls z (told a w0) (told b world)
+    pub lags : LagsAt b world
+    pub same-sets : sets-call call ≡ sets-call x
+    pub saw : (p q : View Sector) → Saw call p q → Saw x p q
+
+  retell : {a b : Time} (x : HostCalls z a b) (w0 : World Sector) → LagsAt a w0 → Retold x w0
+  unfolding Possible after
+  retell (creates s work) w0 h = record { world = w0; call = creates s work; lags = h; same-sets = refl; saw = λ p q y. y }
+  retell (creates-late s k m c S number work e) w0 h = record { world = w0; call = creates-late s k m c S number work e; lags = h; same-sets = refl; saw = λ p q y. y }
+  retell (starts s g absent work sits) w0 h = record { world = w0; call = starts s g absent work sits; lags = h; same-sets = refl; saw = λ p q y. y }
+  retell (takes-out d) w0 h = record { world = w0; call = takes-out d; lags = h; same-sets = refl; saw = λ p q y. y }
+  retell (begins d) w0 h = record { world = w0; call = begins d; lags = h; same-sets = refl; saw = λ p q y. y }
+  retell (ons b below) w0 h = record { world = w0; call = ons b below; lags = h; same-sets = refl; saw = λ p q y. y }
+  retell (writes b given s' then x y e) w0 h = record { world = w0; call = writes b given s' then x y e; lags = h; same-sets = refl; saw = λ p q y. y }
+  retell (repairs t b then r) w0 h = record { world = w0; call = repairs t b then r; lags = h; same-sets = refl; saw = λ p q y. y }
+  retell (steps {w} {w'} {img} {s} {work} heard) w0 h =
+      let m : Move = stepWith s img work in
+      let y = lags-heard z nowhere w w0 (m .stepped .answer) (m .image) (m .image) w' h (λ e t. refl) (λ k a. refl) heard in
+      record { world = y .0; call = steps (y .1); lags = y .2; same-sets = refl; saw = λ p q y. y }
+  retell (cut left d p) w0 h =
+      record { world = after (curOf z left); call = cut left d (λ k. h .fewer k (curOf z left k) refl (p k)); lags = record { reads = λ k a. refl; fewer = λ k x a m. m; certain = λ k x a m. m }; same-sets = refl; saw = λ p q y. y }
+  retell dies w0 h = record { world = w0; call = dies; lags = h; same-sets = refl; saw = λ p q y. y }
+  retell (swaps d left x) w0 h =
+      record {
+        world = newDisk z w0 d left;
+        call = swaps d left x;
+        lags = record {
+          reads = λ k a. ap (λ (y : Sector). cond (eqb (slot k) d) (curOf z left k) y) (h .reads k a);
+          fewer = λ k y a m. (m .0, λ n. h .fewer k y a (m .1 n));
+          certain = λ k y a m. absurd (false≢true a);
+        };
+        same-sets = refl;
+        saw = λ p q y. y;
+      }
+
+  -- ---- BEHIND: since the program was last at rest the disks of the slots of A were exchanged, and the old ones are told
+
+  pub record Behind (A : ℕ → Bool) (w : World Sector) (img : List ℕ) (w0 : World Sector) (img0 : List ℕ) : Type 0 where
+    pub inner : (e : ℕ) → A e ≡ true → e < slots z
+    pub lags : Lags A w w0
+    pub disks : Disks z img
+    pub reads : w .cur ≡ curOf z img
+    pub alike : (e u : ℕ) → e < slots z → u < z .sectors → A e ≡ false → sector (z .sectors) img e u ≡ sector (z .sectors) img0 e u
+    pub blank : (e o : ℕ) → A e ≡ true → o < 2 → copyOf (geometry z) img e o ≡ Nothing
+
+  -- a start-up waits for the slots of A, which it was told are absent
+  abbrev Waits : (ℕ → Bool) → Held → Type 0
+  Waits A none = Unit {0}
+  Waits A (has s work) = (s .kind ≡ Starting) × ((e : ℕ) → A e ≡ true → inMask (s .absent) e ≡ true)
+
+  abbrev handOf : Held → chain.Hand
+  handOf none = chain.none
+  handOf (has s work) = chain.has s
+
+  -- a start-up that does not call such a slot absent is refused: the slot has no label
+  not-valid : (a : bytes.Label) → _≡_ {A = Decoded} Nothing (Valid a) → ⊥
+  not-valid a e = let i : _≡_ {A = ℕ} 0 1 = cc in absurd (omega arith)
+
+  unlabelled : (img : List ℕ) → Disks z img → (absent e : ℕ) → e < slots z → inMask absent e ≡ false → ((o : ℕ) → o < 2 → copyOf (geometry z) img e o ≡ Nothing) → surveyOf (geometry z) img absent ≡ survey.Refused NoLabel
+  unfolding surveyOf diskLabel newestOf
+  unlabelled img disks absent e i p blank =
+      ap (λ (b : Bool). unless b BadImage (table (geometry z) img absent (shelfLabel (geometry z) img absent))) (image-fits z img disks)
+      ∙ unless-false (labelled (geometry z) img absent (shelfLabel (geometry z) img absent)) NoLabel _ (no (shelfLabel (geometry z) img absent))
+    where
+      bare : diskLabel (geometry z) img e ≡ Nothing
+      bare = λ j. newer (newer Nothing (blank 0 (omega arith) j)) (blank 1 (omega arith) j)
+
+      no : (x : Decoded) → labelled (geometry z) img absent x ≡ false
+      no Nothing = all-not (inMask absent) (slots z) e i p
+      no (Valid lead) = by (agreed (geometry z) img absent lead) refl
+        where
+          by : (b : Bool) → agreed (geometry z) img absent lead ≡ b → (agreed (geometry z) img absent lead && fitsShelf (geometry z) lead) ≡ false
+          by true q = let y = agreed-says (geometry z) img absent lead q e i p in absurd (not-valid (y .label) (sym bare ∙ y .is))
+          by false q = ap (λ (b : Bool). b && fitsShelf (geometry z) lead) q
+
+  label-alike : (x y : List ℕ) → Disks z x → Disks z y → (e : ℕ) (b : Bool) → e < slots z → curOf z x (label e b) ≡ curOf z y (label e b) → copyOf (geometry z) x e (sectorOf b) ≡ copyOf (geometry z) y e (sectorOf b)
+  unfolding copyOf places.sectorOf places.copySector
+  label-alike x y dx dy e b i q =
+      ap (λ (v : List ℕ). decodeOf v e (sectorOf b)) (sym (cur-read z x dx (label e b) (label-inside z e b i)) ∙ ap (λ (v : Sector). v .bytes) q ∙ cur-read z y dy (label e b) (label-inside z e b i))
+
+  few-low : (o : ℕ) → o < 2 → o < z .sectors
+  few-low o l = omega (arith, limits z .0 .room)
+
+  -- does it call them all absent?
+  covers : (A : ℕ → Bool) (absent i : ℕ) → ((e : ℕ) → e < i → A e ≡ true → inMask absent e ≡ true) ⊎ ((e : ℕ) × (e < i) × (A e ≡ true) × (inMask absent e ≡ false))
+  covers A absent zero = inl (λ e l a. absurd (omega arith))
+  covers A absent (suc i) = by (covers A absent i) (A i) refl (inMask absent i) refl
+    where
+      Some : ℕ → Type 0
+      Some n = ((e : ℕ) → e < n → A e ≡ true → inMask absent e ≡ true) ⊎ ((e : ℕ) × (e < n) × (A e ≡ true) × (inMask absent e ≡ false))
+
+      last : ((e : ℕ) → e < i → A e ≡ true → inMask absent e ≡ true) → (A i ≡ true → inMask absent i ≡ true) → (e : ℕ) → e < suc i → A e ≡ true → inMask absent e ≡ true
+      last all h e l a = go (ℕ-discrete e i)
+        where
+          go : Dec (e ≡ i) → inMask absent e ≡ true
+          go (yes q) = subst (λ (n : ℕ). inMask absent n ≡ true) (sym q) (h (subst (λ (n : ℕ). A n ≡ true) q a))
+          go (no q) = all e (omega (arith, q)) a
+
+      by : Some i → (a : Bool) → A i ≡ a → (b : Bool) → inMask absent i ≡ b → Some (suc i)
+      by (inr y) a p b q = inr (y .0, omega (arith, y .1), y .2, y .3)
+      by (inl all) true p true q = inl (last all (λ u. q))
+      by (inl all) true p false q = inr (i, omega arith, p, q)
+      by (inl all) false p b q = inl (last all (λ u. absurd (true≢false (sym u ∙ p))))
+
+-- a start-up, and no other request
+abbrev starting : Kind → Bool
+starting kind.Nothing = false
+starting Idle = false
+starting Creating = false
+starting Starting = true
+starting Labelling = false
+starting Writing = false
+starting Beginning = false
+starting Filling = false
+
+-- what a step changes: nothing of an absent slot
+touch-present : (s : State) (g : Geometry) (img next : List ℕ) (a : Answer) → Legal a (s .absent) g img next → (e : ℕ) → Touches a e → inMask (s .absent) e ≡ false
+touch-present s g img next (answer.Put d to) h e q = subst (λ (x : ℕ). inMask (s .absent) x ≡ false) q (h .present)
+touch-present s g img next (answer.Flush d) h e q = subst (λ (x : ℕ). inMask (s .absent) x ≡ false) q (h .present)
+touch-present s g img next answer.Done h e q = absurd q
+touch-present s g img next (answer.Refused why) h e q = absurd q
+
+absent-kept : (s : State) (g : Geometry) (img next : List ℕ) (a : Answer) → Legal a (s .absent) g img next → (e u : ℕ) → e < g .n → u < g .sectors → inMask (s .absent) e ≡ true → sector (g .sectors) next e u ≡ sector (g .sectors) img e u
+absent-kept s g img next (answer.Put d to) h e u i l q =
+    ap (λ (x : List ℕ). sector (g .sectors) x e u) (h .image)
+    ∙ sector-put-other (g .n) (g .sectors) img (h .bytes) (h .shape) (h .whole) d to (h .slot) (h .low) e u i l (λ y. true≢false (sym q ∙ (ap (inMask (s .absent)) (y .0) ∙ h .present)))
+absent-kept s g img next (answer.Flush d) h e u i l q = ap (λ (x : List ℕ). sector (g .sectors) x e u) (h .image)
+absent-kept s g img next answer.Done h e u i l q = ap (λ (x : List ℕ). sector (g .sectors) x e u) h
+absent-kept s g img next (answer.Refused why) h e u i l q = ap (λ (x : List ℕ). sector (g .sectors) x e u) h
+
+module _ (z : Shelf) (F : Family z) (first : Machine Sector) where
+  pub record Late (p : View Sector) (w : World Sector) (img : List ℕ) (h : Held) : Type 1 where
+    pub away : ℕ → Bool
+    pub w0 : World Sector
+    pub img0 : List ℕ
+    pub behind : Behind z away w img w0 img0
+    pub tie : Tie z F first p w0 img0 (handOf z h)
+    pub waits : Waits z away h
+
+  abbrev LateAt : View Sector → Time → Type 1
+  LateAt p (at w img h) = Late p w img h
+
+  -- the world that is told may hold more after a cut, and is otherwise the same; or it is behind
+  abbrev pub StandsAt : View Sector → Time → Type 1
+  StandsAt p t = ((w0 : World Sector) × LagsAt t w0 × BoundAt z F first p (told t w0)) ⊎ LateAt p t
+
+  -- ---- AT REST all is told: the disks are exchanged one after the other
+
+  module _ (p : View Sector) (w : World Sector) (img : List ℕ) (s : State) (e : s .kind ≡ Idle) where
+    module _ (A : ℕ → Bool) (w0 : World Sector) (img0 : List ℕ) (b : Behind z A w img w0 img0) (t : Tie z F first p w0 img0 (chain.has s)) (d : ℕ) (here : A d ≡ true) (gone : inMask (s .absent) d ≡ true) where
+      abbrev left : List ℕ
+      left = slotFrom z d img img0 (z .sectors)
+
+      there : d < slots z
+      there = b .inner d here
+
+      left-disks : Disks z left
+      left-disks = disk-of z d there img img0 (b .disks) (t .disks)
+
+      none-valid : (o : ℕ) (a : bytes.Label) → o < 2 → copyOf (geometry z) left d o ≡ Valid a → ⊥
+      none-valid o a l q =
+          not-valid z a
+          (sym (b .blank d o here l) ∙ sym (copy-alike z left img left-disks (b .disks) d o there l (disk-here z d there img img0 (b .disks) (t .disks) o (few-low z o l))) ∙ q)
+
+      exchange : Exchanged z s d img0 left
+      exchange =
+          record {
+            at-rest = e;
+            there = there;
+            absent = gone;
+            disks = left-disks;
+            others = λ x u i l n. disk-other z d there img img0 (b .disks) (t .disks) x u i l n;
+            older = λ o a l q. absurd (none-valid o a l q);
+            shape = record { calm = λ x o a i l q. absurd (none-valid o a l q); follow = λ a c q r. absurd (none-valid 0 a (omega arith) q) };
+          }
+
+      abbrev rest : ℕ → Bool
+      rest x = A x && not (eqb x d)
+
+      other : (x : ℕ) → x ≢ d → rest x ≡ false → A x ≡ false
+      other x n q = by (A x) q
+        where
+          by : (y : Bool) → (y && not (eqb x d)) ≡ false → y ≡ false
+          by true r = absurd (true≢false (sym (ap not (ne-eqb x d n)) ∙ r))
+          by false r = refl
+
+      still : (x : ℕ) → rest x ≡ true → (A x ≡ true) × (x ≢ d)
+      still x q = by (A x) refl (eqb x d) refl q
+        where
+          by : (y : Bool) → A x ≡ y → (c : Bool) → eqb x d ≡ c → (y && not c) ≡ true → (A x ≡ true) × (x ≢ d)
+          by true u true v r = absurd (false≢true r)
+          by true u false v r = (u, eqb-false x d v)
+          by false u c v r = absurd (false≢true r)
+
+      told-sector : (x u : ℕ) → x < slots z → u < z .sectors → rest x ≡ false → sector (z .sectors) img x u ≡ sector (z .sectors) left x u
+      told-sector x u i l q = by (ℕ-discrete x d)
+        where
+          by : Dec (x ≡ d) → sector (z .sectors) img x u ≡ sector (z .sectors) left x u
+          by (yes y) = subst (λ (v : ℕ). sector (z .sectors) img v u ≡ sector (z .sectors) left v u) (sym y) (sym (disk-here z d there img img0 (b .disks) (t .disks) u l))
+          by (no y) = b .alike x u i l (other x y q) ∙ sym (disk-other z d there img img0 (b .disks) (t .disks) x u i l y)
+
+      told-cur : (k : Place) → rest (slot k) ≡ false → curOf z img k ≡ curOf z left k
+      told-cur k q = cur-alike z img left (b .disks) left-disks k (λ u i l. told-sector (slot k) u i l q)
+
+      one-told : Behind z rest w img (newDisk z w0 d left) left × Tie z F first p (newDisk z w0 d left) left (chain.has s)
+      one-told =
+          let y = swap-kept z F first p w0 img0 s d left exchange t in (
+            record {
+              inner = λ x q. b .inner x (still x q .0);
+              lags = record {
+                reads = λ k q. ap (λ (f : Image Sector). f k) (b .reads) ∙ told-cur k q ∙ sym (ap (λ (f : Image Sector). f k) (y .reads));
+                fewer = λ k v q m. (
+                  (λ i. b .lags .certain k v (ap A i ∙ here) m ∙ ap (λ (f : Image Sector). f k) (b .reads) ∙ told-cur k q),
+                  λ n. b .lags .fewer k v (other (slot k) n q) m,
+                );
+                certain = λ k v q m. b .lags .certain k v (still (slot k) q .0) m;
+              };
+              disks = b .disks;
+              reads = b .reads;
+              alike = told-sector;
+              blank = λ x o q l. b .blank x o (still x q .0) l;
+            },
+            y,
+          )
+
+    all-told : (i : ℕ) (A : ℕ → Bool) (w0 : World Sector) (img0 : List ℕ) → ((x : ℕ) → i ≤ x → A x ≡ false) → ((x : ℕ) → A x ≡ true → inMask (s .absent) x ≡ true) → Behind z A w img w0 img0 → Tie z F first p w0 img0 (chain.has s)
+        → (v : World Sector) × Lags nowhere w v × Tie z F first p v img (chain.has s)
+    all-told zero A w0 img0 free gone b t =
+        let same : img ≡ img0 = same-image z img img0 (b .disks) (t .disks) (λ x u i l. b .alike x u i l (free x (omega arith))) in (
+          w0,
+          record { reads = λ k q. b .lags .reads k (free (slot k) (omega arith)); fewer = λ k v q m. b .lags .fewer k v (free (slot k) (omega arith)) m; certain = λ k v q m. absurd (false≢true q) },
+          subst (λ (x : List ℕ). Tie z F first p w0 x (chain.has s)) (sym same) t,
+        )
+    all-told (suc i) A w0 img0 free gone b t = by (A i) refl (λ A' w0' img0'. all-told i A' w0' img0')
+      where
+        Goal : Type 1
+        Goal = (v : World Sector) × Lags nowhere w v × Tie z F first p v img (chain.has s)
+
+        by : (c : Bool) → A i ≡ c
+            → ((A' : ℕ → Bool) (w0' : World Sector) (img0' : List ℕ) → ((x : ℕ) → i ≤ x → A' x ≡ false) → ((x : ℕ) → A' x ≡ true → inMask (s .absent) x ≡ true) → Behind z A' w img w0' img0' → Tie z F first p w0' img0' (chain.has s) → Goal) → Goal
+        by true q ih =
+            let y = one-told A w0 img0 b t i q (gone i q) in
+            ih (λ x. A x && not (eqb x i)) (newDisk z w0 i (slotFrom z i img img0 (z .sectors))) (slotFrom z i img img0 (z .sectors)) (λ x l. past x l (ℕ-discrete x i)) (λ x r. gone x (still A w0 img0 b t i q (gone i q) x r .0)) (y .0) (y .1)
+          where
+            past : (x : ℕ) → i ≤ x → Dec (x ≡ i) → (A x && not (eqb x i)) ≡ false
+            past x l (yes r) = ap (λ (c : Bool). A x && not c) (eq-eqb x i r) ∙ by-none (A x)
+              where
+                by-none : (c : Bool) → (c && false) ≡ false
+                by-none true = refl
+                by-none false = refl
+            past x l (no r) = ap (λ (c : Bool). c && not (eqb x i)) (free x (omega (arith, r)))
+        by false q ih = ih A w0 img0 (λ x l. low x l (ℕ-discrete x i)) gone b t
+          where
+            low : (x : ℕ) → i ≤ x → Dec (x ≡ i) → A x ≡ false
+            low x l (yes r) = ap A r ∙ q
+            low x l (no r) = free x (omega (arith, r))
+
+  -- ---- A CUT: each old disk is told to hold what is read of it
+
+  module _ (p : View Sector) (w : World Sector) (img : List ℕ) (h : Held) (t : Late p w img h) where
+    abbrev A : ℕ → Bool
+    A = t .away
+
+    abbrev B : Behind z (t .away) w img (t .w0) (t .img0)
+    B = t .behind
+
+    late-cut : (left : List ℕ) → Disks z left → Possible w (curOf z left) → Late p (after (curOf z left)) left none
+    unfolding Possible after Sane
+    late-cut left d possible = record { away = A; w0 = after (curOf z left0); img0 = left0; behind = behind; tie = cut-kept z F first p (t .w0) (t .img0) (handOf z h) left0 d0 there (t .tie); waits = tt }
+      where
+        left0 : List ℕ
+        left0 = slotsFrom z A (t .img0) left (slots z)
+
+        d0 : Disks z left0
+        d0 = slots-disks z A (t .img0) left (t .tie .disks) d (slots z) (omega arith)
+
+        out : (e u : ℕ) → e < slots z → u < z .sectors → A e ≡ false → sector (z .sectors) left e u ≡ sector (z .sectors) left0 e u
+        out e u i l a = sym (slots-other z A (t .img0) left (t .tie .disks) d (slots z) (omega arith) e u i l a)
+
+        cur-out : (k : Place) → A (slot k) ≡ false → curOf z left k ≡ curOf z left0 k
+        cur-out k a = cur-alike z left left0 d d0 k (λ u i l. out (slot k) u i l a)
+
+        cur-in : (k : Place) → A (slot k) ≡ true → curOf z left0 k ≡ t .w0 .cur k
+        cur-in k a = cur-alike z left0 (t .img0) d0 (t .tie .disks) k (λ u i l. slots-here z A (t .img0) left (t .tie .disks) d (slots z) (omega arith) (slot k) u i l a) ∙ sym (ap (λ (f : Image Sector). f k) (t .tie .reads))
+
+        there : Possible (t .w0) (curOf z left0)
+        there k = by (A (slot k)) refl
+          where
+            by : (b : Bool) → A (slot k) ≡ b → t .w0 .may k (curOf z left0 k)
+            by true a = subst (t .w0 .may k) (sym (cur-in k a)) (off z F first p (t .tie .reached) .keeps .sane k)
+            by false a = subst (t .w0 .may k) (cur-out k a) (B .lags .fewer k (curOf z left k) a (possible k))
+
+        bare : (e o : ℕ) → A e ≡ true → o < 2 → copyOf (geometry z) left e o ≡ Nothing
+        bare e o a l =
+            let b = side o l in
+            let k : Place = label e (b .0) in
+            let same : curOf z left k ≡ curOf z img k = B .lags .certain k (curOf z left k) a (possible k) ∙ ap (λ (f : Image Sector). f k) (B .reads) in
+            subst (λ (x : ℕ). copyOf (geometry z) left e x ≡ Nothing) (b .1) (label-alike z left img d (B .disks) e (b .0) (B .inner e a) same ∙ ap (copyOf (geometry z) img e) (b .1) ∙ B .blank e o a l)
+
+        behind : Behind z A (after (curOf z left)) left (after (curOf z left0)) left0
+        behind =
+            record {
+              inner = B .inner;
+              lags = record { reads = cur-out; fewer = λ k v a m. m ∙ cur-out k a; certain = λ k v a m. m };
+              disks = d;
+              reads = refl;
+              alike = out;
+              blank = bare;
+            }
+
+    -- ---- A START-UP
+
+    late-own : (d o : ℕ) (a : bytes.Label) → d < slots z → o < 2 → copyOf (geometry z) img d o ≡ Valid a → ours z a ≡ true
+    late-own d o a i l e = by (A d) refl
+      where
+        by : (b : Bool) → A d ≡ b → ours z a ≡ true
+        by true q = absurd (not-valid z a (sym (B .blank d o q l) ∙ e))
+        by false q = ours-in z F first p (t .w0) (t .img0) (handOf z h) (t .tie) d o a i l (sym (copy-alike z img (t .img0) (B .disks) (t .tie .disks) d o i l (B .alike d o i (few-low z o l) q)) ∙ e)
+
+    module _ (s : State) (absent : ℕ) (work : List ℕ) where
+      abbrev After : Begun → Type 1
+      After b = StandsAt p (at w img (held h b work))
+
+      refused-start : (why : Refusal) → surveyOf (geometry z) img absent ≡ survey.Refused why → After (startOf s (geometry z) absent img (length work))
+      refused-start why e = subst (λ (x : Survey). After (bySurvey x s (geometry z) absent img (length work))) (sym e) (inr t)
+
+      blind-start : ((e : ℕ) → e < slots z → A e ≡ true → inMask absent e ≡ true) → (g : Geometry) → g ≡ geometry z → startOf s g absent img (length work) ≡ startOf s g absent (t .img0) (length work)
+      unfolding Shape
+      blind-start all g e =
+          start-blind s g absent (length work) img (t .img0)
+          (record {
+            lengths = B .disks .shape ∙ sym (t .tie .disks .shape);
+            sectors = λ d u i l n.
+                let j : d < slots z = subst (λ (x : Geometry). d < x .n) e i in
+                let m : u < z .sectors = subst (λ (x : Geometry). u < x .sectors) e l in
+                subst (λ (x : Geometry). readOf x img d u ≡ readOf x (t .img0) d u) (sym e) (read-alike z img (t .img0) (B .disks) (t .tie .disks) d u j m (B .alike d u j m (present d j n)));
+          })
+        where
+          present : (d : ℕ) → d < slots z → inMask absent d ≡ false → A d ≡ false
+          present d i n = by (A d) refl
+            where
+              by : (b : Bool) → A d ≡ b → b ≡ false
+              by true q = absurd (true≢false (sym (all d i q) ∙ n))
+              by false q = refl
+
+      told-start : ((e : ℕ) → A e ≡ true → inMask absent e ≡ true) → Tie z F first p (t .w0) (t .img0) (handed (handOf z h) (startOf s (geometry z) absent (t .img0) (length work))) → After (startOf s (geometry z) absent (t .img0) (length work))
+      told-start all = by (surveyOf (geometry z) (t .img0) absent)
+        where
+          by : (x : Survey) → Tie z F first p (t .w0) (t .img0) (handed (handOf z h) (bySurvey x s (geometry z) absent (t .img0) (length work))) → After (bySurvey x s (geometry z) absent (t .img0) (length work))
+          by (survey.Refused why) y = inr t
+          by (survey.Plan plan) y = go (eqb (length work) (workBytes (slots z) (z .c))) y
+            where
+              go : (b : Bool) → Tie z F first p (t .w0) (t .img0) (handed (handOf z h) (cond b (accepted (started (geometry z) absent plan (t .img0))) (refused s BadBuffer)))
+                  → After (cond b (accepted (started (geometry z) absent plan (t .img0))) (refused s BadBuffer))
+              go true y = inr (record { away = A; w0 = t .w0; img0 = t .img0; behind = B; tie = y; waits = (refl, all) })
+              go false y = inr t
+
+      late-start : (g : Geometry) → Sits z g absent → Allowed z F (outs (startOf s g absent img (length work))) → After (startOf s g absent img (length work))
+      late-start g sits ok = ⊎-elim same other (same-numbers z g)
+        where
+          other : (g ≡ geometry z → ⊥) → After (startOf s g absent img (length work))
+          other n = subst (λ (x : Survey). After (bySurvey x s g absent img (length work))) (sym (start-other z img (B .disks) late-own g absent n sits)) (inr t)
+
+          same : g ≡ geometry z → After (startOf s g absent img (length work))
+          same e =
+              ⊎-elim
+              (λ (all : (x : ℕ) → x < slots z → A x ≡ true → inMask absent x ≡ true).
+              let y = blind-start all g e in
+              subst (λ (b : Begun). After b) (sym y)
+              (subst (λ (x : Geometry). After (startOf s x absent (t .img0) (length work))) (sym e)
+              (told-start (λ x q. all x (B .inner x q) q)
+              (subst (λ (x : Geometry). Tie z F first p (t .w0) (t .img0) (handed (handOf z h) (startOf s x absent (t .img0) (length work)))) e
+              (start-any z F first p (t .w0) (t .img0) (handOf z h) s g absent (length work) sits (subst (λ (b : Begun). Allowed z F (outs b)) y ok) (t .tie))))))
+              (λ (x : (d : ℕ) × (d < slots z) × (A d ≡ true) × (inMask absent d ≡ false)).
+              subst (λ (y : Geometry). After (startOf s y absent img (length work))) (sym e) (refused-start NoLabel (unlabelled z img (B .disks) absent (x .0) (x .1) (x .3) (λ o l. B .blank (x .0) o (x .2) l))))
+              (covers z A absent (slots z))
+
+  -- ---- A STEP of such a start-up is told on the old disks; when it comes to rest, all is told
+
+  -- the state goes on, or the request is done
+  kept-or-done : (s : State) (work img : List ℕ) (m : Move) (l : List (Action Sector)) → Does z work img s m l → ((m .stepped .state .kind ≡ s .kind) × (m .stepped .state .absent ≡ s .absent)) ⊎ (m ≡ finished s img)
+  kept-or-done s work img m [] h = inr h
+  kept-or-done s work img m (put k v ∷ l) h =
+      inl (ap (λ (x : Move). x .stepped .state .kind) (h .is) ∙ ap (λ (x : State). x .kind) (h .kept), ap (λ (x : Move). x .stepped .state .absent) (h .is) ∙ ap (λ (x : State). x .absent) (h .kept))
+  kept-or-done s work img m (flush d ∷ l) h =
+      inl (ap (λ (x : Move). x .stepped .state .kind) (h .is) ∙ ap (λ (x : State). x .kind) (h .kept), ap (λ (x : Move). x .stepped .state .absent) (h .is) ∙ ap (λ (x : State). x .absent) (h .kept))
+
+  module _ (p : View Sector) (w : World Sector) (img : List ℕ) (s : State) (work : List ℕ) (t : Late p w img (has s work)) where
+    busy : (k : Kind) → s .kind ≡ k → starting k ≡ false → ⊥
+    busy k e f = true≢false (sym (ap starting (t .waits .0)) ∙ ap starting e ∙ f)
+
+    late-busy : isIdle (s .kind) ≡ true → ⊥
+    late-busy e = false≢true (sym (ap isIdle (t .waits .0)) ∙ e)
+
+    -- no read is answered meanwhile
+    late-unread : (b : ℕ) (buf : List ℕ) → readAnswer (s .now) (s .kind) (s .absent) b (length img) (length buf) (length work) ≡ Done → ⊥
+    unfolding blockAnswer
+    late-unread b buf ok =
+        false≢true
+        (sym (ap serves (t .waits .0))
+        ∙ answered-done (tooFew (s .now) (s .absent)) _ true (serves (s .kind)) (sizes (s .now .k + s .now .m) (s .now .c) (length buf) (length work))
+        (first-done (lookAnswer (s .now) (s .kind) (length img)) (blockAnswer (s .now) (s .absent) true (serves (s .kind)) b (length buf) (length work)) ok .1) .makes-sense)
+
+    fair0 : Fair z s [] (t .img0)
+    fair0 = ⊎-elim (λ (f : Fair z s [] (t .img0) × (plain (s .kind) ≡ true)). f .0) (λ (q : (s .kind ≡ Idle) × (ours z (s .now) ≡ true)). absurd (busy Idle (q .0) refl)) (t .tie .order .1)
+
+    fair : Fair z s [] img
+    fair = record { in-range = fair0 .in-range; ours-now = fair0 .ours-now; disks = t .behind .disks; narrow = fair0 .narrow; stages = fair0 .stages }
+
+    plainly : plain (s .kind) ≡ true
+    plainly = ap plain (t .waits .0)
+
+    g-is : geometryOf (s .now) ≡ geometry z
+    g-is = shelf-geometry z (s .now) (fair0 .ours-now)
+
+    lengths : length img ≡ length (t .img0)
+    unfolding Shape
+    lengths = t .behind .disks .shape ∙ sym (t .tie .disks .shape)
+
+    abbrev m : Move
+    m = stepMove s work img
+
+    abbrev m0 : Move
+    m0 = stepMove s work (t .img0)
+
+    same : m0 .stepped ≡ m .stepped
+    same = sym (step-blind s work img (t .img0) lengths)
+
+    legal : (x : List ℕ) → Legal (stepMove s work x .stepped .answer) (s .absent) (geometry z) x (stepMove s work x .image)
+    legal x = subst (λ (g : Geometry). Legal (stepMove s work x .stepped .answer) (s .absent) g x (stepMove s work x .image)) g-is (step-one s work x)
+
+    absent-same : (x : List ℕ) (e u : ℕ) → e < slots z → u < z .sectors → inMask (s .absent) e ≡ true → sector (z .sectors) (stepMove s work x .image) e u ≡ sector (z .sectors) x e u
+    absent-same x = absent-kept s (geometry z) x (stepMove s work x .image) (stepMove s work x .stepped .answer) (legal x)
+
+    -- slots that are present were not exchanged
+    present : (e : ℕ) → inMask (s .absent) e ≡ false → t .away e ≡ false
+    present e n = by (t .away e) refl
+      where
+        by : (b : Bool) → t .away e ≡ b → b ≡ false
+        by true q = absurd (true≢false (sym (t .waits .1 e q) ∙ n))
+        by false q = refl
+
+    agree : Agree (s .absent) (geometry z) (m .image) (m0 .image)
+    agree =
+        subst (λ (g : Geometry). Agree (s .absent) g (stepMove s work img .image) (stepMove s work (t .img0) .image)) g-is
+        (step-agrees s work img (t .img0) lengths (subst (λ (g : Geometry). Agree (s .absent) g img (t .img0)) (sym g-is) (λ e u i l n. t .behind .alike e u i l (present e n))))
+
+    then-alike : (e u : ℕ) → e < slots z → u < z .sectors → t .away e ≡ false → sector (z .sectors) (m .image) e u ≡ sector (z .sectors) (m0 .image) e u
+    then-alike e u i l a = by (inMask (s .absent) e) refl
+      where
+        by : (b : Bool) → inMask (s .absent) e ≡ b → sector (z .sectors) (m .image) e u ≡ sector (z .sectors) (m0 .image) e u
+        by true q = absent-same img e u i l q ∙ t .behind .alike e u i l a ∙ sym (absent-same (t .img0) e u i l q)
+        by false q = agree e u i l q
+
+    then-disks : (x : List ℕ) → Disks z x → Fair z s [] x → Disks z (stepMove s work x .image)
+    then-disks x d f = ⊎-elim (λ (y : Fair z (stepMove s work x .stepped .state) [] (stepMove s work x .image)). y .disks) (λ (y : stepMove s work x ≡ finished s x). subst (λ (v : Move). Disks z (v .image)) (sym y) d) (step-tied z s [] work x plainly f .goes-on)
+
+    module _ (w' : World Sector) (h : Heard z w (m .stepped .answer) (m .image) w') where
+      then-reads : w' .cur ≡ curOf z (m .image)
+      then-reads =
+          let d = step-tied z s [] work img plainly fair in
+          let r = d .acts w (t .behind .reads) in
+          sym (ap (λ (v : World Sector). v .cur) (heard-is z F first p w w' (m .image) (d .reply) (m .stepped .answer) (d .answers) r h)) ∙ r
+
+      heard-told : (v : World Sector) × Heard z (t .w0) (m .stepped .answer) (m0 .image) v × Lags (t .away) w' v
+      heard-told =
+          lags-heard z (t .away) w (t .w0) (m .stepped .answer) (m .image) (m0 .image) w' (t .behind .lags) (λ e q. present e (touch-present s (geometry z) img (m .image) (m .stepped .answer) (legal img) e q))
+          (λ k a. cur-alike z (m .image) (m0 .image) (then-disks img (t .behind .disks) fair) (then-disks (t .img0) (t .tie .disks) fair0) k (λ u i l. then-alike (slot k) u i l a)) h
+
+      then-behind : Behind z (t .away) w' (m .image) (heard-told .0) (m0 .image)
+      then-behind =
+          let d = then-disks img (t .behind .disks) fair in
+          record {
+            inner = t .behind .inner;
+            lags = heard-told .2;
+            disks = d;
+            reads = then-reads;
+            alike = then-alike;
+            blank = λ e o q l. copy-alike z (m .image) img d (t .behind .disks) e o (t .behind .inner e q) l (absent-same img e o (t .behind .inner e q) (few-low z o l) (t .waits .1 e q)) ∙ t .behind .blank e o q l;
+          }
+
+      told-step : otherWork (s .now) (length img) (length work) ≡ false → (q : View Sector) × SawStep (s .kind) (m .stepped .answer) p q × Bound z F first q (heard-told .0) (m0 .image) (has (m .stepped .state) work)
+      told-step e =
+          let e0 : otherWork (s .now) (length (t .img0)) (length work) ≡ false = ap (λ (n : ℕ). otherWork (s .now) n (length work)) (sym lengths) ∙ e in
+          let goes : stepWith s (t .img0) work ≡ m0 = step-goes s (t .img0) work (fair0 .in-range) e0 in
+          let heard : Heard z (t .w0) (stepWith s (t .img0) work .stepped .answer) (stepWith s (t .img0) work .image) (heard-told .0) =
+          subst (λ (v : Move). Heard z (t .w0) (v .stepped .answer) (v .image) (heard-told .0)) (sym goes) (subst (λ (v : Stepped). Heard z (t .w0) (v .answer) (m0 .image) (heard-told .0)) (sym same) (heard-told .1)) in
+          let r = call-bound z F first (steps {w = t .w0} {w' = heard-told .0} {img = t .img0} {s = s} {work = work} heard) (λ a n. absurd (List·Memᴰ·not-nil n)) p (inl (t .tie)) in
+          subst (λ (v : Stepped). (q : View Sector) × SawStep (s .kind) (v .answer) p q × Bound z F first q (heard-told .0) (m0 .image) (has (v .state) work)) same
+          (subst (λ (v : Move). (q : View Sector) × SawStep (s .kind) (v .stepped .answer) p q × Bound z F first q (heard-told .0) (v .image) (has (v .stepped .state) work)) goes r)
+
+      stands-then : (q : View Sector) → Bound z F first q (heard-told .0) (m0 .image) (has (m .stepped .state) work) → StandsAt q (at w' (m .image) (has (m .stepped .state) work))
+      stands-then q b = ⊎-elim on over (kept-or-done s work img m (toDo z s work img) (step-does z work img s (fair-work z [] work s img plainly fair)))
+        where
+          on : (m .stepped .state .kind ≡ s .kind) × (m .stepped .state .absent ≡ s .absent) → StandsAt q (at w' (m .image) (has (m .stepped .state) work))
+          on k = go b
+            where
+              go : Bound z F first q (heard-told .0) (m0 .image) (has (m .stepped .state) work) → StandsAt q (at w' (m .image) (has (m .stepped .state) work))
+              go (inl y) = inr (record { away = t .away; w0 = heard-told .0; img0 = m0 .image; behind = then-behind; tie = y; waits = (k .0 ∙ t .waits .0, λ e r. ap (λ (a : ℕ). inMask a e) (k .1) ∙ t .waits .1 e r) })
+              go (inr (inl y)) = absurd (busy Writing (sym (k .0) ∙ y .writes .kind) refl)
+              go (inr (inr (inl y))) = absurd (busy Beginning (sym (k .0) ∙ y .kind) refl)
+              go (inr (inr (inr y))) = absurd (busy Filling (sym (k .0) ∙ y .refills .kind) refl)
+
+          over : m ≡ finished s img → StandsAt q (at w' (m .image) (has (m .stepped .state) work))
+          over k = go b
+            where
+              rests : m .stepped .state .kind ≡ Idle
+              rests = ap (λ (x : Move). x .stepped .state .kind) k
+
+              free : (e : ℕ) → slots z ≤ e → t .away e ≡ false
+              free e l = by (t .away e) refl
+                where
+                  by : (c : Bool) → t .away e ≡ c → c ≡ false
+                  by true r = absurd (omega (arith, l, t .behind .inner e r))
+                  by false r = refl
+
+              go : Bound z F first q (heard-told .0) (m0 .image) (has (m .stepped .state) work) → StandsAt q (at w' (m .image) (has (m .stepped .state) work))
+              go (inl y) =
+                  let a = all-told q w' (m .image) (m .stepped .state) rests (slots z) (t .away) (heard-told .0) (m0 .image) free (λ e r. ap (λ (x : Move). inMask (x .stepped .state .absent) e) k ∙ t .waits .1 e r) then-behind y in
+                  inl (a .0, a .1, inl (a .2))
+              go (inr y) = absurd (not-rest z F first q (heard-told .0) (m0 .image) (m .stepped .state) work y (ap isIdle rests))
+
+    late-step : (w' : World Sector) → Heard z w (stepWith s img work .stepped .answer) (stepWith s img work .image) w'
+        → (q : View Sector) × SawStep (s .kind) (stepWith s img work .stepped .answer) p q × StandsAt q (at w' (stepWith s img work .image) (has (stepWith s img work .stepped .state) work))
+    late-step w' h = by (otherWork (s .now) (length img) (length work)) refl
+      where
+        Goal : Move → Type 1
+        Goal v = (q : View Sector) × SawStep (s .kind) (v .stepped .answer) p q × StandsAt q (at w' (v .image) (has (v .stepped .state) work))
+
+        by : (b : Bool) → otherWork (s .now) (length img) (length work) ≡ b → Goal (stepWith s img work)
+        by true e =
+            subst (λ (v : Move). Heard z w (v .stepped .answer) (v .image) w' → Goal v) (sym (step-short s img work (fair0 .in-range) e))
+            (λ i. (p, subst (λ (k : Kind). SawStep k (answer.Refused BadBuffer) p p) (sym (t .waits .0)) refl, subst (λ (x : World Sector). StandsAt p (at x img (has s work))) (sym i) (inr t))) h
+        by false e =
+            subst (λ (v : Move). Heard z w (v .stepped .answer) (v .image) w' → Goal v) (sym (step-goes s img work (fair0 .in-range) e))
+            (λ i. let y = told-step w' i e in (y .0, y .1, stands-then w' i (y .0) (y .2))) h
+
+  -- ---- EVERY CALL: those that are neither start-ups, steps nor cuts are refused meanwhile, and change nothing
+
+  late-call : {a b : Time} (x : HostCalls z a b) → NotAnew x → Allowed z F (sets-call x) → (p : View Sector) → LateAt p a → (q : View Sector) × Saw x p q × StandsAt q b
+  late-call (creates {w} {img} {h} s work) e ok p t =
+      (p, refl, subst (λ (o : Outcome). StandsAt p (at w img (held h (begun o s (created (z .k) (z .m) (z .c) (z .sectors) (z .number))) work))) (sym (create-late (z .k) (z .m) (z .c) (z .sectors) img (length work) e)) (inr t))
+  late-call (creates-late {w} {img} {h} s k m c S number work e) u ok p t =
+      (p, refl, subst (λ (o : Outcome). StandsAt p (at w img (held h (begun o s (created k m c S number)) work))) (sym (create-late k m c S img (length work) e)) (inr t))
+  late-call (starts {w} {img} {h} s g absent work sits) u ok p t = (p, refl, late-start p w img h t s absent work g sits ok)
+  late-call (takes-out {w} {img} {s} {work} d) u ok p t = (p, refl, by (takeAnswer (s .now) (s .kind) (s .absent) img d (length work)) refl)
+    where
+      by : (o : Outcome) → takeAnswer (s .now) (s .kind) (s .absent) img d (length work) ≡ o → StandsAt p (at w img (held (has s work) (begun o s (tookOut s d)) work))
+      by Done e = absurd (late-busy p w img s work t (take-done (s .now) (s .kind) (s .absent) img d (length work) e .1 .at-rest))
+      by (Refused why) e = inr t
+  late-call (begins {w} {img} {s} {work} d) u ok p t = (p, refl, by (beginAnswer (s .now) (s .kind) (s .absent) img d (length work)) refl)
+    where
+      by : (o : Outcome) → beginAnswer (s .now) (s .kind) (s .absent) img d (length work) ≡ o → StandsAt p (at w img (held (has s work) (begun o s (began s d img)) work))
+      by Done e = absurd (late-busy p w img s work t (begin-goes (s .now) (s .kind) (s .absent) img d (length work) e .at-rest))
+      by (Refused why) e = inr t
+  late-call (ons {w} {img} {s} {work} b below) u ok p t = (p, refl, by (onAnswer (s .now) (s .kind) (s .absent) img (length work)) refl)
+    where
+      by : (o : Outcome) → onAnswer (s .now) (s .kind) (s .absent) img (length work) ≡ o → StandsAt p (at w img (held (has s work) (begun o s (wentOn s b img)) work))
+      by Done e = absurd (late-busy p w img s work t (on-rests (s .now) (s .kind) (s .absent) img (length work) e))
+      by (Refused why) e = inr t
+  late-call (writes {w} {img} {s} {work} b given s' then x y e) u ok p t = by (writeAnswer (s .now) (s .kind) (s .absent) (s .count) img b (length given) (length work)) refl e
+    where
+      by : (o : Outcome) → writeAnswer (s .now) (s .kind) (s .absent) (s .count) img b (length given) (length work) ≡ o → AfterWrite o s b given img work s' then
+          → (q : View Sector) × SawAsked o (b / z .k) (b % z .k) (sectorsOf (z .c) given) p q × StandsAt q (at w img (has s' then))
+      by Done i a = absurd (late-busy p w img s work t (rest-of z F first p w img s work b given s' then x y i))
+      by (Refused why) i a = (p, refl, subst (λ (v : State). StandsAt p (at w img (has v then))) (sym (a .0)) (subst (λ (v : List ℕ). StandsAt p (at w img (has s v))) (sym (a .1)) (inr t)))
+  late-call (repairs {w} {img} {s} {work} i b then r) u ok p t = (p, refl, by (mayRepair (s .now) (s .kind) (s .absent) (s .count) i img) refl)
+    where
+      by : (o : Outcome) → mayRepair (s .now) (s .kind) (s .absent) (s .count) i img ≡ o → StandsAt p (at w img (has (b .state) then))
+      by Done e = absurd (late-busy p w img s work t (may-whole s img i e .at-rest))
+      by (Refused why) e =
+          let y = repair-refused s i img work b then r why (asked-refused s i img work b then r why e) in
+          subst (λ (v : State). StandsAt p (at w img (has v then))) (sym (y .0)) (subst (λ (v : List ℕ). StandsAt p (at w img (has s v))) (sym (y .1)) (inr t))
+  late-call (steps {w} {w'} {img} {s} {work} heard) u ok p t = late-step p w img s work t w' heard
+  late-call (cut {w} {img} {h} left d x) u ok p t = (p, refl, inr (late-cut p w img h t left d x))
+  late-call (dies {w} {img} {h}) u ok p t = (p, refl, inr (record { away = t .away; w0 = t .w0; img0 = t .img0; behind = t .behind; tie = loose-tie z F first p (t .w0) (t .img0) (handOf z h) (t .tie); waits = tt }))
+  late-call (swaps {w} {img} {s} {work} d left x) u ok p t = absurd (late-busy p w img s work t (ap isIdle (x .at-rest)))
+
+  -- another disk while no state is held: one slot more is behind
+  late-replaced : (p : View Sector) (w : World Sector) (img : List ℕ) (d : ℕ) (left : List ℕ) → Blanked z d img left → (A : ℕ → Bool) (w0 : World Sector) (img0 : List ℕ) → Behind z A w img w0 img0 → Tie z F first p w0 img0 chain.none
+      → Late p (newDisk z w d left) left none
+  late-replaced p w img d left x A w0 img0 b t = record { away = more; w0 = w0; img0 = img0; behind = behind; tie = t; waits = tt }
+    where
+      more : ℕ → Bool
+      more e = eqb e d || A e
+
+      not-d : (e : ℕ) → more e ≡ false → (e ≢ d) × (A e ≡ false)
+      not-d e q = by (eqb e d) refl q
+        where
+          by : (c : Bool) → eqb e d ≡ c → (c || A e) ≡ false → (e ≢ d) × (A e ≡ false)
+          by true u r = absurd (true≢false r)
+          by false u r = (eqb-false e d u, r)
+
+      in-more : (e : ℕ) → more e ≡ true → (e ≡ d) ⊎ ((e ≢ d) × (A e ≡ true))
+      in-more e q = by (eqb e d) refl q
+        where
+          by : (c : Bool) → eqb e d ≡ c → (c || A e) ≡ true → (e ≡ d) ⊎ ((e ≢ d) × (A e ≡ true))
+          by true u r = inl (eqb-true e d u)
+          by false u r = inr (eqb-false e d u, r)
+
+      stays : (k : Place) → slot k ≢ d → curOf z left k ≡ curOf z img k
+      stays k n = cur-alike z left img (x .disks) (b .disks) k (λ u i l. x .others (slot k) u i l n)
+
+      reads : newDisk z w d left .cur ≡ curOf z left
+      reads = fun-ext (λ k. by k (eqb (slot k) d) refl)
+        where
+          by : (k : Place) (c : Bool) → eqb (slot k) d ≡ c → cond c (curOf z left k) (w .cur k) ≡ curOf z left k
+          by k true e = refl
+          by k false e = ap (λ (f : Image Sector). f k) (b .reads) ∙ sym (stays k (eqb-false (slot k) d e))
+
+      other-cur : (k : Place) → slot k ≢ d → newDisk z w d left .cur k ≡ w .cur k
+      other-cur k n = ap (λ (c : Bool). cond c (curOf z left k) (w .cur k)) (ne-eqb (slot k) d n)
+
+      behind : Behind z more (newDisk z w d left) left w0 img0
+      behind =
+          record {
+            inner = λ e q. ⊎-elim (λ (y : e ≡ d). subst (λ (v : ℕ). v < slots z) (sym y) (x .there)) (λ (y : (e ≢ d) × (A e ≡ true)). b .inner e (y .1)) (in-more e q);
+            lags = record {
+              reads = λ k q. let y = not-d (slot k) q in other-cur k (y .0) ∙ b .lags .reads k (y .1);
+              fewer = λ k v q m. let y = not-d (slot k) q in b .lags .fewer k v (y .1) (m .1 (y .0));
+              certain = λ k v q m.
+                  ⊎-elim (λ (y : slot k ≡ d). m .0 y ∙ sym (ap (λ (c : Bool). cond c (curOf z left k) (w .cur k)) (eq-eqb (slot k) d y)))
+                  (λ (y : (slot k ≢ d) × (A (slot k) ≡ true)). b .lags .certain k v (y .1) (m .1 (y .0)) ∙ sym (other-cur k (y .0))) (in-more (slot k) q);
+            };
+            disks = x .disks;
+            reads = reads;
+            alike = λ e u i l q. let y = not-d e q in x .others e u i l (y .0) ∙ b .alike e u i l (y .1);
+            blank = λ e o q l.
+                ⊎-elim (λ (y : e ≡ d). subst (λ (v : ℕ). copyOf (geometry z) left v o ≡ Nothing) (sym y) (x .blank o (omega (arith, l))))
+                (λ (y : (e ≢ d) × (A e ≡ true)). copy-alike z left img (x .disks) (b .disks) e o (b .inner e (y .1)) l (x .others e o (b .inner e (y .1)) (few-low z o l) (y .0)) ∙ b .blank e o (y .1) l) (in-more e q);
+          }
+
+  -- A CALL, OR AN EXCHANGE, KEEPS WHAT IS TOLD, and the view goes on as it may
+  pub exchange-bound : {a b : Time} (x : Exchanges z a b) → Allowed z F (sets-exchange x) → (p : View Sector) → StandsAt p a → (q : View Sector) × SawExchange x p q × StandsAt q b
+  exchange-bound (calls x n) ok p (inl t) =
+      let y = retell z x (t .0) (t .1) in
+      let r = call-bound z F first (y .call) (subst (Allowed z F) (sym (y .same-sets)) ok) p (t .2) in
+      (r .0, y .saw p (r .0) (r .1), inl (y .world, y .lags, r .2))
+  exchange-bound (calls x n) ok p (inr t) = late-call x n ok p t
+  exchange-bound (replaced {w} {img} d left x) ok p (inl t) =
+      let tie : Tie z F first p (t .0) img chain.none = t .2 in (
+        p,
+        refl,
+        inr
+            (late-replaced p w img d left x nowhere (t .0) img
+            (record {
+              inner = λ e q. absurd (false≢true q);
+              lags = t .1;
+              disks = tie .disks;
+              reads = fun-ext (λ k. t .1 .reads k refl) ∙ tie .reads;
+              alike = λ e u i l q. refl;
+              blank = λ e o q l. absurd (false≢true q);
+            }) tie),
+      )
+  exchange-bound (replaced {w} {img} d left x) ok p (inr t) = (p, refl, inr (late-replaced p w img d left x (t .away) (t .w0) (t .img0) (t .behind) (t .tie)))
+
+  -- a read shows the view's entry
+  stands-reads : (t : Time) (p : View Sector) → StandsAt p t → ReadsAs z t p
+  stands-reads (at w img none) p t = tt
+  stands-reads (at w img (has s work)) p (inl t) = λ b buf ok. read-right z F first p (t .0) img s b work buf ok (t .2)
+  stands-reads (at w img (has s work)) p (inr t) = λ b buf ok. absurd (late-unread p w img s work t b buf ok)
+
+  all-served : {a b : Time} (c : ExchangeChain z a b) → Allowed z F (all-sets c) → (p : View Sector) → StandsAt p a → (q : View Sector) × AllServed c p q × StandsAt q b
+  all-served {a} stays ok p t = (p, (refl, stands-reads a p t), t)
+  all-served {b = b} (goes-on c x) ok p t =
+      let y = all-served c (λ s m. ok s (Memᴰ·append-right (sets-exchange x) m)) p t in
+      let r = exchange-bound x (λ s m. ok s (Memᴰ·append-left (all-sets c) m)) (y .0) (y .2) in
+      (r .0, (y .0, y .1, r .1, stands-reads b (r .0) (r .2)), r .2)
+
+-- ---- FROM ZEROS ON: any chain of calls, and then any chain in which disks are exchanged while no program runs too
+
+-- the same world
+lags-self : (t : Time) → (w0 : World Sector) × LagsAt t w0 × (told t w0 ≡ t)
+lags-self (at w img h) = (w, record { reads = λ k q. refl; fewer = λ k v q m. m; certain = λ k v q m. absurd (false≢true q) }, refl)
+
+module _ (z : Shelf) (img : List ℕ) (disks : Disks z img) (blank : allZero img ≡ true) where
+  exchanged-in : (F : Family z) {a b : Time} (c : HostChain z (at (after (curOf z img)) img none) a) (r : ExchangeChain z a b) → Allowed z F (sets c) → Allowed z F (all-sets r)
+      → (p : View Sector) × (q : View Sector) × Served c (sure blocks) p × AllServed r p q
+  exchanged-in F {a} c r before then =
+      let y = served-bound z img disks blank F c before in
+      let s = lags-self a in
+      let e = all-served z F (fresh z img disks blank) r then (y .0) (inl (s .0, s .1, subst (λ (t : Time). BoundAt z F (fresh z img disks blank) (y .0) t) (sym (s .2)) (y .2))) in
+      (y .0, e .0, y .1, e .1)
+
+  -- FOR EVERY SHELF, where any two of the sets that are left out leave a slot out in common
+  pub any-exchanged-reads-right : {a b : Time} (c : HostChain z (at (after (curOf z img)) img none) a) (r : ExchangeChain z a b) → AnyTwo (slots z) (all-sets r ++ sets c)
+      → (p : View Sector) × (q : View Sector) × Served c (sure blocks) p × AllServed r p q
+  any-exchanged-reads-right c r two =
+      let l = all-sets r ++ sets c in
+      exchanged-in (parts-few z l two) c r (λ s m. in-parts z l two s (Memᴰ·append-right (all-sets r) m)) (λ s m. in-parts z l two s (Memᴰ·append-left (sets c) m))
+
+  -- FOR k > m
+  pub exchanged-reads-right : z .m < z .k → {a b : Time} (c : HostChain z (at (after (curOf z img)) img none) a) (r : ExchangeChain z a b) → (p : View Sector) × (q : View Sector) × Served c (sure blocks) p × AllServed r p q
+  exchanged-reads-right more c r = exchanged-in (every-few z more) c r (λ s m e. e) (λ s m e. e)
