@@ -36,6 +36,7 @@ pub mod Refills
 pub mod Holds
 pub mod Merged
 pub mod Swaps
+pub mod Lags
 pub mod Promise
 pub mod Blind
 pub mod Strips

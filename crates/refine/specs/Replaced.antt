@@ -12,29 +12,26 @@ use lib.Dec.{eqb}
 use lib.ListN.{length}
 use borrow.Author.Tests.{eq-eqb, ne-eqb, eqb-true, eqb-false}
 use Rattle.disk.specs.Mask.{inMask}
-use Rattle.disk.specs.Image.{sector, Shape, readOf, sector-put-other}
+use Rattle.disk.specs.Image.{sector, Shape, readOf}
 use Rattle.disk.specs.declared.geometry.Geometry.{Geometry}
 use Rattle.disk.specs.declared.refusal.Refusal.{Refusal}
-use Rattle.disk.specs.declared.refusal.Refusal.the-variants.{BadImage, NoLabel, BadBuffer}
+use Rattle.disk.specs.declared.refusal.Refusal.the-variants.{NoLabel, BadBuffer}
 use Rattle.disk.specs.declared.refusal.Outcome.{Outcome}
 use Rattle.disk.specs.declared.refusal.Outcome.the-variants.{Done, Refused}
-use Rattle.label.specs.Valid.{decodeOf}
 use Rattle.label.specs.Bytes.{allZero}
 use Rattle.label.specs.Fields.{geometryOf}
-use Rattle.label.specs.Newest.{newer, newestOf, copyOf, diskLabel, shelfLabel, agreed}
+use Rattle.label.specs.Newest.{copyOf}
 use Rattle.label.specs.declared.fields.Label as bytes
-use Rattle.label.specs.declared.codec.Decoded.{Decoded}
 use Rattle.label.specs.declared.codec.Decoded.the-variants.{Valid, Nothing}
-use Rattle.label.proofs.Counts.{all-not, agreed-says}
-use Rattle.rounds.specs.Survey.{fitsShelf, labelled, table, unless, surveyOf}
+use Rattle.rounds.specs.Survey.{surveyOf}
 use Rattle.rounds.specs.declared.plan.Survey.{Survey}
 use Rattle.rounds.specs.declared.plan.Survey.the-variants as survey
-use Rattle.protocol.specs.World.{Place, label, slot, Image, update, update-other, World, Action, put, flush, act, after, Possible, Sane}
+use Rattle.protocol.specs.World.{Place, label, slot, Image, World, Action, put, flush, after, Possible, Sane}
 use Rattle.protocol.specs.Machine.{Machine, View, sure}
 use Rattle.protocol.specs.Pairs.{AnyTwo}
 use Rattle.codecs.specs.Sector.{Sector}
-use Rattle.codecs.specs.Shelf.{Shelf, slots, geometry, limits}
-use Rattle.codecs.specs.Labels.{sectorOf, ours}
+use Rattle.codecs.specs.Shelf.{Shelf, slots, geometry}
+use Rattle.codecs.specs.Labels.{ours}
 use Rattle.shelf.specs.Act.{Move}
 use Rattle.shelf.specs.Step.{stepMove, finished}
 use Rattle.shelf.specs.Laws.{Legal, Agree, step-one, step-blind, step-agrees}
@@ -43,7 +40,6 @@ use Rattle.shelf.specs.declared.state.Stepped.{Stepped}
 use Rattle.shelf.specs.declared.state.Kind.{Kind}
 use Rattle.shelf.specs.declared.state.Kind.the-variants.{Idle, Creating, Starting, Labelling, Writing, Beginning, Filling}
 use Rattle.shelf.specs.declared.state.Kind.the-variants as kind
-use Rattle.shelf.specs.declared.state.Answer.{Answer}
 use Rattle.shelf.specs.declared.state.Answer.the-variants as answer
 use Rattle.requests.specs.Begun.{workBytes, begun, accepted, refused}
 use Rattle.requests.specs.Create.{created}
@@ -62,22 +58,20 @@ use Rattle.blocks.specs.Write.{writeAnswer, AfterWrite}
 use Rattle.scrubs.specs.Repair.{mayRepair, repair-refused}
 use Rattle.refine.specs.Family.{Family, every-few, parts-few, in-parts}
 use Rattle.refine.specs.Given.{shelf-geometry}
-use Rattle.refine.specs.Places.{label-inside}
-use Rattle.refine.specs.Places as places
-use Rattle.refine.specs.Disks.{Disks, curOf, image-fits, cur-read}
+use Rattle.refine.specs.Disks.{Disks, curOf}
 use Rattle.refine.specs.Steps.{Fair, Does, step-does}
 use Rattle.refine.specs.ToDo.{toDo}
 use Rattle.refine.specs.Tied.{plain, fair-work, step-tied}
 use Rattle.refine.specs.BeginBegins.{begin-goes}
 use Rattle.refine.specs.OnBegins.{on-rests}
 use Rattle.refine.specs.Mends.{may-whole, asked-refused}
-use Rattle.refine.specs.Other.{Sits, unless-false, same-numbers, start-other, create-late}
+use Rattle.refine.specs.Other.{Sits, same-numbers, start-other, create-late}
 use Rattle.refine.specs.Named.{side}
 use Rattle.refine.specs.Blind.{start-blind}
 use Rattle.refine.specs.Merged.{slotFrom, disk-of, disk-here, disk-other, slotsFrom, slots-disks, slots-other, slots-here, cur-alike, read-alike, copy-alike, same-image}
 use Rattle.refine.specs.Chain.{Heard, outs, handed, Allowed, Tie, off, start-any, cut-kept, heard-is, ours-in, blocks, fresh}
 use Rattle.refine.specs.Chain as chain
-use Rattle.refine.specs.Holds.{Touches}
+use Rattle.refine.specs.Lags.{Lags, lags-heard, nowhere, Behind, not-valid, unlabelled, label-alike, few-low, covers, touch-present, absent-kept}
 use Rattle.refine.specs.Swaps.{Exchanged, newDisk, swap-kept}
 use Rattle.refine.specs.Hosts.{Held, none, has, Time, at, held, HostCalls, creates, starts, creates-late, takes-out, begins, ons, writes, repairs, steps, cut, dies, swaps, HostChain, sets-call, sets, SawStep, SawAsked, Saw, Bound, BoundAt, loose-tie, not-rest, rest-of, call-bound}
 use Rattle.refine.specs.Sees.{sectorsOf}
@@ -135,49 +129,6 @@ abbrev pub AllServed : {z : Shelf} {a b : Time} → ExchangeChain z a b → View
 AllServed {z} {a} stays p q = (q ≡ p) × ReadsAs z a q
 AllServed {z} {b = b} (goes-on c x) p q = (r : View Sector) × AllServed c p r × SawExchange x r q × ReadsAs z b q
 
--- ---- A WORLD AND THE ONE THAT IS TOLD: beside the slots of A the one reads as the other, and holds after a cut only what the other may; nothing is cached in the slots of A
-
-pub record Lags (A : ℕ → Bool) (w w0 : World Sector) : Type 0 where
-  pub reads : (k : Place) → A (slot k) ≡ false → w .cur k ≡ w0 .cur k
-  pub fewer : (k : Place) (x : Sector) → A (slot k) ≡ false → w .may k x → w0 .may k x
-  pub certain : (k : Place) (x : Sector) → A (slot k) ≡ true → w .may k x → x ≡ w .cur k
-
-lags-put : (A : ℕ → Bool) (w w0 : World Sector) (k : Place) (v : Sector) → A (slot k) ≡ false → Lags A w w0 → Lags A (act w (put k v)) (act w0 (put k v))
-unfolding update
-lags-put A w w0 k v n h =
-    record {
-      reads = λ l a. ap (λ (y : Sector). update (λ (m : Place). y) k v l) (h .reads l a);
-      fewer = λ l x a m. ⊎-elim (λ (y : w .may l x). inl (h .fewer l x a y)) (λ (y : (l ≡ k) × (x ≡ v)). inr y) m;
-      certain = λ l x a m.
-          ⊎-elim (λ (y : w .may l x). h .certain l x a y ∙ sym (update-other (w .cur) k v l (λ q. true≢false (sym a ∙ (ap (λ (e : Place). A (slot e)) q ∙ n)))))
-          (λ (y : (l ≡ k) × (x ≡ v)). absurd (true≢false (sym a ∙ (ap (λ (e : Place). A (slot e)) (y .0) ∙ n)))) m;
-    }
-
-lags-flush : (A : ℕ → Bool) (w w0 : World Sector) (d : ℕ) → Lags A w w0 → Lags A (act w (flush d)) (act w0 (flush d))
-lags-flush A w w0 d h =
-    record {
-      reads = h .reads;
-      fewer = λ l x a m. (h .fewer l x a (m .0), λ q. m .1 q ∙ h .reads l a);
-      certain = λ l x a m. h .certain l x a (m .0);
-    }
-
--- what the caller does with the disks is told too
-lags-heard : (z : Shelf) (A : ℕ → Bool) (w w0 : World Sector) (a : Answer) (img img0 : List ℕ) (w' : World Sector) → Lags A w w0 → ((e : ℕ) → Touches a e → A e ≡ false)
-    → ((k : Place) → A (slot k) ≡ false → curOf z img k ≡ curOf z img0 k) → Heard z w a img w' → (w0' : World Sector) × Heard z w0 a img0 w0' × Lags A w' w0'
-lags-heard z A w w0 (answer.Put d to) img img0 w' h t same (k, i, s, o, e) =
-    let n : A (slot k) ≡ false = ap A s ∙ t d refl in (
-      act w0 (put k (curOf z img0 k)),
-      (k, i, s, o, refl),
-      subst (λ (x : World Sector). Lags A x (act w0 (put k (curOf z img0 k)))) (sym e) (subst (λ (v : Sector). Lags A (act w (put k v)) (act w0 (put k (curOf z img0 k)))) (sym (same k n)) (lags-put A w w0 k (curOf z img0 k) n h)),
-    )
-lags-heard z A w w0 (answer.Flush d) img img0 w' h t same e = (act w0 (flush d), refl, subst (λ (x : World Sector). Lags A x (act w0 (flush d))) (sym e) (lags-flush A w w0 d h))
-lags-heard z A w w0 answer.Done img img0 w' h t same e = (w0, refl, subst (λ (x : World Sector). Lags A x w0) (sym e) h)
-lags-heard z A w w0 (answer.Refused why) img img0 w' h t same e = (w0, refl, subst (λ (x : World Sector). Lags A x w0) (sym e) h)
-
--- no slot
-abbrev pub nowhere : ℕ → Bool
-nowhere d = false
-
 -- ---- THE SAME CALL, TOLD IN A WORLD THAT MAY HOLD MORE
 
 abbrev told : Time → World Sector → Time
@@ -224,16 +175,6 @@ module _ (z : Shelf) where
         saw = λ p q y. y;
       }
 
-  -- ---- BEHIND: since the program was last at rest the disks of the slots of A were exchanged, and the old ones are told
-
-  pub record Behind (A : ℕ → Bool) (w : World Sector) (img : List ℕ) (w0 : World Sector) (img0 : List ℕ) : Type 0 where
-    pub inner : (e : ℕ) → A e ≡ true → e < slots z
-    pub lags : Lags A w w0
-    pub disks : Disks z img
-    pub reads : w .cur ≡ curOf z img
-    pub alike : (e u : ℕ) → e < slots z → u < z .sectors → A e ≡ false → sector (z .sectors) img e u ≡ sector (z .sectors) img0 e u
-    pub blank : (e o : ℕ) → A e ≡ true → o < 2 → copyOf (geometry z) img e o ≡ Nothing
-
   -- a start-up waits for the slots of A, which it was told are absent
   abbrev Waits : (ℕ → Bool) → Held → Type 0
   Waits A none = Unit {0}
@@ -242,56 +183,6 @@ module _ (z : Shelf) where
   abbrev handOf : Held → chain.Hand
   handOf none = chain.none
   handOf (has s work) = chain.has s
-
-  -- a start-up that does not call such a slot absent is refused: the slot has no label
-  not-valid : (a : bytes.Label) → _≡_ {A = Decoded} Nothing (Valid a) → ⊥
-  not-valid a e = let i : _≡_ {A = ℕ} 0 1 = cc in absurd (omega arith)
-
-  unlabelled : (img : List ℕ) → Disks z img → (absent e : ℕ) → e < slots z → inMask absent e ≡ false → ((o : ℕ) → o < 2 → copyOf (geometry z) img e o ≡ Nothing) → surveyOf (geometry z) img absent ≡ survey.Refused NoLabel
-  unfolding surveyOf diskLabel newestOf
-  unlabelled img disks absent e i p blank =
-      ap (λ (b : Bool). unless b BadImage (table (geometry z) img absent (shelfLabel (geometry z) img absent))) (image-fits z img disks)
-      ∙ unless-false (labelled (geometry z) img absent (shelfLabel (geometry z) img absent)) NoLabel _ (no (shelfLabel (geometry z) img absent))
-    where
-      bare : diskLabel (geometry z) img e ≡ Nothing
-      bare = λ j. newer (newer Nothing (blank 0 (omega arith) j)) (blank 1 (omega arith) j)
-
-      no : (x : Decoded) → labelled (geometry z) img absent x ≡ false
-      no Nothing = all-not (inMask absent) (slots z) e i p
-      no (Valid lead) = by (agreed (geometry z) img absent lead) refl
-        where
-          by : (b : Bool) → agreed (geometry z) img absent lead ≡ b → (agreed (geometry z) img absent lead && fitsShelf (geometry z) lead) ≡ false
-          by true q = let y = agreed-says (geometry z) img absent lead q e i p in absurd (not-valid (y .label) (sym bare ∙ y .is))
-          by false q = ap (λ (b : Bool). b && fitsShelf (geometry z) lead) q
-
-  label-alike : (x y : List ℕ) → Disks z x → Disks z y → (e : ℕ) (b : Bool) → e < slots z → curOf z x (label e b) ≡ curOf z y (label e b) → copyOf (geometry z) x e (sectorOf b) ≡ copyOf (geometry z) y e (sectorOf b)
-  unfolding copyOf places.sectorOf places.copySector
-  label-alike x y dx dy e b i q =
-      ap (λ (v : List ℕ). decodeOf v e (sectorOf b)) (sym (cur-read z x dx (label e b) (label-inside z e b i)) ∙ ap (λ (v : Sector). v .bytes) q ∙ cur-read z y dy (label e b) (label-inside z e b i))
-
-  few-low : (o : ℕ) → o < 2 → o < z .sectors
-  few-low o l = omega (arith, limits z .0 .room)
-
-  -- does it call them all absent?
-  covers : (A : ℕ → Bool) (absent i : ℕ) → ((e : ℕ) → e < i → A e ≡ true → inMask absent e ≡ true) ⊎ ((e : ℕ) × (e < i) × (A e ≡ true) × (inMask absent e ≡ false))
-  covers A absent zero = inl (λ e l a. absurd (omega arith))
-  covers A absent (suc i) = by (covers A absent i) (A i) refl (inMask absent i) refl
-    where
-      Some : ℕ → Type 0
-      Some n = ((e : ℕ) → e < n → A e ≡ true → inMask absent e ≡ true) ⊎ ((e : ℕ) × (e < n) × (A e ≡ true) × (inMask absent e ≡ false))
-
-      last : ((e : ℕ) → e < i → A e ≡ true → inMask absent e ≡ true) → (A i ≡ true → inMask absent i ≡ true) → (e : ℕ) → e < suc i → A e ≡ true → inMask absent e ≡ true
-      last all h e l a = go (ℕ-discrete e i)
-        where
-          go : Dec (e ≡ i) → inMask absent e ≡ true
-          go (yes q) = subst (λ (n : ℕ). inMask absent n ≡ true) (sym q) (h (subst (λ (n : ℕ). A n ≡ true) q a))
-          go (no q) = all e (omega (arith, q)) a
-
-      by : Some i → (a : Bool) → A i ≡ a → (b : Bool) → inMask absent i ≡ b → Some (suc i)
-      by (inr y) a p b q = inr (y .0, omega (arith, y .1), y .2, y .3)
-      by (inl all) true p true q = inl (last all (λ u. q))
-      by (inl all) true p false q = inr (i, omega arith, p, q)
-      by (inl all) false p b q = inl (last all (λ u. absurd (true≢false (sym u ∙ p))))
 
 -- a start-up, and no other request
 abbrev starting : Kind → Bool
@@ -303,21 +194,6 @@ starting Labelling = false
 starting Writing = false
 starting Beginning = false
 starting Filling = false
-
--- what a step changes: nothing of an absent slot
-touch-present : (s : State) (g : Geometry) (img next : List ℕ) (a : Answer) → Legal a (s .absent) g img next → (e : ℕ) → Touches a e → inMask (s .absent) e ≡ false
-touch-present s g img next (answer.Put d to) h e q = subst (λ (x : ℕ). inMask (s .absent) x ≡ false) q (h .present)
-touch-present s g img next (answer.Flush d) h e q = subst (λ (x : ℕ). inMask (s .absent) x ≡ false) q (h .present)
-touch-present s g img next answer.Done h e q = absurd q
-touch-present s g img next (answer.Refused why) h e q = absurd q
-
-absent-kept : (s : State) (g : Geometry) (img next : List ℕ) (a : Answer) → Legal a (s .absent) g img next → (e u : ℕ) → e < g .n → u < g .sectors → inMask (s .absent) e ≡ true → sector (g .sectors) next e u ≡ sector (g .sectors) img e u
-absent-kept s g img next (answer.Put d to) h e u i l q =
-    ap (λ (x : List ℕ). sector (g .sectors) x e u) (h .image)
-    ∙ sector-put-other (g .n) (g .sectors) img (h .bytes) (h .shape) (h .whole) d to (h .slot) (h .low) e u i l (λ y. true≢false (sym q ∙ (ap (inMask (s .absent)) (y .0) ∙ h .present)))
-absent-kept s g img next (answer.Flush d) h e u i l q = ap (λ (x : List ℕ). sector (g .sectors) x e u) (h .image)
-absent-kept s g img next answer.Done h e u i l q = ap (λ (x : List ℕ). sector (g .sectors) x e u) h
-absent-kept s g img next (answer.Refused why) h e u i l q = ap (λ (x : List ℕ). sector (g .sectors) x e u) h
 
 module _ (z : Shelf) (F : Family z) (first : Machine Sector) where
   pub record Late (p : View Sector) (w : World Sector) (img : List ℕ) (h : Held) : Type 1 where
@@ -339,27 +215,27 @@ module _ (z : Shelf) (F : Family z) (first : Machine Sector) where
 
   module _ (p : View Sector) (w : World Sector) (img : List ℕ) (s : State) (e : s .kind ≡ Idle) where
     module _ (A : ℕ → Bool) (w0 : World Sector) (img0 : List ℕ) (b : Behind z A w img w0 img0) (t : Tie z F first p w0 img0 (chain.has s)) (d : ℕ) (here : A d ≡ true) (gone : inMask (s .absent) d ≡ true) where
-      abbrev left : List ℕ
-      left = slotFrom z d img img0 (z .sectors)
+      abbrev onto : List ℕ
+      onto = slotFrom z d img img0 (z .sectors)
 
       there : d < slots z
       there = b .inner d here
 
-      left-disks : Disks z left
-      left-disks = disk-of z d there img img0 (b .disks) (t .disks)
+      onto-disks : Disks z onto
+      onto-disks = disk-of z d there img img0 (b .disks) (t .disks)
 
-      none-valid : (o : ℕ) (a : bytes.Label) → o < 2 → copyOf (geometry z) left d o ≡ Valid a → ⊥
+      none-valid : (o : ℕ) (a : bytes.Label) → o < 2 → copyOf (geometry z) onto d o ≡ Valid a → ⊥
       none-valid o a l q =
           not-valid z a
-          (sym (b .blank d o here l) ∙ sym (copy-alike z left img left-disks (b .disks) d o there l (disk-here z d there img img0 (b .disks) (t .disks) o (few-low z o l))) ∙ q)
+          (sym (b .blank d o here l) ∙ sym (copy-alike z onto img onto-disks (b .disks) d o there l (disk-here z d there img img0 (b .disks) (t .disks) o (few-low z o l))) ∙ q)
 
-      exchange : Exchanged z s d img0 left
+      exchange : Exchanged z s d img0 onto
       exchange =
           record {
             at-rest = e;
             there = there;
             absent = gone;
-            disks = left-disks;
+            disks = onto-disks;
             others = λ x u i l n. disk-other z d there img img0 (b .disks) (t .disks) x u i l n;
             older = λ o a l q. absurd (none-valid o a l q);
             shape = record { calm = λ x o a i l q. absurd (none-valid o a l q); follow = λ a c q r. absurd (none-valid 0 a (omega arith) q) };
@@ -383,19 +259,19 @@ module _ (z : Shelf) (F : Family z) (first : Machine Sector) where
           by true u false v r = (u, eqb-false x d v)
           by false u c v r = absurd (false≢true r)
 
-      told-sector : (x u : ℕ) → x < slots z → u < z .sectors → rest x ≡ false → sector (z .sectors) img x u ≡ sector (z .sectors) left x u
+      told-sector : (x u : ℕ) → x < slots z → u < z .sectors → rest x ≡ false → sector (z .sectors) img x u ≡ sector (z .sectors) onto x u
       told-sector x u i l q = by (ℕ-discrete x d)
         where
-          by : Dec (x ≡ d) → sector (z .sectors) img x u ≡ sector (z .sectors) left x u
-          by (yes y) = subst (λ (v : ℕ). sector (z .sectors) img v u ≡ sector (z .sectors) left v u) (sym y) (sym (disk-here z d there img img0 (b .disks) (t .disks) u l))
+          by : Dec (x ≡ d) → sector (z .sectors) img x u ≡ sector (z .sectors) onto x u
+          by (yes y) = subst (λ (v : ℕ). sector (z .sectors) img v u ≡ sector (z .sectors) onto v u) (sym y) (sym (disk-here z d there img img0 (b .disks) (t .disks) u l))
           by (no y) = b .alike x u i l (other x y q) ∙ sym (disk-other z d there img img0 (b .disks) (t .disks) x u i l y)
 
-      told-cur : (k : Place) → rest (slot k) ≡ false → curOf z img k ≡ curOf z left k
-      told-cur k q = cur-alike z img left (b .disks) left-disks k (λ u i l. told-sector (slot k) u i l q)
+      told-cur : (k : Place) → rest (slot k) ≡ false → curOf z img k ≡ curOf z onto k
+      told-cur k q = cur-alike z img onto (b .disks) onto-disks k (λ u i l. told-sector (slot k) u i l q)
 
-      one-told : Behind z rest w img (newDisk z w0 d left) left × Tie z F first p (newDisk z w0 d left) left (chain.has s)
+      one-told : Behind z rest w img (newDisk z w0 d onto) onto × Tie z F first p (newDisk z w0 d onto) onto (chain.has s)
       one-told =
-          let y = swap-kept z F first p w0 img0 s d left exchange t in (
+          let y = swap-kept z F first p w0 img0 s d onto exchange t in (
             record {
               inner = λ x q. b .inner x (still x q .0);
               lags = record {
@@ -449,49 +325,43 @@ module _ (z : Shelf) (F : Family z) (first : Machine Sector) where
   -- ---- A CUT: each old disk is told to hold what is read of it
 
   module _ (p : View Sector) (w : World Sector) (img : List ℕ) (h : Held) (t : Late p w img h) where
-    abbrev A : ℕ → Bool
-    A = t .away
-
-    abbrev B : Behind z (t .away) w img (t .w0) (t .img0)
-    B = t .behind
-
     late-cut : (left : List ℕ) → Disks z left → Possible w (curOf z left) → Late p (after (curOf z left)) left none
     unfolding Possible after Sane
-    late-cut left d possible = record { away = A; w0 = after (curOf z left0); img0 = left0; behind = behind; tie = cut-kept z F first p (t .w0) (t .img0) (handOf z h) left0 d0 there (t .tie); waits = tt }
+    late-cut left d possible = record { away = t .away; w0 = after (curOf z left0); img0 = left0; behind = behind; tie = cut-kept z F first p (t .w0) (t .img0) (handOf z h) left0 d0 there (t .tie); waits = tt }
       where
         left0 : List ℕ
-        left0 = slotsFrom z A (t .img0) left (slots z)
+        left0 = slotsFrom z (t .away) (t .img0) left (slots z)
 
         d0 : Disks z left0
-        d0 = slots-disks z A (t .img0) left (t .tie .disks) d (slots z) (omega arith)
+        d0 = slots-disks z (t .away) (t .img0) left (t .tie .disks) d (slots z) (omega arith)
 
-        out : (e u : ℕ) → e < slots z → u < z .sectors → A e ≡ false → sector (z .sectors) left e u ≡ sector (z .sectors) left0 e u
-        out e u i l a = sym (slots-other z A (t .img0) left (t .tie .disks) d (slots z) (omega arith) e u i l a)
+        out : (e u : ℕ) → e < slots z → u < z .sectors → t .away e ≡ false → sector (z .sectors) left e u ≡ sector (z .sectors) left0 e u
+        out e u i l a = sym (slots-other z (t .away) (t .img0) left (t .tie .disks) d (slots z) (omega arith) e u i l a)
 
-        cur-out : (k : Place) → A (slot k) ≡ false → curOf z left k ≡ curOf z left0 k
+        cur-out : (k : Place) → t .away (slot k) ≡ false → curOf z left k ≡ curOf z left0 k
         cur-out k a = cur-alike z left left0 d d0 k (λ u i l. out (slot k) u i l a)
 
-        cur-in : (k : Place) → A (slot k) ≡ true → curOf z left0 k ≡ t .w0 .cur k
-        cur-in k a = cur-alike z left0 (t .img0) d0 (t .tie .disks) k (λ u i l. slots-here z A (t .img0) left (t .tie .disks) d (slots z) (omega arith) (slot k) u i l a) ∙ sym (ap (λ (f : Image Sector). f k) (t .tie .reads))
+        cur-in : (k : Place) → t .away (slot k) ≡ true → curOf z left0 k ≡ t .w0 .cur k
+        cur-in k a = cur-alike z left0 (t .img0) d0 (t .tie .disks) k (λ u i l. slots-here z (t .away) (t .img0) left (t .tie .disks) d (slots z) (omega arith) (slot k) u i l a) ∙ sym (ap (λ (f : Image Sector). f k) (t .tie .reads))
 
         there : Possible (t .w0) (curOf z left0)
-        there k = by (A (slot k)) refl
+        there k = by (t .away (slot k)) refl
           where
-            by : (b : Bool) → A (slot k) ≡ b → t .w0 .may k (curOf z left0 k)
+            by : (b : Bool) → t .away (slot k) ≡ b → t .w0 .may k (curOf z left0 k)
             by true a = subst (t .w0 .may k) (sym (cur-in k a)) (off z F first p (t .tie .reached) .keeps .sane k)
-            by false a = subst (t .w0 .may k) (cur-out k a) (B .lags .fewer k (curOf z left k) a (possible k))
+            by false a = subst (t .w0 .may k) (cur-out k a) (t .behind .lags .fewer k (curOf z left k) a (possible k))
 
-        bare : (e o : ℕ) → A e ≡ true → o < 2 → copyOf (geometry z) left e o ≡ Nothing
+        bare : (e o : ℕ) → t .away e ≡ true → o < 2 → copyOf (geometry z) left e o ≡ Nothing
         bare e o a l =
             let b = side o l in
             let k : Place = label e (b .0) in
-            let same : curOf z left k ≡ curOf z img k = B .lags .certain k (curOf z left k) a (possible k) ∙ ap (λ (f : Image Sector). f k) (B .reads) in
-            subst (λ (x : ℕ). copyOf (geometry z) left e x ≡ Nothing) (b .1) (label-alike z left img d (B .disks) e (b .0) (B .inner e a) same ∙ ap (copyOf (geometry z) img e) (b .1) ∙ B .blank e o a l)
+            let same : curOf z left k ≡ curOf z img k = t .behind .lags .certain k (curOf z left k) a (possible k) ∙ ap (λ (f : Image Sector). f k) (t .behind .reads) in
+            subst (λ (x : ℕ). copyOf (geometry z) left e x ≡ Nothing) (b .1) (label-alike z left img d (t .behind .disks) e (b .0) (t .behind .inner e a) same ∙ ap (copyOf (geometry z) img e) (b .1) ∙ t .behind .blank e o a l)
 
-        behind : Behind z A (after (curOf z left)) left (after (curOf z left0)) left0
+        behind : Behind z (t .away) (after (curOf z left)) left (after (curOf z left0)) left0
         behind =
             record {
-              inner = B .inner;
+              inner = t .behind .inner;
               lags = record { reads = cur-out; fewer = λ k v a m. m ∙ cur-out k a; certain = λ k v a m. m };
               disks = d;
               reads = refl;
@@ -502,11 +372,11 @@ module _ (z : Shelf) (F : Family z) (first : Machine Sector) where
     -- ---- A START-UP
 
     late-own : (d o : ℕ) (a : bytes.Label) → d < slots z → o < 2 → copyOf (geometry z) img d o ≡ Valid a → ours z a ≡ true
-    late-own d o a i l e = by (A d) refl
+    late-own d o a i l e = by (t .away d) refl
       where
-        by : (b : Bool) → A d ≡ b → ours z a ≡ true
-        by true q = absurd (not-valid z a (sym (B .blank d o q l) ∙ e))
-        by false q = ours-in z F first p (t .w0) (t .img0) (handOf z h) (t .tie) d o a i l (sym (copy-alike z img (t .img0) (B .disks) (t .tie .disks) d o i l (B .alike d o i (few-low z o l) q)) ∙ e)
+        by : (b : Bool) → t .away d ≡ b → ours z a ≡ true
+        by true q = absurd (not-valid z a (sym (t .behind .blank d o q l) ∙ e))
+        by false q = ours-in z F first p (t .w0) (t .img0) (handOf z h) (t .tie) d o a i l (sym (copy-alike z img (t .img0) (t .behind .disks) (t .tie .disks) d o i l (t .behind .alike d o i (few-low z o l) q)) ∙ e)
 
     module _ (s : State) (absent : ℕ) (work : List ℕ) where
       abbrev After : Begun → Type 1
@@ -515,26 +385,26 @@ module _ (z : Shelf) (F : Family z) (first : Machine Sector) where
       refused-start : (why : Refusal) → surveyOf (geometry z) img absent ≡ survey.Refused why → After (startOf s (geometry z) absent img (length work))
       refused-start why e = subst (λ (x : Survey). After (bySurvey x s (geometry z) absent img (length work))) (sym e) (inr t)
 
-      blind-start : ((e : ℕ) → e < slots z → A e ≡ true → inMask absent e ≡ true) → (g : Geometry) → g ≡ geometry z → startOf s g absent img (length work) ≡ startOf s g absent (t .img0) (length work)
+      blind-start : ((e : ℕ) → e < slots z → t .away e ≡ true → inMask absent e ≡ true) → (g : Geometry) → g ≡ geometry z → startOf s g absent img (length work) ≡ startOf s g absent (t .img0) (length work)
       unfolding Shape
       blind-start all g e =
           start-blind s g absent (length work) img (t .img0)
           (record {
-            lengths = B .disks .shape ∙ sym (t .tie .disks .shape);
+            lengths = t .behind .disks .shape ∙ sym (t .tie .disks .shape);
             sectors = λ d u i l n.
                 let j : d < slots z = subst (λ (x : Geometry). d < x .n) e i in
                 let m : u < z .sectors = subst (λ (x : Geometry). u < x .sectors) e l in
-                subst (λ (x : Geometry). readOf x img d u ≡ readOf x (t .img0) d u) (sym e) (read-alike z img (t .img0) (B .disks) (t .tie .disks) d u j m (B .alike d u j m (present d j n)));
+                subst (λ (x : Geometry). readOf x img d u ≡ readOf x (t .img0) d u) (sym e) (read-alike z img (t .img0) (t .behind .disks) (t .tie .disks) d u j m (t .behind .alike d u j m (present d j n)));
           })
         where
-          present : (d : ℕ) → d < slots z → inMask absent d ≡ false → A d ≡ false
-          present d i n = by (A d) refl
+          present : (d : ℕ) → d < slots z → inMask absent d ≡ false → t .away d ≡ false
+          present d i n = by (t .away d) refl
             where
-              by : (b : Bool) → A d ≡ b → b ≡ false
+              by : (b : Bool) → t .away d ≡ b → b ≡ false
               by true q = absurd (true≢false (sym (all d i q) ∙ n))
               by false q = refl
 
-      told-start : ((e : ℕ) → A e ≡ true → inMask absent e ≡ true) → Tie z F first p (t .w0) (t .img0) (handed (handOf z h) (startOf s (geometry z) absent (t .img0) (length work))) → After (startOf s (geometry z) absent (t .img0) (length work))
+      told-start : ((e : ℕ) → t .away e ≡ true → inMask absent e ≡ true) → Tie z F first p (t .w0) (t .img0) (handed (handOf z h) (startOf s (geometry z) absent (t .img0) (length work))) → After (startOf s (geometry z) absent (t .img0) (length work))
       told-start all = by (surveyOf (geometry z) (t .img0) absent)
         where
           by : (x : Survey) → Tie z F first p (t .w0) (t .img0) (handed (handOf z h) (bySurvey x s (geometry z) absent (t .img0) (length work))) → After (bySurvey x s (geometry z) absent (t .img0) (length work))
@@ -543,28 +413,28 @@ module _ (z : Shelf) (F : Family z) (first : Machine Sector) where
             where
               go : (b : Bool) → Tie z F first p (t .w0) (t .img0) (handed (handOf z h) (cond b (accepted (started (geometry z) absent plan (t .img0))) (refused s BadBuffer)))
                   → After (cond b (accepted (started (geometry z) absent plan (t .img0))) (refused s BadBuffer))
-              go true y = inr (record { away = A; w0 = t .w0; img0 = t .img0; behind = B; tie = y; waits = (refl, all) })
+              go true y = inr (record { away = t .away; w0 = t .w0; img0 = t .img0; behind = t .behind; tie = y; waits = (refl, all) })
               go false y = inr t
 
       late-start : (g : Geometry) → Sits z g absent → Allowed z F (outs (startOf s g absent img (length work))) → After (startOf s g absent img (length work))
       late-start g sits ok = ⊎-elim same other (same-numbers z g)
         where
           other : (g ≡ geometry z → ⊥) → After (startOf s g absent img (length work))
-          other n = subst (λ (x : Survey). After (bySurvey x s g absent img (length work))) (sym (start-other z img (B .disks) late-own g absent n sits)) (inr t)
+          other n = subst (λ (x : Survey). After (bySurvey x s g absent img (length work))) (sym (start-other z img (t .behind .disks) late-own g absent n sits)) (inr t)
 
           same : g ≡ geometry z → After (startOf s g absent img (length work))
           same e =
               ⊎-elim
-              (λ (all : (x : ℕ) → x < slots z → A x ≡ true → inMask absent x ≡ true).
+              (λ (all : (x : ℕ) → x < slots z → t .away x ≡ true → inMask absent x ≡ true).
               let y = blind-start all g e in
               subst (λ (b : Begun). After b) (sym y)
               (subst (λ (x : Geometry). After (startOf s x absent (t .img0) (length work))) (sym e)
-              (told-start (λ x q. all x (B .inner x q) q)
+              (told-start (λ x q. all x (t .behind .inner x q) q)
               (subst (λ (x : Geometry). Tie z F first p (t .w0) (t .img0) (handed (handOf z h) (startOf s x absent (t .img0) (length work)))) e
               (start-any z F first p (t .w0) (t .img0) (handOf z h) s g absent (length work) sits (subst (λ (b : Begun). Allowed z F (outs b)) y ok) (t .tie))))))
-              (λ (x : (d : ℕ) × (d < slots z) × (A d ≡ true) × (inMask absent d ≡ false)).
-              subst (λ (y : Geometry). After (startOf s y absent img (length work))) (sym e) (refused-start NoLabel (unlabelled z img (B .disks) absent (x .0) (x .1) (x .3) (λ o l. B .blank (x .0) o (x .2) l))))
-              (covers z A absent (slots z))
+              (λ (x : (d : ℕ) × (d < slots z) × (t .away d ≡ true) × (inMask absent d ≡ false)).
+              subst (λ (y : Geometry). After (startOf s y absent img (length work))) (sym e) (refused-start NoLabel (unlabelled z img (t .behind .disks) absent (x .0) (x .1) (x .3) (λ o l. t .behind .blank (x .0) o (x .2) l))))
+              (covers z (t .away) absent (slots z))
 
   -- ---- A STEP of such a start-up is told on the old disks; when it comes to rest, all is told
 
