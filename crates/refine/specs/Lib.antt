@@ -48,3 +48,4 @@ pub mod Reads
 pub mod HostHolds
 pub mod Serves
 pub mod Replaced
+pub mod ExchangeHolds

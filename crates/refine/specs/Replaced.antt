@@ -325,7 +325,7 @@ module _ (z : Shelf) (F : Family z) (first : Machine Sector) where
   -- ---- A CUT: each old disk is told to hold what is read of it
 
   module _ (p : View Sector) (w : World Sector) (img : List ℕ) (h : Held) (t : Late p w img h) where
-    late-cut : (left : List ℕ) → Disks z left → Possible w (curOf z left) → Late p (after (curOf z left)) left none
+    pub late-cut : (left : List ℕ) → Disks z left → Possible w (curOf z left) → Late p (after (curOf z left)) left none
     unfolding Possible after Sane
     late-cut left d possible = record { away = t .away; w0 = after (curOf z left0); img0 = left0; behind = behind; tie = cut-kept z F first p (t .w0) (t .img0) (handOf z h) left0 d0 there (t .tie); waits = tt }
       where
@@ -371,7 +371,7 @@ module _ (z : Shelf) (F : Family z) (first : Machine Sector) where
 
     -- ---- A START-UP
 
-    late-own : (d o : ℕ) (a : bytes.Label) → d < slots z → o < 2 → copyOf (geometry z) img d o ≡ Valid a → ours z a ≡ true
+    pub late-own : (d o : ℕ) (a : bytes.Label) → d < slots z → o < 2 → copyOf (geometry z) img d o ≡ Valid a → ours z a ≡ true
     late-own d o a i l e = by (t .away d) refl
       where
         by : (b : Bool) → t .away d ≡ b → ours z a ≡ true
@@ -465,10 +465,10 @@ module _ (z : Shelf) (F : Family z) (first : Machine Sector) where
     fair0 : Fair z s [] (t .img0)
     fair0 = ⊎-elim (λ (f : Fair z s [] (t .img0) × (plain (s .kind) ≡ true)). f .0) (λ (q : (s .kind ≡ Idle) × (ours z (s .now) ≡ true)). absurd (busy Idle (q .0) refl)) (t .tie .order .1)
 
-    fair : Fair z s [] img
+    pub fair : Fair z s [] img
     fair = record { in-range = fair0 .in-range; ours-now = fair0 .ours-now; disks = t .behind .disks; narrow = fair0 .narrow; stages = fair0 .stages }
 
-    plainly : plain (s .kind) ≡ true
+    pub plainly : plain (s .kind) ≡ true
     plainly = ap plain (t .waits .0)
 
     g-is : geometryOf (s .now) ≡ geometry z
@@ -735,21 +735,23 @@ lags-self : (t : Time) → (w0 : World Sector) × LagsAt t w0 × (told t w0 ≡ 
 lags-self (at w img h) = (w, record { reads = λ k q. refl; fewer = λ k v q m. m; certain = λ k v q m. absurd (false≢true q) }, refl)
 
 module _ (z : Shelf) (img : List ℕ) (disks : Disks z img) (blank : allZero img ≡ true) where
-  exchanged-in : (F : Family z) {a b : Time} (c : HostChain z (at (after (curOf z img)) img none) a) (r : ExchangeChain z a b) → Allowed z F (sets c) → Allowed z F (all-sets r)
-      → (p : View Sector) × (q : View Sector) × Served c (sure blocks) p × AllServed r p q
-  exchanged-in F {a} c r before then =
+  -- the views, and what is told (ExchangeHolds says what else follows from it)
+  pub exchanged-stands : (F : Family z) {a b : Time} (c : HostChain z (at (after (curOf z img)) img none) a) (r : ExchangeChain z a b) → Allowed z F (sets c) → Allowed z F (all-sets r)
+      → (p : View Sector) × (q : View Sector) × Served c (sure blocks) p × AllServed r p q × StandsAt z F (fresh z img disks blank) q b
+  exchanged-stands F {a} c r before then =
       let y = served-bound z img disks blank F c before in
       let s = lags-self a in
       let e = all-served z F (fresh z img disks blank) r then (y .0) (inl (s .0, s .1, subst (λ (t : Time). BoundAt z F (fresh z img disks blank) (y .0) t) (sym (s .2)) (y .2))) in
-      (y .0, e .0, y .1, e .1)
+      (y .0, e .0, y .1, e .1, e .2)
 
   -- FOR EVERY SHELF, where any two of the sets that are left out leave a slot out in common
   pub any-exchanged-reads-right : {a b : Time} (c : HostChain z (at (after (curOf z img)) img none) a) (r : ExchangeChain z a b) → AnyTwo (slots z) (all-sets r ++ sets c)
       → (p : View Sector) × (q : View Sector) × Served c (sure blocks) p × AllServed r p q
   any-exchanged-reads-right c r two =
       let l = all-sets r ++ sets c in
-      exchanged-in (parts-few z l two) c r (λ s m. in-parts z l two s (Memᴰ·append-right (all-sets r) m)) (λ s m. in-parts z l two s (Memᴰ·append-left (sets c) m))
+      let y = exchanged-stands (parts-few z l two) c r (λ s m. in-parts z l two s (Memᴰ·append-right (all-sets r) m)) (λ s m. in-parts z l two s (Memᴰ·append-left (sets c) m)) in
+      (y .0, y .1, y .2, y .3)
 
   -- FOR k > m
   pub exchanged-reads-right : z .m < z .k → {a b : Time} (c : HostChain z (at (after (curOf z img)) img none) a) (r : ExchangeChain z a b) → (p : View Sector) × (q : View Sector) × Served c (sure blocks) p × AllServed r p q
-  exchanged-reads-right more c r = exchanged-in (every-few z more) c r (λ s m e. e) (λ s m e. e)
+  exchanged-reads-right more c r = let y = exchanged-stands (every-few z more) c r (λ s m e. e) (λ s m e. e) in (y .0, y .1, y .2, y .3)

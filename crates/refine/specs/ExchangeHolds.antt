@@ -1,0 +1,103 @@
+-- WHAT CHAINS WITH EXCHANGED DISKS KEEP beside the host's view: no disk names another shelf, and every label has its shape, whatever a cut leaves; a step can be followed; a start-up under way is carried
+-- out by its steps. Assumes nothing.
+use mathlib.Core.Path.{_≡_, refl, sym, subst, _∙_}
+use mathlib.Core.Logic.{⊎-elim, inl, inr}
+use mathlib.Core.Bool.{Bool, true, false}
+use mathlib.Core.List.{List, []}
+use Prim.Native.Nat.{ℕ, _<_}
+use native.Mathlib.Omega.{arith}
+use lib.ListN.{length, replicate}
+use Rattle.disk.specs.Limits.{sectorBytes}
+use Rattle.disk.specs.Image.{sector}
+use Rattle.label.specs.Newest.{copyOf}
+use Rattle.label.specs.declared.fields.Label as bytes
+use Rattle.label.specs.declared.codec.Decoded.the-variants.{Valid}
+use Rattle.protocol.specs.World.{World, put, flush, act, after, Possible, Sane}
+use Rattle.protocol.specs.Machine.{Machine, View}
+use Rattle.codecs.specs.Sector.{Sector}
+use Rattle.codecs.specs.Shelf.{Shelf, slots, geometry}
+use Rattle.codecs.specs.Labels.{ours}
+use Rattle.shelf.specs.Act.{Move}
+use Rattle.shelf.specs.Step.{stepMove}
+use Rattle.shelf.specs.declared.state.State.{State}
+use Rattle.shelf.specs.declared.state.Answer.{Answer}
+use Rattle.shelf.specs.declared.state.Answer.the-variants as answer
+use Rattle.requests.specs.Begun.{workBytes}
+use Rattle.requests.specs.Step.{otherWork, stepWith, step-short, step-goes}
+use Rattle.refine.specs.Family.{Family}
+use Rattle.refine.specs.Disks.{Disks, curOf}
+use Rattle.refine.specs.ToDo.{toDo}
+use Rattle.refine.specs.Tied.{fair-work, step-tied}
+use Rattle.refine.specs.Ends.{EndsAfter, request-ends}
+use Rattle.refine.specs.Merged.{copy-alike}
+use Rattle.refine.specs.Chain.{Heard, off, heard-by}
+use Rattle.refine.specs.Holds.{Follows}
+use Rattle.refine.specs.Lags.{not-valid, few-low}
+use Rattle.refine.specs.Hosts.{Held, none, has, at}
+use Rattle.refine.specs.HostHolds.{bound-labels, bound-shaped, bound-followed}
+use Rattle.refine.specs.Replaced.{Late, StandsAt, late-cut, late-own, fair, plainly}
+
+-- what can be followed in one world can be in another
+heard-any : (z : Shelf) (w w0 : World Sector) (a : Answer) (img : List ℕ) (v : World Sector) → Heard z w0 a img v → (w' : World Sector) × Heard z w a img w'
+heard-any z w w0 (answer.Put d to) img v (k, i, s, t, e) = (act w (put k (curOf z img k)), (k, i, s, t, refl))
+heard-any z w w0 (answer.Flush d) img v e = (act w (flush d), refl)
+heard-any z w w0 answer.Done img v e = (w, refl)
+heard-any z w w0 (answer.Refused why) img v e = (w, refl)
+
+-- the shape of a label is in the sectors of its slot
+follows-alike : (z : Shelf) (x y : List ℕ) → Disks z x → Disks z y → (d : ℕ) → d < slots z → ((o : ℕ) → o < 2 → sector (z .sectors) x d o ≡ sector (z .sectors) y d o) → Follows z y d → Follows z x d
+follows-alike z x y dx dy d i h f =
+    let c : (o : ℕ) → o < 2 → copyOf (geometry z) x d o ≡ copyOf (geometry z) y d o = λ o l. copy-alike z x y dx dy d o i l (h o l) in
+    record {
+      calm = λ s o a k l q.
+          ⊎-elim (λ (e : sector (z .sectors) y d s ≡ replicate sectorBytes 0). inl (h s k ∙ e)) (λ (e : (b : bytes.Label) × (copyOf (geometry z) y d s ≡ Valid b)). inr (e .0, c s k ∙ e .1)) (f .calm s o a k l (sym (c o l) ∙ q));
+      follow = λ a b p q. f .follow a b (sym (c 0 (omega arith)) ∙ p) (sym (c 1 (omega arith)) ∙ q);
+    }
+
+module _ (z : Shelf) (F : Family z) (first : Machine Sector) (p : View Sector) (w : World Sector) (img : List ℕ) where
+  module _ (h : Held) (left : List ℕ) (here : Disks z left) (possible : Possible w (curOf z left)) where
+    -- NO DISK NAMES ANOTHER SHELF, whatever a cut leaves
+    pub stands-labels : StandsAt z F first p (at w img h) → (d s : ℕ) (a : bytes.Label) → d < slots z → s < 2 → copyOf (geometry z) left d s ≡ Valid a → ours z a ≡ true
+    unfolding Possible
+    stands-labels (inl t) = bound-labels z F first p (t .0) img h (t .2) left here (λ k. t .1 .fewer k (curOf z left k) refl (possible k))
+    stands-labels (inr t) = late-own z F first p (after (curOf z left)) left none (late-cut z F first p w img h t left here possible)
+
+    -- EVERY DISK'S LABEL HAS ITS SHAPE
+    pub stands-shaped : StandsAt z F first p (at w img h) → (d : ℕ) → d < slots z → Follows z left d
+    unfolding Possible Sane
+    stands-shaped (inl t) d i = bound-shaped z F first p (t .0) img h (t .2) left here (λ k. t .1 .fewer k (curOf z left k) refl (possible k)) d i
+    stands-shaped (inr t) d i = by (c .away d) refl
+      where
+        c : Late z F first p (after (curOf z left)) left none
+        c = late-cut z F first p w img h t left here possible
+
+        read : Possible (c .w0) (curOf z (c .img0))
+        read = subst (Possible (c .w0)) (c .tie .reads) (off z F first p (c .tie .reached) .keeps .sane)
+
+        by : (b : Bool) → c .away d ≡ b → Follows z left d
+        by true q =
+            record {
+              calm = λ s o a k l e. absurd (not-valid z a (sym (c .behind .blank d o q l) ∙ e));
+              follow = λ a b e r. absurd (not-valid z a (sym (c .behind .blank d 0 q (omega arith)) ∙ e));
+            }
+        by false q =
+            follows-alike z left (c .img0) here (c .tie .disks) d i (λ o l. c .behind .alike d o i (few-low z o l) q) (bound-shaped z F first p (c .w0) (c .img0) none (c .tie) (c .img0) (c .tie .disks) read d i)
+
+  module _ (s : State) (work : List ℕ) where
+    -- A STEP CAN BE FOLLOWED
+    pub stands-followed : StandsAt z F first p (at w img (has s work)) → (w' : World Sector) × Heard z w (stepWith s img work .stepped .answer) (stepWith s img work .image) w'
+    stands-followed (inl t) =
+        let y = bound-followed z F first p (t .0) img s work (t .2) in
+        heard-any z w (t .0) (stepWith s img work .stepped .answer) (stepWith s img work .image) (y .0) (y .1)
+    stands-followed (inr t) = by (otherWork (s .now) (length img) (length work)) refl
+      where
+        by : (b : Bool) → otherWork (s .now) (length img) (length work) ≡ b → (w' : World Sector) × Heard z w (stepWith s img work .stepped .answer) (stepWith s img work .image) w'
+        by true e = subst (λ (m : Move). (w' : World Sector) × Heard z w (m .stepped .answer) (m .image) w') (sym (step-short s img work (fair z F first p w img s work t .in-range) e)) (w, refl)
+        by false e =
+            let d = step-tied z s [] work img (plainly z F first p w img s work t) (fair z F first p w img s work t) in
+            subst (λ (m : Move). (w' : World Sector) × Heard z w (m .stepped .answer) (m .image) w') (sym (step-goes s img work (fair z F first p w img s work t .in-range) e))
+            (heard-by z F first w (stepMove s work img .image) (d .reply) (stepMove s work img .stepped .answer) (d .answers) (d .acts w (t .behind .reads)))
+
+    -- A START-UP UNDER WAY, while disks that were exchanged are not told of yet, IS CARRIED OUT by its steps: some actions, and then it is done; none of them is refused
+    pub late-carried-out : Late z F first p w img (has s work) → length work ≡ workBytes (slots z) (z .c) → (n : ℕ) × EndsAfter n work s img
+    late-carried-out t fits = (length (toDo z s work img), request-ends z work fits s img (fair-work z [] work s img (plainly z F first p w img s work t) (fair z F first p w img s work t)))
