@@ -299,7 +299,7 @@ module _ (z : Shelf) (F : Family z) (first : Machine Sector) where
       by (Refused why) e = inr t
 
   -- begin
-  rest-dark : (p : View Sector) (w : World Sector) (o : Own) → Reached z F first p w (idle o) → (d : ℕ) → o .absent d ≡ true → Label.looked (size z) (o .now) d ≡ true → ⊥
+  pub rest-dark : (p : View Sector) (w : World Sector) (o : Own) → Reached z F first p w (idle o) → (d : ℕ) → o .absent d ≡ true → Label.looked (size z) (o .now) d ≡ true → ⊥
   rest-dark (sure v) w o r d a q = r .keeps .1 .dark d a q
   rest-dark (open-write v v') w o r d a q = r .keeps
   rest-dark (kept-write v') w o r d a q = r .keeps

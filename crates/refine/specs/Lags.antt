@@ -7,6 +7,8 @@ use mathlib.Core.List.{List}
 use Prim.Native.Nat.{ℕ, zero, suc, _<_}
 use native.Mathlib.Omega.{arith}
 use native.Mathlib.Decide.{ℕ-discrete}
+use lib.ListN.{replicate}
+use Rattle.disk.specs.Limits.{sectorBytes}
 use Rattle.disk.specs.Mask.{inMask}
 use Rattle.disk.specs.Image.{sector, sector-put-other}
 use Rattle.disk.specs.declared.geometry.Geometry.{Geometry}
@@ -32,7 +34,8 @@ use Rattle.refine.specs.Places as places
 use Rattle.refine.specs.Disks.{Disks, curOf, image-fits, cur-read}
 use Rattle.refine.specs.Other.{unless-false}
 use Rattle.refine.specs.Chain.{Heard}
-use Rattle.refine.specs.Holds.{Touches}
+use Rattle.refine.specs.Holds.{Follows, Touches}
+use Rattle.refine.specs.Merged.{copy-alike}
 
 -- ---- A WORLD AND THE ONE THAT IS TOLD: beside the slots of A the one reads as the other, and holds after a cut only what the other may; nothing is cached in the slots of A
 
@@ -92,21 +95,22 @@ module _ (z : Shelf) where
   pub not-valid : (a : bytes.Label) → _≡_ {A = Decoded} Nothing (Valid a) → ⊥
   not-valid a e = let i : _≡_ {A = ℕ} 0 1 = cc in absurd (omega arith)
 
+  pub bare : (img : List ℕ) (e : ℕ) → ((o : ℕ) → o < 2 → copyOf (geometry z) img e o ≡ Nothing) → diskLabel (geometry z) img e ≡ Nothing
+  unfolding diskLabel newestOf
+  bare img e blank = λ j. newer (newer Nothing (blank 0 (omega arith) j)) (blank 1 (omega arith) j)
+
   pub unlabelled : (img : List ℕ) → Disks z img → (absent e : ℕ) → e < slots z → inMask absent e ≡ false → ((o : ℕ) → o < 2 → copyOf (geometry z) img e o ≡ Nothing) → surveyOf (geometry z) img absent ≡ survey.Refused NoLabel
-  unfolding surveyOf diskLabel newestOf
+  unfolding surveyOf
   unlabelled img disks absent e i p blank =
       ap (λ (b : Bool). unless b BadImage (table (geometry z) img absent (shelfLabel (geometry z) img absent))) (image-fits z img disks)
       ∙ unless-false (labelled (geometry z) img absent (shelfLabel (geometry z) img absent)) NoLabel _ (no (shelfLabel (geometry z) img absent))
     where
-      bare : diskLabel (geometry z) img e ≡ Nothing
-      bare = λ j. newer (newer Nothing (blank 0 (omega arith) j)) (blank 1 (omega arith) j)
-
       no : (x : Decoded) → labelled (geometry z) img absent x ≡ false
       no Nothing = all-not (inMask absent) (slots z) e i p
       no (Valid lead) = by (agreed (geometry z) img absent lead) refl
         where
           by : (b : Bool) → agreed (geometry z) img absent lead ≡ b → (agreed (geometry z) img absent lead && fitsShelf (geometry z) lead) ≡ false
-          by true q = let y = agreed-says (geometry z) img absent lead q e i p in absurd (not-valid (y .label) (sym bare ∙ y .is))
+          by true q = let y = agreed-says (geometry z) img absent lead q e i p in absurd (not-valid (y .label) (sym (bare img e blank) ∙ y .is))
           by false q = ap (λ (b : Bool). b && fitsShelf (geometry z) lead) q
 
   pub label-alike : (x y : List ℕ) → Disks z x → Disks z y → (e : ℕ) (b : Bool) → e < slots z → curOf z x (label e b) ≡ curOf z y (label e b) → copyOf (geometry z) x e (sectorOf b) ≡ copyOf (geometry z) y e (sectorOf b)
@@ -152,3 +156,13 @@ absent-kept s g img next (answer.Put d to) h e u i l q =
 absent-kept s g img next (answer.Flush d) h e u i l q = ap (λ (x : List ℕ). sector (g .sectors) x e u) (h .image)
 absent-kept s g img next answer.Done h e u i l q = ap (λ (x : List ℕ). sector (g .sectors) x e u) h
 absent-kept s g img next (answer.Refused why) h e u i l q = ap (λ (x : List ℕ). sector (g .sectors) x e u) h
+
+-- the shape of a label is in the sectors of its slot
+pub follows-alike : (z : Shelf) (x y : List ℕ) → Disks z x → Disks z y → (d : ℕ) → d < slots z → ((o : ℕ) → o < 2 → sector (z .sectors) x d o ≡ sector (z .sectors) y d o) → Follows z y d → Follows z x d
+follows-alike z x y dx dy d i h f =
+    let c : (o : ℕ) → o < 2 → copyOf (geometry z) x d o ≡ copyOf (geometry z) y d o = λ o l. copy-alike z x y dx dy d o i l (h o l) in
+    record {
+      calm = λ s o a k l q.
+          ⊎-elim (λ (e : sector (z .sectors) y d s ≡ replicate sectorBytes 0). inl (h s k ∙ e)) (λ (e : (b : bytes.Label) × (copyOf (geometry z) y d s ≡ Valid b)). inr (e .0, c s k ∙ e .1)) (f .calm s o a k l (sym (c o l) ∙ q));
+      follow = λ a b p q. f .follow a b (sym (c 0 (omega arith)) ∙ p) (sym (c 1 (omega arith)) ∙ q);
+    }

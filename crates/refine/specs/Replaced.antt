@@ -1,6 +1,7 @@
--- DISKS EXCHANGED WHILE NO PROGRAM RUNS: any disk of the shelf, of a slot that was healthy, out or absent, may be exchanged for one that holds no valid label; a fresh one, say. Nothing else is asked:
--- a start-up that does not call such a slot absent is refused, and one that does never looks at it. So the disk may as well have been exchanged when that start-up came to rest (Swaps): until then the
--- old disk is told to be there still. So the host's view goes on as without the exchange, and every read shows it. Assumes nothing.
+-- DISKS EXCHANGED WHILE NO PROGRAM RUNS: any disk of the shelf, of a slot that was healthy, out or absent, may be exchanged for one that holds no valid label; a fresh one, say. A start-up that does not
+-- call such a slot absent is refused, and one that does never looks at it. So the disk may as well have been exchanged when that start-up came to rest (Swaps): until then the old disk is told to be
+-- there still. And so it is at rest, with a slot that is out but not called absent: every request but reads is refused then, until the shelf is started anew, and reads do not look at the slot.
+-- So the host's view goes on as without the exchange, and every read shows it. Nothing else is asked of the caller than in Hosts, but that create is not called on an image of zeros any more. Assumes nothing.
 use mathlib.Core.Path.{_≡_, refl, sym, ap, subst, _∙_, fun-ext}
 use mathlib.Core.Logic.{_⊎_, ⊎-elim, inl, inr, _≢_}
 use mathlib.Core.Bool.{Bool, true, false, cond, not, _&&_, _||_, true≢false, false≢true}
@@ -15,24 +16,32 @@ use Rattle.disk.specs.Mask.{inMask}
 use Rattle.disk.specs.Image.{sector, Shape, readOf}
 use Rattle.disk.specs.declared.geometry.Geometry.{Geometry}
 use Rattle.disk.specs.declared.refusal.Refusal.{Refusal}
-use Rattle.disk.specs.declared.refusal.Refusal.the-variants.{NoLabel, BadBuffer}
+use Rattle.disk.specs.declared.refusal.Refusal.the-variants.{NoLabel, BadBuffer, NotNow}
 use Rattle.disk.specs.declared.refusal.Outcome.{Outcome}
 use Rattle.disk.specs.declared.refusal.Outcome.the-variants.{Done, Refused}
+use Rattle.disk.specs.Tests.{and-left}
 use Rattle.label.specs.Bytes.{allZero}
 use Rattle.label.specs.Fields.{geometryOf}
-use Rattle.label.specs.Newest.{copyOf}
+use Rattle.label.specs.Newest.{copyOf, diskLabel}
 use Rattle.label.specs.declared.fields.Label as bytes
 use Rattle.label.specs.declared.codec.Decoded.the-variants.{Valid, Nothing}
+use Rattle.redo.specs.Decide.{looked}
 use Rattle.rounds.specs.Survey.{surveyOf}
 use Rattle.rounds.specs.declared.plan.Survey.{Survey}
 use Rattle.rounds.specs.declared.plan.Survey.the-variants as survey
-use Rattle.protocol.specs.World.{Place, label, slot, Image, World, Action, put, flush, after, Possible, Sane}
-use Rattle.protocol.specs.Machine.{Machine, View, sure}
-use Rattle.protocol.specs.Pairs.{AnyTwo}
-use Rattle.codecs.specs.Sector.{Sector}
-use Rattle.codecs.specs.Shelf.{Shelf, slots, geometry}
-use Rattle.codecs.specs.Labels.{ours}
-use Rattle.shelf.specs.Act.{Move}
+use Rattle.protocol.specs.World.{Place, label, slot, Image, World, Action, put, flush, after, Possible, Sane, strip}
+use Rattle.protocol.specs.Machine.{Machine, View, sure, list-of}
+use Rattle.protocol.specs.Pairs.{AnyTwo, no-sets}
+use Rattle.protocol.specs.Label as Label
+use Rattle.protocol.specs.Host.{missing, read}
+use Rattle.protocol.specs.Program.{idle, beyond}
+use Rattle.codecs.specs.Sector.{Sector, zeros}
+use Rattle.codecs.specs.Shelf.{Shelf, slots, geometry, size}
+use Rattle.codecs.specs.Labels.{ours, labelOf}
+use Rattle.codecs.specs.Records.{records, stripBytes}
+use Rattle.shards.specs.Even.{any-code}
+use Rattle.shards.specs.Exact.{blocks-blind}
+use Rattle.shelf.specs.Act.{Move, named}
 use Rattle.shelf.specs.Step.{stepMove, finished}
 use Rattle.shelf.specs.Laws.{Legal, Agree, step-one, step-blind, step-agrees}
 use Rattle.shelf.specs.declared.state.State.{State}
@@ -47,36 +56,39 @@ use Rattle.requests.specs.Start.{started, bySurvey, startOf}
 use Rattle.requests.specs.TakeOut.{takeAnswer, tookOut}
 use Rattle.requests.specs.Step.{otherWork, stepWith, step-short, step-goes}
 use Rattle.requests.specs.Accepted.{take-done}
-use Rattle.requests.specs.Ready.{isIdle}
+use Rattle.requests.specs.Ready.{isIdle, readyOf}
 use Rattle.requests.specs.declared.begun.Begun.{Begun}
+use Rattle.requests.specs.Known.{ready-labels}
 use Rattle.rebuilds.specs.Begin.{beginAnswer, began}
 use Rattle.rebuilds.specs.On.{onAnswer, wentOn}
 use Rattle.blocks.specs.Slots.{tooFew}
 use Rattle.blocks.specs.Answers.{serves, lookAnswer, sizes, blockAnswer, first-done, answered-done}
-use Rattle.blocks.specs.Read.{readAnswer}
+use Rattle.blocks.specs.Read.{readAnswer, Shows, afterRead, shownOf, laidBy, read-done}
 use Rattle.blocks.specs.Write.{writeAnswer, AfterWrite}
 use Rattle.scrubs.specs.Repair.{mayRepair, repair-refused}
 use Rattle.refine.specs.Family.{Family, every-few, parts-few, in-parts}
+use Rattle.refine.specs.Disks.{seenOf, Disks, curOf}
+use Rattle.refine.specs.Rounds.{beyond-below}
+use Rattle.refine.specs.Redo.{look-is}
 use Rattle.refine.specs.Given.{shelf-geometry}
-use Rattle.refine.specs.Disks.{Disks, curOf}
-use Rattle.refine.specs.Steps.{Fair, Does, step-does}
 use Rattle.refine.specs.ToDo.{toDo}
-use Rattle.refine.specs.Tied.{plain, fair-work, step-tied}
-use Rattle.refine.specs.BeginBegins.{begin-goes}
+use Rattle.refine.specs.Steps.{Fair, Does, step-does}
+use Rattle.refine.specs.Tied.{ownOf, plain, fair-work, step-tied}
 use Rattle.refine.specs.OnBegins.{on-rests}
-use Rattle.refine.specs.Mends.{may-whole, asked-refused}
+use Rattle.refine.specs.BeginBegins.{begin-goes}
 use Rattle.refine.specs.Other.{Sits, same-numbers, start-other, create-late}
 use Rattle.refine.specs.Named.{side}
-use Rattle.refine.specs.Blind.{start-blind}
-use Rattle.refine.specs.Merged.{slotFrom, disk-of, disk-here, disk-other, slotsFrom, slots-disks, slots-other, slots-here, cur-alike, read-alike, copy-alike, same-image}
-use Rattle.refine.specs.Chain.{Heard, outs, handed, Allowed, Tie, off, start-any, cut-kept, heard-is, ours-in, blocks, fresh}
+use Rattle.refine.specs.Chain.{Reached, step-rests, Heard, outs, handed, Allowed, Tie, off, start-any, cut-kept, heard-is, ours-in, blocks, fresh}
 use Rattle.refine.specs.Chain as chain
-use Rattle.refine.specs.Lags.{Lags, lags-heard, nowhere, Behind, not-valid, unlabelled, label-alike, few-low, covers, touch-present, absent-kept}
+use Rattle.refine.specs.Merged.{slotFrom, disk-of, disk-here, disk-other, slotsFrom, slots-disks, slots-other, slots-here, cur-alike, read-alike, copy-alike, same-image}
 use Rattle.refine.specs.Swaps.{Exchanged, newDisk, swap-kept}
-use Rattle.refine.specs.Hosts.{Held, none, has, Time, at, held, HostCalls, creates, starts, creates-late, takes-out, begins, ons, writes, repairs, steps, cut, dies, swaps, HostChain, sets-call, sets, SawStep, SawAsked, Saw, Bound, BoundAt, loose-tie, not-rest, rest-of, call-bound}
+use Rattle.refine.specs.Lags.{follows-alike, bare, Lags, lags-heard, nowhere, Behind, not-valid, unlabelled, label-alike, few-low, covers, touch-present, absent-kept}
+use Rattle.refine.specs.Blind.{start-blind}
 use Rattle.refine.specs.Sees.{sectorsOf}
+use Rattle.refine.specs.Mends.{may-whole, asked-refused}
+use Rattle.refine.specs.Hosts.{rest-dark, Held, none, has, Time, at, held, HostCalls, creates, starts, creates-late, takes-out, begins, ons, writes, repairs, steps, cut, dies, swaps, HostChain, sets-call, sets, SawStep, SawAsked, Saw, Bound, BoundAt, loose-tie, not-rest, rest-of, call-bound}
+use Rattle.refine.specs.Reads.{in-k, shown-read, read-right}
 use Rattle.refine.specs.Serves.{ReadsAs, Served, served-bound}
-use Rattle.refine.specs.Reads.{read-right}
 
 -- ---- THE CALLS
 
@@ -102,10 +114,13 @@ NotAnew (cut left d p) = Unit {0}
 NotAnew dies = Unit {0}
 NotAnew (swaps d left x) = Unit {0}
 
--- a call of Hosts, or, while no state is held, another disk
+-- a call of Hosts; or, while no state is held, another disk
 pub data Exchanges (z : Shelf) : Time → Time → Type 1 where
   calls : {a b : Time} (x : HostCalls z a b) → NotAnew x → Exchanges z a b
   replaced : {w : World Sector} {img : List ℕ} (d : ℕ) (left : List ℕ) → Blanked z d img left → Exchanges z (at w img none) (at (newDisk z w d left) left none)
+  -- at rest, with the state held: slot d is out, but the state does not call it absent (that case is `swaps`). From then on every request but reads is refused, until the shelf is started anew
+  pulled : {w : World Sector} {img : List ℕ} {s : State} {work : List ℕ} (d : ℕ) (left : List ℕ) → s .kind ≡ Idle → looked (geometry z) (s .now) d ≡ false → inMask (s .absent) d ≡ false → Blanked z d img left
+      → Exchanges z (at w img (has s work)) (at (newDisk z w d left) left (has s work))
 
 pub data ExchangeChain (z : Shelf) : Time → Time → Type 1 where
   stays : {a : Time} → ExchangeChain z a a
@@ -114,6 +129,7 @@ pub data ExchangeChain (z : Shelf) : Time → Time → Type 1 where
 abbrev pub sets-exchange : {z : Shelf} {a b : Time} → Exchanges z a b → List (ℕ → Bool)
 sets-exchange (calls x n) = sets-call x
 sets-exchange (replaced d left x) = []
+sets-exchange (pulled d left e l n x) = []
 
 abbrev pub all-sets : {z : Shelf} {a b : Time} → ExchangeChain z a b → List (ℕ → Bool)
 all-sets stays = []
@@ -123,6 +139,7 @@ all-sets (goes-on c x) = sets-exchange x ++ all-sets c
 abbrev pub SawExchange : {z : Shelf} {a b : Time} → Exchanges z a b → View Sector → View Sector → Type 0
 SawExchange (calls x n) p q = Saw x p q
 SawExchange (replaced d left x) p q = q ≡ p
+SawExchange (pulled d left e l n x) p q = q ≡ p
 
 -- the views along a chain: each call changes them as its answer says, and reads show their entries at every moment
 abbrev pub AllServed : {z : Shelf} {a b : Time} → ExchangeChain z a b → View Sector → View Sector → Type 0
@@ -176,9 +193,20 @@ module _ (z : Shelf) where
       }
 
   -- a start-up waits for the slots of A, which it was told are absent
+  abbrev pub Starts : (ℕ → Bool) → State → Type 0
+  Starts A s = (s .kind ≡ Starting) × ((e : ℕ) → A e ≡ true → inMask (s .absent) e ≡ true)
+
+  -- or the program is at rest, and they are out but not called absent
+  pub record Pulled (A : ℕ → Bool) (s : State) : Type 0 where
+    pub rests : s .kind ≡ Idle
+    pub one : ℕ
+    pub is-one : A one ≡ true
+    pub out : (e : ℕ) → A e ≡ true → looked (geometry z) (s .now) e ≡ false
+    pub present : (e : ℕ) → A e ≡ true → inMask (s .absent) e ≡ false
+
   abbrev Waits : (ℕ → Bool) → Held → Type 0
   Waits A none = Unit {0}
-  Waits A (has s work) = (s .kind ≡ Starting) × ((e : ℕ) → A e ≡ true → inMask (s .absent) e ≡ true)
+  Waits A (has s work) = Starts A s ⊎ Pulled A s
 
   abbrev handOf : Held → chain.Hand
   handOf none = chain.none
@@ -194,6 +222,34 @@ starting Labelling = false
 starting Writing = false
 starting Beginning = false
 starting Filling = false
+
+-- one slot more
+abbrev also : ℕ → (ℕ → Bool) → ℕ → Bool
+also d A e = eqb e d || A e
+
+in-also : (d : ℕ) (A : ℕ → Bool) (e : ℕ) → also d A e ≡ true → (e ≡ d) ⊎ ((e ≢ d) × (A e ≡ true))
+in-also d A e q = by (eqb e d) refl q
+  where
+    by : (c : Bool) → eqb e d ≡ c → (c || A e) ≡ true → (e ≡ d) ⊎ ((e ≢ d) × (A e ≡ true))
+    by true u r = inl (eqb-true e d u)
+    by false u r = inr (eqb-false e d u, r)
+
+-- what is read once another disk is in slot d
+new-reads : (z : Shelf) (w : World Sector) (img : List ℕ) (d : ℕ) (left : List ℕ) → Disks z left → Disks z img → w .cur ≡ curOf z img
+    → ((e i : ℕ) → e < slots z → i < z .sectors → e ≢ d → sector (z .sectors) left e i ≡ sector (z .sectors) img e i) → (k : Place) → newDisk z w d left .cur k ≡ curOf z left k
+new-reads z w img d left dl di reads others k = by (eqb (slot k) d) refl
+  where
+    by : (c : Bool) → eqb (slot k) d ≡ c → cond c (curOf z left k) (w .cur k) ≡ curOf z left k
+    by true e = refl
+    by false e = ap (λ (f : Image Sector). f k) reads ∙ sym (cur-alike z left img dl di k (λ u i l. others (slot k) u i l (eqb-false (slot k) d e)))
+
+same-length : (z : Shelf) (x y : List ℕ) → Disks z x → Disks z y → length x ≡ length y
+unfolding Shape
+same-length z x y dx dy = dx .shape ∙ sym (dy .shape)
+
+seen-alike : (z : Shelf) (A : ℕ → Bool) (x y : List ℕ) (k : Place) → curOf z x k ≡ curOf z y k → seenOf z A x k ≡ seenOf z A y k
+unfolding seenOf
+seen-alike z A x y k e = ap (cond (A (slot k)) zeros) e
 
 module _ (z : Shelf) (F : Family z) (first : Machine Sector) where
   pub record Late (p : View Sector) (w : World Sector) (img : List ℕ) (h : Held) : Type 1 where
@@ -413,7 +469,7 @@ module _ (z : Shelf) (F : Family z) (first : Machine Sector) where
             where
               go : (b : Bool) → Tie z F first p (t .w0) (t .img0) (handed (handOf z h) (cond b (accepted (started (geometry z) absent plan (t .img0))) (refused s BadBuffer)))
                   → After (cond b (accepted (started (geometry z) absent plan (t .img0))) (refused s BadBuffer))
-              go true y = inr (record { away = t .away; w0 = t .w0; img0 = t .img0; behind = t .behind; tie = y; waits = (refl, all) })
+              go true y = inr (record { away = t .away; w0 = t .w0; img0 = t .img0; behind = t .behind; tie = y; waits = inl (refl, all) })
               go false y = inr t
 
       late-start : (g : Geometry) → Sits z g absent → Allowed z F (outs (startOf s g absent img (length work))) → After (startOf s g absent img (length work))
@@ -446,19 +502,19 @@ module _ (z : Shelf) (F : Family z) (first : Machine Sector) where
   kept-or-done s work img m (flush d ∷ l) h =
       inl (ap (λ (x : Move). x .stepped .state .kind) (h .is) ∙ ap (λ (x : State). x .kind) (h .kept), ap (λ (x : Move). x .stepped .state .absent) (h .is) ∙ ap (λ (x : State). x .absent) (h .kept))
 
-  module _ (p : View Sector) (w : World Sector) (img : List ℕ) (s : State) (work : List ℕ) (t : Late p w img (has s work)) where
+  module _ (p : View Sector) (w : World Sector) (img : List ℕ) (s : State) (work : List ℕ) (t : Late p w img (has s work)) (up : Starts z (t .away) s) where
     busy : (k : Kind) → s .kind ≡ k → starting k ≡ false → ⊥
-    busy k e f = true≢false (sym (ap starting (t .waits .0)) ∙ ap starting e ∙ f)
+    busy k e f = true≢false (sym (ap starting (up .0)) ∙ ap starting e ∙ f)
 
     late-busy : isIdle (s .kind) ≡ true → ⊥
-    late-busy e = false≢true (sym (ap isIdle (t .waits .0)) ∙ e)
+    late-busy e = false≢true (sym (ap isIdle (up .0)) ∙ e)
 
     -- no read is answered meanwhile
     late-unread : (b : ℕ) (buf : List ℕ) → readAnswer (s .now) (s .kind) (s .absent) b (length img) (length buf) (length work) ≡ Done → ⊥
     unfolding blockAnswer
     late-unread b buf ok =
         false≢true
-        (sym (ap serves (t .waits .0))
+        (sym (ap serves (up .0))
         ∙ answered-done (tooFew (s .now) (s .absent)) _ true (serves (s .kind)) (sizes (s .now .k + s .now .m) (s .now .c) (length buf) (length work))
         (first-done (lookAnswer (s .now) (s .kind) (length img)) (blockAnswer (s .now) (s .absent) true (serves (s .kind)) b (length buf) (length work)) ok .1) .makes-sense)
 
@@ -469,14 +525,13 @@ module _ (z : Shelf) (F : Family z) (first : Machine Sector) where
     fair = record { in-range = fair0 .in-range; ours-now = fair0 .ours-now; disks = t .behind .disks; narrow = fair0 .narrow; stages = fair0 .stages }
 
     pub plainly : plain (s .kind) ≡ true
-    plainly = ap plain (t .waits .0)
+    plainly = ap plain (up .0)
 
     g-is : geometryOf (s .now) ≡ geometry z
     g-is = shelf-geometry z (s .now) (fair0 .ours-now)
 
     lengths : length img ≡ length (t .img0)
-    unfolding Shape
-    lengths = t .behind .disks .shape ∙ sym (t .tie .disks .shape)
+    lengths = same-length z img (t .img0) (t .behind .disks) (t .tie .disks)
 
     abbrev m : Move
     m = stepMove s work img
@@ -498,7 +553,7 @@ module _ (z : Shelf) (F : Family z) (first : Machine Sector) where
     present e n = by (t .away e) refl
       where
         by : (b : Bool) → t .away e ≡ b → b ≡ false
-        by true q = absurd (true≢false (sym (t .waits .1 e q) ∙ n))
+        by true q = absurd (true≢false (sym (up .1 e q) ∙ n))
         by false q = refl
 
     agree : Agree (s .absent) (geometry z) (m .image) (m0 .image)
@@ -537,7 +592,7 @@ module _ (z : Shelf) (F : Family z) (first : Machine Sector) where
             disks = d;
             reads = then-reads;
             alike = then-alike;
-            blank = λ e o q l. copy-alike z (m .image) img d (t .behind .disks) e o (t .behind .inner e q) l (absent-same img e o (t .behind .inner e q) (few-low z o l) (t .waits .1 e q)) ∙ t .behind .blank e o q l;
+            blank = λ e o q l. copy-alike z (m .image) img d (t .behind .disks) e o (t .behind .inner e q) l (absent-same img e o (t .behind .inner e q) (few-low z o l) (up .1 e q)) ∙ t .behind .blank e o q l;
           }
 
       told-step : otherWork (s .now) (length img) (length work) ≡ false → (q : View Sector) × SawStep (s .kind) (m .stepped .answer) p q × Bound z F first q (heard-told .0) (m0 .image) (has (m .stepped .state) work)
@@ -557,7 +612,7 @@ module _ (z : Shelf) (F : Family z) (first : Machine Sector) where
           on k = go b
             where
               go : Bound z F first q (heard-told .0) (m0 .image) (has (m .stepped .state) work) → StandsAt q (at w' (m .image) (has (m .stepped .state) work))
-              go (inl y) = inr (record { away = t .away; w0 = heard-told .0; img0 = m0 .image; behind = then-behind; tie = y; waits = (k .0 ∙ t .waits .0, λ e r. ap (λ (a : ℕ). inMask a e) (k .1) ∙ t .waits .1 e r) })
+              go (inl y) = inr (record { away = t .away; w0 = heard-told .0; img0 = m0 .image; behind = then-behind; tie = y; waits = inl (k .0 ∙ up .0, λ e r. ap (λ (a : ℕ). inMask a e) (k .1) ∙ up .1 e r) })
               go (inr (inl y)) = absurd (busy Writing (sym (k .0) ∙ y .writes .kind) refl)
               go (inr (inr (inl y))) = absurd (busy Beginning (sym (k .0) ∙ y .kind) refl)
               go (inr (inr (inr y))) = absurd (busy Filling (sym (k .0) ∙ y .refills .kind) refl)
@@ -577,7 +632,7 @@ module _ (z : Shelf) (F : Family z) (first : Machine Sector) where
 
               go : Bound z F first q (heard-told .0) (m0 .image) (has (m .stepped .state) work) → StandsAt q (at w' (m .image) (has (m .stepped .state) work))
               go (inl y) =
-                  let a = all-told q w' (m .image) (m .stepped .state) rests (slots z) (t .away) (heard-told .0) (m0 .image) free (λ e r. ap (λ (x : Move). inMask (x .stepped .state .absent) e) k ∙ t .waits .1 e r) then-behind y in
+                  let a = all-told q w' (m .image) (m .stepped .state) rests (slots z) (t .away) (heard-told .0) (m0 .image) free (λ e r. ap (λ (x : Move). inMask (x .stepped .state .absent) e) k ∙ up .1 e r) then-behind y in
                   inl (a .0, a .1, inl (a .2))
               go (inr y) = absurd (not-rest z F first q (heard-told .0) (m0 .image) (m .stepped .state) work y (ap isIdle rests))
 
@@ -591,10 +646,168 @@ module _ (z : Shelf) (F : Family z) (first : Machine Sector) where
         by : (b : Bool) → otherWork (s .now) (length img) (length work) ≡ b → Goal (stepWith s img work)
         by true e =
             subst (λ (v : Move). Heard z w (v .stepped .answer) (v .image) w' → Goal v) (sym (step-short s img work (fair0 .in-range) e))
-            (λ i. (p, subst (λ (k : Kind). SawStep k (answer.Refused BadBuffer) p p) (sym (t .waits .0)) refl, subst (λ (x : World Sector). StandsAt p (at x img (has s work))) (sym i) (inr t))) h
+            (λ i. (p, subst (λ (k : Kind). SawStep k (answer.Refused BadBuffer) p p) (sym (up .0)) refl, subst (λ (x : World Sector). StandsAt p (at x img (has s work))) (sym i) (inr t))) h
         by false e =
             subst (λ (v : Move). Heard z w (v .stepped .answer) (v .image) w' → Goal v) (sym (step-goes s img work (fair0 .in-range) e))
             (λ i. let y = told-step w' i e in (y .0, y .1, stands-then w' i (y .0) (y .2))) h
+
+  -- ---- AT REST, with slots behind that are out but not called absent
+
+  module _ (p : View Sector) (w : World Sector) (img : List ℕ) (s : State) (work : List ℕ) (t : Late p w img (has s work)) (lost : Pulled z (t .away) s) where
+    mine : ours z (s .now) ≡ true
+    mine = ⊎-elim (λ (f : Fair z s [] (t .img0) × (plain (s .kind) ≡ true)). f .0 .ours-now) (λ (q : (s .kind ≡ Idle) × (ours z (s .now) ≡ true)). q .1) (t .tie .order .1)
+
+    -- their disks have not the state's label
+    not-ready : readyOf (s .now) (s .kind) (s .absent) img ≡ Done → ⊥
+    not-ready e =
+        let g : geometryOf (s .now) ≡ geometry z = shelf-geometry z (s .now) mine in
+        let i : lost .one < s .now .k + s .now .m = subst (λ (x : Geometry). lost .one < x .n) (sym g) (t .behind .inner (lost .one) (lost .is-one)) in
+        let y = ready-labels (s .now) (s .kind) (s .absent) img e (ap isIdle (lost .rests)) (lost .one) i (lost .present (lost .one) (lost .is-one)) in
+        not-valid z (named (s .now) (lost .one))
+        (sym (bare z img (lost .one) (λ o l. t .behind .blank (lost .one) o (lost .is-one) l)) ∙ subst (λ (x : Geometry). diskLabel x img (lost .one) ≡ Valid (named (s .now) (lost .one))) g y)
+
+    -- no step is taken
+    pulled-step : (w' : World Sector) → Heard z w (stepWith s img work .stepped .answer) (stepWith s img work .image) w'
+        → (q : View Sector) × SawStep (s .kind) (stepWith s img work .stepped .answer) p q × StandsAt q (at w' (stepWith s img work .image) (has (stepWith s img work .stepped .state) work))
+    pulled-step w' h =
+        subst (λ (m : Move). Heard z w (m .stepped .answer) (m .image) w' → (q : View Sector) × SawStep (s .kind) (m .stepped .answer) p q × StandsAt q (at w' (m .image) (has (m .stepped .state) work))) (sym (step-rests z F first p s img work (lost .rests)))
+        (λ i. (p, subst (λ (k : Kind). SawStep k (answer.Refused NotNow) p p) (sym (lost .rests)) refl, subst (λ (x : World Sector). StandsAt p (at x img (has s work))) (sym i) (inr t))) h
+
+    -- a disk that is exchanged in a slot that is called absent is told at once
+    module _ (d : ℕ) (left : List ℕ) (x : Exchanged z s d img left) where
+      abbrev onto0 : List ℕ
+      onto0 = slotFrom z d left (t .img0) (z .sectors)
+
+      d0 : Disks z onto0
+      d0 = disk-of z d (x .there) left (t .img0) (x .disks) (t .tie .disks)
+
+      here0 : (u : ℕ) → u < z .sectors → sector (z .sectors) onto0 d u ≡ sector (z .sectors) left d u
+      here0 = disk-here z d (x .there) left (t .img0) (x .disks) (t .tie .disks)
+
+      copy0 : (o : ℕ) → o < 2 → copyOf (geometry z) onto0 d o ≡ copyOf (geometry z) left d o
+      copy0 o l = copy-alike z onto0 left d0 (x .disks) d o (x .there) l (here0 o (few-low z o l))
+
+      exchange0 : Exchanged z s d (t .img0) onto0
+      exchange0 =
+          record {
+            at-rest = x .at-rest;
+            there = x .there;
+            absent = x .absent;
+            disks = d0;
+            others = disk-other z d (x .there) left (t .img0) (x .disks) (t .tie .disks);
+            older = λ o a l q. x .older o a l (sym (copy0 o l) ∙ q);
+            shape = follows-alike z onto0 left d0 (x .disks) d (x .there) (λ o l. here0 o (few-low z o l)) (x .shape);
+          }
+
+      tie0 : Tie z F first p (newDisk z (t .w0) d onto0) onto0 (chain.has s)
+      tie0 = swap-kept z F first p (t .w0) (t .img0) s d onto0 exchange0 (t .tie)
+
+      not-away : (e : ℕ) → t .away e ≡ true → e ≢ d
+      not-away e a q = true≢false (sym (subst (λ (y : ℕ). inMask (s .absent) y ≡ true) (sym q) (x .absent)) ∙ lost .present e a)
+
+      sector0 : (e u : ℕ) → e < slots z → u < z .sectors → t .away e ≡ false → sector (z .sectors) left e u ≡ sector (z .sectors) onto0 e u
+      sector0 e u i l a = by (ℕ-discrete e d)
+        where
+          by : Dec (e ≡ d) → sector (z .sectors) left e u ≡ sector (z .sectors) onto0 e u
+          by (yes q) = subst (λ (y : ℕ). sector (z .sectors) left y u ≡ sector (z .sectors) onto0 y u) (sym q) (sym (here0 u l))
+          by (no q) = x .others e u i l q ∙ t .behind .alike e u i l a ∙ sym (disk-other z d (x .there) left (t .img0) (x .disks) (t .tie .disks) e u i l q)
+
+      cur0 : (k : Place) → t .away (slot k) ≡ false → curOf z left k ≡ curOf z onto0 k
+      cur0 k a = cur-alike z left onto0 (x .disks) d0 k (λ u i l. sector0 (slot k) u i l a)
+
+      reads0 : newDisk z w d left .cur ≡ curOf z left
+      reads0 = fun-ext (λ k. new-reads z w img d left (x .disks) (t .behind .disks) (t .behind .reads) (x .others) k)
+
+      pulled-swap : StandsAt p (at (newDisk z w d left) left (has s work))
+      pulled-swap =
+          inr
+          (record {
+            away = t .away;
+            w0 = newDisk z (t .w0) d onto0;
+            img0 = onto0;
+            behind = record {
+              inner = t .behind .inner;
+              lags = record {
+                reads = λ k a. ap (λ (f : Image Sector). f k) reads0 ∙ cur0 k a ∙ sym (ap (λ (f : Image Sector). f k) (tie0 .reads));
+                fewer = λ k v a m. ((λ q. m .0 q ∙ cur0 k a), λ n. t .behind .lags .fewer k v a (m .1 n));
+                certain = λ k v a m.
+                    t .behind .lags .certain k v a (m .1 (not-away (slot k) a)) ∙ sym (ap (λ (c : Bool). cond c (curOf z left k) (w .cur k)) (ne-eqb (slot k) d (not-away (slot k) a)));
+              };
+              disks = x .disks;
+              reads = reads0;
+              alike = sector0;
+              blank = λ e o a l.
+                  copy-alike z left img (x .disks) (t .behind .disks) e o (t .behind .inner e a) l (x .others e o (t .behind .inner e a) (few-low z o l) (not-away e a)) ∙ t .behind .blank e o a l;
+            };
+            tie = tie0;
+            waits = inr lost;
+          })
+
+    -- a read looks at none of them
+    pulled-read : (b : ℕ) (buf : List ℕ) → readAnswer (s .now) (s .kind) (s .absent) b (length img) (length buf) (length work) ≡ Done → afterRead Done s b img work buf ≡ stripBytes (list-of p (b / z .k) (b % z .k)) (z .c)
+    unfolding laidBy read
+    pulled-read b buf ok = over img ∙ same-shown ∙ sym (over (t .img0)) ∙ told-read
+      where
+        lengths : length img ≡ length (t .img0)
+        lengths = same-length z img (t .img0) (t .behind .disks) (t .tie .disks)
+
+        ok0 : readAnswer (s .now) (s .kind) (s .absent) b (length (t .img0)) (length buf) (length work) ≡ Done
+        ok0 = ap (λ (n : ℕ). readAnswer (s .now) (s .kind) (s .absent) b n (length buf) (length work)) (sym lengths) ∙ ok
+
+        told-read : afterRead Done s b (t .img0) work buf ≡ stripBytes (list-of p (b / z .k) (b % z .k)) (z .c)
+        told-read = read-right z F first p (t .w0) (t .img0) s b work buf ok0 (inl (t .tie))
+
+        over : (y : List ℕ) → afterRead Done s b y work buf ≡ shownOf (s .now) (s .absent) 0 y work b
+        over y = ap (λ (k : Kind). shownOf (s .now) (s .absent) (laidBy k (s .cursor .stage) (s .marks .redo) (s .marks .stripe) (b / s .now .k)) y work b) (lost .rests)
+
+        ready : Reached z F first p (t .w0) (idle (ownOf z s (s .now)))
+        ready = subst (Reached z F first p (t .w0)) (chain.rests z s (t .img0) (lost .rests)) (t .tie .reached)
+
+        dark : (d : ℕ) → d < slots z → inMask (s .absent) d ≡ true → Label.looked (size z) (labelOf z (s .now)) d ≡ true → ⊥
+        dark d i a q = rest-dark z F first p (t .w0) (ownOf z s (s .now)) ready d (beyond-below (slots z) (s .absent) d i ∙ a) q
+
+        T : ℕ
+        T = b / s .now .k
+
+        I : ℕ
+        I = b % s .now .k
+
+        unseen : ℕ → Bool
+        unseen = beyond (slots z) (inMask (s .absent))
+
+        bad : ℕ → Bool
+        bad = missing (size z) (no-sets (slots z)) (records z) (any-code z) (labelOf z (s .now)) T
+
+        looks : (d : ℕ) → bad d ≡ false → Label.looked (size z) (labelOf z (s .now)) d ≡ true
+        looks d e = and-left (Label.looked (size z) (labelOf z (s .now)) d) _ (sees (Label.believed (size z) (labelOf z (s .now)) d T) e)
+          where
+            sees : (x : Bool) → not x ≡ false → x ≡ true
+            sees true e = refl
+            sees false e = sym e
+
+        not-lost : (d : ℕ) → bad d ≡ false → t .away d ≡ false
+        not-lost d e = by (t .away d) refl
+          where
+            by : (c : Bool) → t .away d ≡ c → c ≡ false
+            by true q = absurd (true≢false (sym (looks d e) ∙ look-is z (s .now) d ∙ lost .out d q))
+            by false q = refl
+
+        seen-same : (d j : ℕ) → bad d ≡ false → seenOf z unseen img (strip d T j) ≡ seenOf z unseen (t .img0) (strip d T j)
+        seen-same d j e = seen-alike z unseen img (t .img0) (strip d T j) (cur-alike z img (t .img0) (t .behind .disks) (t .tie .disks) (strip d T j) (λ u i l. t .behind .alike d u i l (not-lost d e)))
+
+        shows : Shows (s .now) (s .absent) img work b buf
+        shows = read-done (s .now) (s .kind) (s .absent) b img work buf ok
+
+        same-shown : shownOf (s .now) (s .absent) 0 img work b ≡ shownOf (s .now) (s .absent) 0 (t .img0) work b
+        same-shown =
+            shown-read z img (t .behind .disks) (s .now) mine (s .absent) b work buf shows dark
+            ∙ ap (λ (x : ℕ → Sector). stripBytes x (z .c))
+            (fun-ext (λ j. blocks-blind z T bad (λ d i. seenOf z unseen img (strip d T i)) I j (omega (arith, in-k z img (t .behind .disks) (s .now) mine (s .absent) b work buf shows)) (λ d i. seenOf z unseen (t .img0) (strip d T i)) (λ d h e. seen-same d j e)))
+            ∙ sym (shown-read z (t .img0) (t .tie .disks) (s .now) mine (s .absent) b work buf (read-done (s .now) (s .kind) (s .absent) b (t .img0) work buf ok0) dark)
+
+  -- what needs a ready shelf is refused
+  late-refused : (p : View Sector) (w : World Sector) (img : List ℕ) (s : State) (work : List ℕ) → Late p w img (has s work) → isIdle (s .kind) ≡ true → readyOf (s .now) (s .kind) (s .absent) img ≡ Done → ⊥
+  late-refused p w img s work t e r = ⊎-elim (λ (up : Starts z (t .away) s). late-busy p w img s work t up e) (λ (lost : Pulled z (t .away) s). not-ready p w img s work t lost r) (t .waits)
 
   -- ---- EVERY CALL: those that are neither start-ups, steps nor cuts are refused meanwhile, and change nothing
 
@@ -607,89 +820,95 @@ module _ (z : Shelf) (F : Family z) (first : Machine Sector) where
   late-call (takes-out {w} {img} {s} {work} d) u ok p t = (p, refl, by (takeAnswer (s .now) (s .kind) (s .absent) img d (length work)) refl)
     where
       by : (o : Outcome) → takeAnswer (s .now) (s .kind) (s .absent) img d (length work) ≡ o → StandsAt p (at w img (held (has s work) (begun o s (tookOut s d)) work))
-      by Done e = absurd (late-busy p w img s work t (take-done (s .now) (s .kind) (s .absent) img d (length work) e .1 .at-rest))
+      by Done e = absurd (late-refused p w img s work t (take-done (s .now) (s .kind) (s .absent) img d (length work) e .1 .at-rest) (first-done (readyOf (s .now) (s .kind) (s .absent) img) _ e .0))
       by (Refused why) e = inr t
   late-call (begins {w} {img} {s} {work} d) u ok p t = (p, refl, by (beginAnswer (s .now) (s .kind) (s .absent) img d (length work)) refl)
     where
       by : (o : Outcome) → beginAnswer (s .now) (s .kind) (s .absent) img d (length work) ≡ o → StandsAt p (at w img (held (has s work) (begun o s (began s d img)) work))
-      by Done e = absurd (late-busy p w img s work t (begin-goes (s .now) (s .kind) (s .absent) img d (length work) e .at-rest))
+      by Done e = absurd (late-refused p w img s work t (begin-goes (s .now) (s .kind) (s .absent) img d (length work) e .at-rest) (first-done (readyOf (s .now) (s .kind) (s .absent) img) _ e .0))
       by (Refused why) e = inr t
   late-call (ons {w} {img} {s} {work} b below) u ok p t = (p, refl, by (onAnswer (s .now) (s .kind) (s .absent) img (length work)) refl)
     where
       by : (o : Outcome) → onAnswer (s .now) (s .kind) (s .absent) img (length work) ≡ o → StandsAt p (at w img (held (has s work) (begun o s (wentOn s b img)) work))
-      by Done e = absurd (late-busy p w img s work t (on-rests (s .now) (s .kind) (s .absent) img (length work) e))
+      by Done e = absurd (late-refused p w img s work t (on-rests (s .now) (s .kind) (s .absent) img (length work) e) (first-done (readyOf (s .now) (s .kind) (s .absent) img) _ e .0))
       by (Refused why) e = inr t
   late-call (writes {w} {img} {s} {work} b given s' then x y e) u ok p t = by (writeAnswer (s .now) (s .kind) (s .absent) (s .count) img b (length given) (length work)) refl e
     where
       by : (o : Outcome) → writeAnswer (s .now) (s .kind) (s .absent) (s .count) img b (length given) (length work) ≡ o → AfterWrite o s b given img work s' then
           → (q : View Sector) × SawAsked o (b / z .k) (b % z .k) (sectorsOf (z .c) given) p q × StandsAt q (at w img (has s' then))
-      by Done i a = absurd (late-busy p w img s work t (rest-of z F first p w img s work b given s' then x y i))
+      by Done i a = absurd (late-refused p w img s work t (rest-of z F first p w img s work b given s' then x y i) (first-done (readyOf (s .now) (s .kind) (s .absent) img) _ i .0))
       by (Refused why) i a = (p, refl, subst (λ (v : State). StandsAt p (at w img (has v then))) (sym (a .0)) (subst (λ (v : List ℕ). StandsAt p (at w img (has s v))) (sym (a .1)) (inr t)))
   late-call (repairs {w} {img} {s} {work} i b then r) u ok p t = (p, refl, by (mayRepair (s .now) (s .kind) (s .absent) (s .count) i img) refl)
     where
       by : (o : Outcome) → mayRepair (s .now) (s .kind) (s .absent) (s .count) i img ≡ o → StandsAt p (at w img (has (b .state) then))
-      by Done e = absurd (late-busy p w img s work t (may-whole s img i e .at-rest))
+      by Done e = absurd (late-refused p w img s work t (may-whole s img i e .at-rest) (first-done (readyOf (s .now) (s .kind) (s .absent) img) _ e .0))
       by (Refused why) e =
           let y = repair-refused s i img work b then r why (asked-refused s i img work b then r why e) in
           subst (λ (v : State). StandsAt p (at w img (has v then))) (sym (y .0)) (subst (λ (v : List ℕ). StandsAt p (at w img (has s v))) (sym (y .1)) (inr t))
-  late-call (steps {w} {w'} {img} {s} {work} heard) u ok p t = late-step p w img s work t w' heard
+  late-call (steps {w} {w'} {img} {s} {work} heard) u ok p t = ⊎-elim (λ (up : Starts z (t .away) s). late-step p w img s work t up w' heard) (λ (lost : Pulled z (t .away) s). pulled-step p w img s work t lost w' heard) (t .waits)
   late-call (cut {w} {img} {h} left d x) u ok p t = (p, refl, inr (late-cut p w img h t left d x))
   late-call (dies {w} {img} {h}) u ok p t = (p, refl, inr (record { away = t .away; w0 = t .w0; img0 = t .img0; behind = t .behind; tie = loose-tie z F first p (t .w0) (t .img0) (handOf z h) (t .tie); waits = tt }))
-  late-call (swaps {w} {img} {s} {work} d left x) u ok p t = absurd (late-busy p w img s work t (ap isIdle (x .at-rest)))
+  late-call (swaps {w} {img} {s} {work} d left x) u ok p t =
+      (p, refl, ⊎-elim (λ (up : Starts z (t .away) s). absurd (late-busy p w img s work t up (ap isIdle (x .at-rest)))) (λ (lost : Pulled z (t .away) s). pulled-swap p w img s work t lost d left x) (t .waits))
 
-  -- another disk while no state is held: one slot more is behind
-  late-replaced : (p : View Sector) (w : World Sector) (img : List ℕ) (d : ℕ) (left : List ℕ) → Blanked z d img left → (A : ℕ → Bool) (w0 : World Sector) (img0 : List ℕ) → Behind z A w img w0 img0 → Tie z F first p w0 img0 chain.none
-      → Late p (newDisk z w d left) left none
-  late-replaced p w img d left x A w0 img0 b t = record { away = more; w0 = w0; img0 = img0; behind = behind; tie = t; waits = tt }
+  -- another disk: one slot more is behind
+  one-more : (w : World Sector) (img : List ℕ) (d : ℕ) (left : List ℕ) → Blanked z d img left → (A : ℕ → Bool) (w0 : World Sector) (img0 : List ℕ) → Behind z A w img w0 img0 → Behind z (also d A) (newDisk z w d left) left w0 img0
+  one-more w img d left x A w0 img0 b = behind
     where
-      more : ℕ → Bool
-      more e = eqb e d || A e
-
-      not-d : (e : ℕ) → more e ≡ false → (e ≢ d) × (A e ≡ false)
+      not-d : (e : ℕ) → also d A e ≡ false → (e ≢ d) × (A e ≡ false)
       not-d e q = by (eqb e d) refl q
         where
           by : (c : Bool) → eqb e d ≡ c → (c || A e) ≡ false → (e ≢ d) × (A e ≡ false)
           by true u r = absurd (true≢false r)
           by false u r = (eqb-false e d u, r)
 
-      in-more : (e : ℕ) → more e ≡ true → (e ≡ d) ⊎ ((e ≢ d) × (A e ≡ true))
-      in-more e q = by (eqb e d) refl q
-        where
-          by : (c : Bool) → eqb e d ≡ c → (c || A e) ≡ true → (e ≡ d) ⊎ ((e ≢ d) × (A e ≡ true))
-          by true u r = inl (eqb-true e d u)
-          by false u r = inr (eqb-false e d u, r)
-
-      stays : (k : Place) → slot k ≢ d → curOf z left k ≡ curOf z img k
-      stays k n = cur-alike z left img (x .disks) (b .disks) k (λ u i l. x .others (slot k) u i l n)
-
       reads : newDisk z w d left .cur ≡ curOf z left
-      reads = fun-ext (λ k. by k (eqb (slot k) d) refl)
-        where
-          by : (k : Place) (c : Bool) → eqb (slot k) d ≡ c → cond c (curOf z left k) (w .cur k) ≡ curOf z left k
-          by k true e = refl
-          by k false e = ap (λ (f : Image Sector). f k) (b .reads) ∙ sym (stays k (eqb-false (slot k) d e))
+      reads = fun-ext (λ k. new-reads z w img d left (x .disks) (b .disks) (b .reads) (x .others) k)
 
       other-cur : (k : Place) → slot k ≢ d → newDisk z w d left .cur k ≡ w .cur k
       other-cur k n = ap (λ (c : Bool). cond c (curOf z left k) (w .cur k)) (ne-eqb (slot k) d n)
 
-      behind : Behind z more (newDisk z w d left) left w0 img0
+      behind : Behind z (also d A) (newDisk z w d left) left w0 img0
       behind =
           record {
-            inner = λ e q. ⊎-elim (λ (y : e ≡ d). subst (λ (v : ℕ). v < slots z) (sym y) (x .there)) (λ (y : (e ≢ d) × (A e ≡ true)). b .inner e (y .1)) (in-more e q);
+            inner = λ e q. ⊎-elim (λ (y : e ≡ d). subst (λ (v : ℕ). v < slots z) (sym y) (x .there)) (λ (y : (e ≢ d) × (A e ≡ true)). b .inner e (y .1)) (in-also d A e q);
             lags = record {
               reads = λ k q. let y = not-d (slot k) q in other-cur k (y .0) ∙ b .lags .reads k (y .1);
               fewer = λ k v q m. let y = not-d (slot k) q in b .lags .fewer k v (y .1) (m .1 (y .0));
               certain = λ k v q m.
                   ⊎-elim (λ (y : slot k ≡ d). m .0 y ∙ sym (ap (λ (c : Bool). cond c (curOf z left k) (w .cur k)) (eq-eqb (slot k) d y)))
-                  (λ (y : (slot k ≢ d) × (A (slot k) ≡ true)). b .lags .certain k v (y .1) (m .1 (y .0)) ∙ sym (other-cur k (y .0))) (in-more (slot k) q);
+                  (λ (y : (slot k ≢ d) × (A (slot k) ≡ true)). b .lags .certain k v (y .1) (m .1 (y .0)) ∙ sym (other-cur k (y .0))) (in-also d A (slot k) q);
             };
             disks = x .disks;
             reads = reads;
             alike = λ e u i l q. let y = not-d e q in x .others e u i l (y .0) ∙ b .alike e u i l (y .1);
             blank = λ e o q l.
                 ⊎-elim (λ (y : e ≡ d). subst (λ (v : ℕ). copyOf (geometry z) left v o ≡ Nothing) (sym y) (x .blank o (omega (arith, l))))
-                (λ (y : (e ≢ d) × (A e ≡ true)). copy-alike z left img (x .disks) (b .disks) e o (b .inner e (y .1)) l (x .others e o (b .inner e (y .1)) (few-low z o l) (y .0)) ∙ b .blank e o (y .1) l) (in-more e q);
+                (λ (y : (e ≢ d) × (A e ≡ true)). copy-alike z left img (x .disks) (b .disks) e o (b .inner e (y .1)) l (x .others e o (b .inner e (y .1)) (few-low z o l) (y .0)) ∙ b .blank e o (y .1) l) (in-also d A e q);
           }
+
+  -- nothing is behind
+  not-behind : (w : World Sector) (img : List ℕ) (w0 : World Sector) → Lags nowhere w w0 → Disks z img → w0 .cur ≡ curOf z img → Behind z nowhere w img w0 img
+  not-behind w img w0 h d r =
+      record {
+        inner = λ e q. absurd (false≢true q);
+        lags = h;
+        disks = d;
+        reads = fun-ext (λ k. h .reads k refl) ∙ r;
+        alike = λ e u i l q. refl;
+        blank = λ e o q l. absurd (false≢true q);
+      }
+
+  pulled-more : (s : State) (d : ℕ) (A : ℕ → Bool) → s .kind ≡ Idle → looked (geometry z) (s .now) d ≡ false → inMask (s .absent) d ≡ false → ((e : ℕ) → A e ≡ true → looked (geometry z) (s .now) e ≡ false) → ((e : ℕ) → A e ≡ true → inMask (s .absent) e ≡ false)
+      → Pulled z (also d A) s
+  pulled-more s d A k l n out present =
+      record {
+        rests = k;
+        one = d;
+        is-one = ap (λ (c : Bool). c || A d) (eq-eqb d d refl);
+        out = λ e q. ⊎-elim (λ (y : e ≡ d). subst (λ (v : ℕ). looked (geometry z) (s .now) v ≡ false) (sym y) l) (λ (y : (e ≢ d) × (A e ≡ true)). out e (y .1)) (in-also d A e q);
+        present = λ e q. ⊎-elim (λ (y : e ≡ d). subst (λ (v : ℕ). inMask (s .absent) v ≡ false) (sym y) n) (λ (y : (e ≢ d) × (A e ≡ true)). present e (y .1)) (in-also d A e q);
+      }
 
   -- A CALL, OR AN EXCHANGE, KEEPS WHAT IS TOLD, and the view goes on as it may
   pub exchange-bound : {a b : Time} (x : Exchanges z a b) → Allowed z F (sets-exchange x) → (p : View Sector) → StandsAt p a → (q : View Sector) × SawExchange x p q × StandsAt q b
@@ -703,23 +922,44 @@ module _ (z : Shelf) (F : Family z) (first : Machine Sector) where
         p,
         refl,
         inr
-            (late-replaced p w img d left x nowhere (t .0) img
-            (record {
-              inner = λ e q. absurd (false≢true q);
-              lags = t .1;
-              disks = tie .disks;
-              reads = fun-ext (λ k. t .1 .reads k refl) ∙ tie .reads;
-              alike = λ e u i l q. refl;
-              blank = λ e o q l. absurd (false≢true q);
-            }) tie),
+            (record { away = also d nowhere; w0 = t .0; img0 = img; behind = one-more w img d left x nowhere (t .0) img (not-behind w img (t .0) (t .1) (tie .disks) (tie .reads)); tie = tie; waits = tt }),
       )
-  exchange-bound (replaced {w} {img} d left x) ok p (inr t) = (p, refl, inr (late-replaced p w img d left x (t .away) (t .w0) (t .img0) (t .behind) (t .tie)))
+  exchange-bound (replaced {w} {img} d left x) ok p (inr t) =
+      (p, refl, inr (record { away = also d (t .away); w0 = t .w0; img0 = t .img0; behind = one-more w img d left x (t .away) (t .w0) (t .img0) (t .behind); tie = t .tie; waits = tt }))
+  exchange-bound (pulled {w} {img} {s} {work} d left e l n x) ok p (inl t) = (p, refl, by (t .2))
+    where
+      by : Bound z F first p (t .0) img (has s work) → StandsAt p (at (newDisk z w d left) left (has s work))
+      by (inl tie) =
+          inr
+          (record {
+            away = also d nowhere;
+            w0 = t .0;
+            img0 = img;
+            behind = one-more w img d left x nowhere (t .0) img (not-behind w img (t .0) (t .1) (tie .disks) (tie .reads));
+            tie = tie;
+            waits = inr (pulled-more s d nowhere e l n (λ y q. absurd (false≢true q)) (λ y q. absurd (false≢true q)));
+          })
+      by (inr b) = absurd (not-rest z F first p (t .0) img s work b (ap isIdle e))
+  exchange-bound (pulled {w} {img} {s} {work} d left e l n x) ok p (inr t) = (
+    p,
+    refl,
+    inr
+        (record {
+          away = also d (t .away);
+          w0 = t .w0;
+          img0 = t .img0;
+          behind = one-more w img d left x (t .away) (t .w0) (t .img0) (t .behind);
+          tie = t .tie;
+          waits = inr (⊎-elim (λ (up : Starts z (t .away) s). absurd (late-busy p w img s work t up (ap isIdle e))) (λ (lost : Pulled z (t .away) s). pulled-more s d (t .away) e l n (lost .out) (lost .present)) (t .waits));
+        }),
+  )
 
   -- a read shows the view's entry
   stands-reads : (t : Time) (p : View Sector) → StandsAt p t → ReadsAs z t p
   stands-reads (at w img none) p t = tt
   stands-reads (at w img (has s work)) p (inl t) = λ b buf ok. read-right z F first p (t .0) img s b work buf ok (t .2)
-  stands-reads (at w img (has s work)) p (inr t) = λ b buf ok. absurd (late-unread p w img s work t b buf ok)
+  stands-reads (at w img (has s work)) p (inr t) =
+      λ b buf ok. ⊎-elim (λ (up : Starts z (t .away) s). absurd (late-unread p w img s work t up b buf ok)) (λ (lost : Pulled z (t .away) s). pulled-read p w img s work t lost b buf ok) (t .waits)
 
   all-served : {a b : Time} (c : ExchangeChain z a b) → Allowed z F (all-sets c) → (p : View Sector) → StandsAt p a → (q : View Sector) × AllServed c p q × StandsAt q b
   all-served {a} stays ok p t = (p, (refl, stands-reads a p t), t)

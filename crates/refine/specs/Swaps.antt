@@ -36,13 +36,13 @@ use Rattle.refine.specs.Family.{Family, codeIn, sectorsIn}
 use Rattle.refine.specs.Places.{label-inside}
 use Rattle.refine.specs.Places as places
 use Rattle.refine.specs.Disks.{Disks, curOf, cur-bytes, cur-read}
-use Rattle.refine.specs.Merged.{cur-alike}
 use Rattle.refine.specs.Rounds.{beyond-below}
 use Rattle.refine.specs.Steps.{Fair}
 use Rattle.refine.specs.Tied.{ownOf, memoryOf, plain}
 use Rattle.refine.specs.Named.{Named, NamesIn, Names, leftIn}
 use Rattle.refine.specs.Chain.{has, rests, Reached, Tie, happens}
 use Rattle.refine.specs.Holds.{Follows, copy-meant, copy-there, copy-counts}
+use Rattle.refine.specs.Merged.{cur-alike}
 
 -- at rest another disk is put into slot d, which the state calls absent: the image was img and is left then
 pub record Exchanged (z : Shelf) (s : State) (d : ℕ) (img left : List ℕ) : Type 0 where
