@@ -33,7 +33,7 @@ use Rattle.refine.specs.Holds.{Follows}
 use Rattle.refine.specs.Lags.{not-valid, few-low, follows-alike}
 use Rattle.refine.specs.Hosts.{Held, none, has, at}
 use Rattle.refine.specs.HostHolds.{bound-labels, bound-shaped, bound-followed}
-use Rattle.refine.specs.Replaced.{Starts, Pulled, Late, StandsAt, late-cut, late-own, fair, plainly}
+use Rattle.refine.specs.Late.{Starts, Pulled, Late, StandsAt, late-cut, late-own, fair, plainly}
 
 -- what can be followed in one world can be in another
 heard-any : (z : Shelf) (w w0 : World Sector) (a : Answer) (img : List ℕ) (v : World Sector) → Heard z w0 a img v → (w' : World Sector) × Heard z w a img w'

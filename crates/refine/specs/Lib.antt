@@ -47,5 +47,7 @@ pub mod Hosts
 pub mod Reads
 pub mod HostHolds
 pub mod Serves
+pub mod Exchanges
+pub mod Late
 pub mod Replaced
 pub mod ExchangeHolds
