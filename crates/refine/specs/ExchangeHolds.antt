@@ -1,15 +1,18 @@
 -- WHAT CHAINS WITH EXCHANGED DISKS KEEP beside the host's view: no disk names another shelf, and every label has its shape, whatever a cut leaves; a step can be followed; a start-up under way is carried
--- out by its steps. Assumes nothing.
-use mathlib.Core.Path.{_≡_, refl, sym, subst, _∙_}
+-- out by its steps; and which start-ups are refused. Assumes nothing.
+use mathlib.Core.Path.{_≡_, refl, sym, ap, subst, _∙_}
 use mathlib.Core.Logic.{⊎-elim, inl, inr}
-use mathlib.Core.Bool.{Bool, true, false}
+use mathlib.Core.Bool.{Bool, true, false, true≢false}
 use mathlib.Core.List.{List, []}
 use Prim.Native.Nat.{ℕ, _<_}
 use native.Mathlib.Omega.{arith}
 use lib.ListN.{length}
+use Rattle.disk.specs.Mask.{inMask}
+use Rattle.disk.specs.declared.refusal.Refusal.the-variants.{NoLabel}
 use Rattle.label.specs.Newest.{copyOf}
 use Rattle.label.specs.declared.fields.Label as bytes
 use Rattle.label.specs.declared.codec.Decoded.the-variants.{Valid}
+use Rattle.rounds.specs.declared.plan.Survey.{Survey}
 use Rattle.protocol.specs.World.{World, put, flush, act, after, Possible, Sane}
 use Rattle.protocol.specs.Machine.{Machine, View}
 use Rattle.codecs.specs.Sector.{Sector}
@@ -21,7 +24,8 @@ use Rattle.shelf.specs.declared.state.State.{State}
 use Rattle.shelf.specs.declared.state.Kind.the-variants.{Idle}
 use Rattle.shelf.specs.declared.state.Answer.{Answer}
 use Rattle.shelf.specs.declared.state.Answer.the-variants as answer
-use Rattle.requests.specs.Begun.{workBytes}
+use Rattle.requests.specs.Begun.{workBytes, refused}
+use Rattle.requests.specs.Start.{bySurvey, startOf}
 use Rattle.requests.specs.Step.{otherWork, stepWith, step-short, step-goes}
 use Rattle.refine.specs.Family.{Family}
 use Rattle.refine.specs.Disks.{Disks, curOf}
@@ -30,10 +34,13 @@ use Rattle.refine.specs.Tied.{fair-work, step-tied}
 use Rattle.refine.specs.Ends.{EndsAfter, request-ends}
 use Rattle.refine.specs.Chain.{Heard, off, step-rests, heard-by}
 use Rattle.refine.specs.Holds.{Follows}
-use Rattle.refine.specs.Lags.{not-valid, few-low, follows-alike}
+use Rattle.refine.specs.Merged.{read-alike}
+use Rattle.refine.specs.Lags.{not-valid, unlabelled, few-low, follows-alike}
+use Rattle.refine.specs.Blind.{start-blind}
 use Rattle.refine.specs.Hosts.{Held, none, has, at}
 use Rattle.refine.specs.HostHolds.{bound-labels, bound-shaped, bound-followed}
-use Rattle.refine.specs.Late.{Starts, Pulled, Late, StandsAt, late-cut, late-own, fair, plainly}
+use Rattle.refine.specs.Exchanges.{Blanked}
+use Rattle.refine.specs.Late.{same-length, Starts, Pulled, Late, StandsAt, late-cut, late-own, fair, plainly}
 
 -- what can be followed in one world can be in another
 heard-any : (z : Shelf) (w w0 : World Sector) (a : Answer) (img : List ℕ) (v : World Sector) → Heard z w0 a img v → (w' : World Sector) × Heard z w a img w'
@@ -41,6 +48,16 @@ heard-any z w w0 (answer.Put d to) img v (k, i, s, t, e) = (act w (put k (curOf 
 heard-any z w w0 (answer.Flush d) img v e = (act w (flush d), refl)
 heard-any z w w0 answer.Done img v e = (w, refl)
 heard-any z w w0 (answer.Refused why) img v e = (w, refl)
+
+-- ONCE A DISK IS EXCHANGED for one without a label, a start-up that calls its slot absent answers as it would have with the old one, and one that does not is refused
+module _ (z : Shelf) (d : ℕ) (img left : List ℕ) (old : Disks z img) (x : Blanked z d img left) (s : State) (absent room : ℕ) where
+  pub starts-without : inMask absent d ≡ true → startOf s (geometry z) absent left room ≡ startOf s (geometry z) absent img room
+  starts-without a =
+      start-blind s (geometry z) absent room left img
+      (record { lengths = same-length z left img (x .disks) old; sectors = λ e u i l n. read-alike z left img (x .disks) old e u i l (x .others e u i l (λ q. true≢false (sym a ∙ (ap (inMask absent) (sym q) ∙ n)))) })
+
+  pub not-started-with : inMask absent d ≡ false → startOf s (geometry z) absent left room ≡ refused s NoLabel
+  not-started-with a = ap (λ (v : Survey). bySurvey v s (geometry z) absent left room) (unlabelled z left (x .disks) absent d (x .there) a (x .blank))
 
 module _ (z : Shelf) (F : Family z) (first : Machine Sector) (p : View Sector) (w : World Sector) (img : List ℕ) where
   module _ (h : Held) (left : List ℕ) (here : Disks z left) (possible : Possible w (curOf z left)) where

@@ -67,7 +67,7 @@ use Rattle.refine.specs.Other.{create-late}
 use Rattle.refine.specs.Chain.{Reached, step-rests, Heard, Allowed, Tie, blocks, fresh}
 use Rattle.refine.specs.Chain as chain
 use Rattle.refine.specs.Merged.{slotFrom, disk-of, disk-here, disk-other, cur-alike, copy-alike}
-use Rattle.refine.specs.Swaps.{Exchanged, newDisk, swap-kept}
+use Rattle.refine.specs.Swaps.{Exchanged, newDisk, new-reads, swap-kept}
 use Rattle.refine.specs.Lags.{follows-alike, bare, Lags, nowhere, Behind, not-valid, few-low}
 use Rattle.refine.specs.Sees.{sectorsOf}
 use Rattle.refine.specs.Mends.{may-whole, asked-refused}
@@ -87,15 +87,6 @@ in-also d A e q = by (eqb e d) refl q
     by : (c : Bool) → eqb e d ≡ c → (c || A e) ≡ true → (e ≡ d) ⊎ ((e ≢ d) × (A e ≡ true))
     by true u r = inl (eqb-true e d u)
     by false u r = inr (eqb-false e d u, r)
-
--- what is read once another disk is in slot d
-new-reads : (z : Shelf) (w : World Sector) (img : List ℕ) (d : ℕ) (left : List ℕ) → Disks z left → Disks z img → w .cur ≡ curOf z img
-    → ((e i : ℕ) → e < slots z → i < z .sectors → e ≢ d → sector (z .sectors) left e i ≡ sector (z .sectors) img e i) → (k : Place) → newDisk z w d left .cur k ≡ curOf z left k
-new-reads z w img d left dl di reads others k = by (eqb (slot k) d) refl
-  where
-    by : (c : Bool) → eqb (slot k) d ≡ c → cond c (curOf z left k) (w .cur k) ≡ curOf z left k
-    by true e = refl
-    by false e = ap (λ (f : Image Sector). f k) reads ∙ sym (cur-alike z left img dl di k (λ u i l. others (slot k) u i l (eqb-false (slot k) d e)))
 
 seen-alike : (z : Shelf) (A : ℕ → Bool) (x y : List ℕ) (k : Place) → curOf z x k ≡ curOf z y k → seenOf z A x k ≡ seenOf z A y k
 unfolding seenOf
@@ -167,7 +158,7 @@ module _ (z : Shelf) (F : Family z) (first : Machine Sector) where
       cur0 k a = cur-alike z left onto0 (x .disks) d0 k (λ u i l. sector0 (slot k) u i l a)
 
       reads0 : newDisk z w d left .cur ≡ curOf z left
-      reads0 = fun-ext (λ k. new-reads z w img d left (x .disks) (t .behind .disks) (t .behind .reads) (x .others) k)
+      reads0 = new-reads z w img d left (x .disks) (t .behind .disks) (t .behind .reads) (x .others)
 
       pulled-swap : StandsAt z F first p (at (newDisk z w d left) left (has s work))
       pulled-swap =
@@ -314,7 +305,7 @@ module _ (z : Shelf) (F : Family z) (first : Machine Sector) where
           by false u r = (eqb-false e d u, r)
 
       reads : newDisk z w d left .cur ≡ curOf z left
-      reads = fun-ext (λ k. new-reads z w img d left (x .disks) (b .disks) (b .reads) (x .others) k)
+      reads = new-reads z w img d left (x .disks) (b .disks) (b .reads) (x .others)
 
       other-cur : (k : Place) → slot k ≢ d → newDisk z w d left .cur k ≡ w .cur k
       other-cur k n = ap (λ (c : Bool). cond c (curOf z left k) (w .cur k)) (ne-eqb (slot k) d n)

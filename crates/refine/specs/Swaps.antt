@@ -60,6 +60,15 @@ pub record Exchanged (z : Shelf) (s : State) (d : ℕ) (img left : List ℕ) : T
 abbrev pub newDisk : Shelf → World Sector → ℕ → List ℕ → World Sector
 newDisk z w d left = with-disk w d (curOf z left)
 
+-- what is read then
+pub new-reads : (z : Shelf) (w : World Sector) (img : List ℕ) (d : ℕ) (left : List ℕ) → Disks z left → Disks z img → w .cur ≡ curOf z img
+    → ((e i : ℕ) → e < slots z → i < z .sectors → e ≢ d → sector (z .sectors) left e i ≡ sector (z .sectors) img e i) → newDisk z w d left .cur ≡ curOf z left
+new-reads z w img d left dl di reads others = fun-ext (λ k. by k (eqb (slot k) d) refl)
+  where
+    by : (k : Place) (c : Bool) → eqb (slot k) d ≡ c → cond c (curOf z left k) (w .cur k) ≡ curOf z left k
+    by k true e = refl
+    by k false e = ap (λ (f : Image Sector). f k) reads ∙ sym (cur-alike z left img dl di k (λ u i l. others (slot k) u i l (eqb-false (slot k) d e)))
+
 -- the two sectors of the label
 two : (b : Bool) → sectorOf b < 2
 two true = omega arith
@@ -98,15 +107,8 @@ module _ (z : Shelf) (F : Family z) (first : Machine Sector) (p : View Sector) (
 
   -- ---- the disks
 
-  other-same : (k : Place) → slot k ≢ d → curOf z left k ≡ curOf z img k
-  other-same k n = cur-alike z left img (x .disks) (t .disks) k (λ u a l. x .others (slot k) u a l n)
-
   reads : w' .cur ≡ curOf z left
-  reads = fun-ext (λ k. by k (eqb (slot k) d) refl)
-    where
-      by : (k : Place) (b : Bool) → eqb (slot k) d ≡ b → cond b (curOf z left k) (w .cur k) ≡ curOf z left k
-      by k true e = refl
-      by k false e = ap (λ (f : Image Sector). f k) (t .reads) ∙ sym (other-same k (eqb-false (slot k) d e))
+  reads = new-reads z w img d left (x .disks) (t .disks) (t .reads) (x .others)
 
   sane : Sane w'
   unfolding Sane Possible
