@@ -11,14 +11,14 @@ use Rattle.label.specs.Bytes.{allZero}
 use Rattle.label.specs.Newest.{copyOf}
 use Rattle.label.specs.declared.codec.Decoded.the-variants.{Nothing}
 use Rattle.redo.specs.Decide.{looked}
-use Rattle.protocol.specs.World.{World}
+use Rattle.protocol.specs.World.{World, after, Possible}
 use Rattle.protocol.specs.Machine.{View}
 use Rattle.codecs.specs.Sector.{Sector}
 use Rattle.codecs.specs.Shelf.{Shelf, slots, geometry}
 use Rattle.shelf.specs.declared.state.State.{State}
 use Rattle.shelf.specs.declared.state.Kind.the-variants.{Idle}
-use Rattle.refine.specs.Disks.{Disks}
-use Rattle.refine.specs.Swaps.{newDisk}
+use Rattle.refine.specs.Disks.{Disks, curOf}
+use Rattle.refine.specs.Swaps.{Exchanged, newDisk}
 use Rattle.refine.specs.Hosts.{none, has, Time, at, HostCalls, creates, starts, creates-late, takes-out, begins, ons, writes, repairs, steps, cut, dies, swaps, sets-call, Saw}
 use Rattle.refine.specs.Serves.{ReadsAs}
 
@@ -51,6 +51,9 @@ pub data Exchanges (z : Shelf) : Time → Time → Type 1 where
   -- at rest, with the state held: slot d is out, but the state does not call it absent (that case is `swaps`). From then on every request but reads is refused, until the shelf is started anew
   pulled : {w : World Sector} {img : List ℕ} {s : State} {work : List ℕ} (d : ℕ) (left : List ℕ) → s .kind ≡ Idle → looked (geometry z) (s .now) d ≡ false → inMask (s .absent) d ≡ false → Blanked z d img left
       → Exchanges z (at w img (has s work)) (at (newDisk z w d left) left (has s work))
+  -- power is lost at rest, and while it is off another disk is put into slot d, which the state called absent: one that `swaps` may put in
+  swapped-off : {w : World Sector} {img : List ℕ} {s : State} {work : List ℕ} (d : ℕ) (left then : List ℕ) → Disks z left → Possible w (curOf z left) → Exchanged z s d left then
+      → Exchanges z (at w img (has s work)) (at (newDisk z (after (curOf z left)) d then) then none)
 
 pub data ExchangeChain (z : Shelf) : Time → Time → Type 1 where
   stays : {a : Time} → ExchangeChain z a a
@@ -60,6 +63,7 @@ abbrev pub sets-exchange : {z : Shelf} {a b : Time} → Exchanges z a b → List
 sets-exchange (calls x n) = sets-call x
 sets-exchange (replaced d left x) = []
 sets-exchange (pulled d left e l n x) = []
+sets-exchange (swapped-off d left then y q x) = []
 
 abbrev pub all-sets : {z : Shelf} {a b : Time} → ExchangeChain z a b → List (ℕ → Bool)
 all-sets stays = []
@@ -70,6 +74,7 @@ abbrev pub SawExchange : {z : Shelf} {a b : Time} → Exchanges z a b → View S
 SawExchange (calls x n) p q = Saw x p q
 SawExchange (replaced d left x) p q = q ≡ p
 SawExchange (pulled d left e l n x) p q = q ≡ p
+SawExchange (swapped-off d left then y u x) p q = q ≡ p
 
 -- the views along a chain: each call changes them as its answer says, and reads show their entries at every moment
 abbrev pub AllServed : {z : Shelf} {a b : Time} → ExchangeChain z a b → View Sector → View Sector → Type 0

@@ -80,6 +80,15 @@ lags-heard z A w w0 (answer.Refused why) img img0 w' h t same e = (w0, refl, sub
 abbrev pub nowhere : ℕ → Bool
 nowhere d = false
 
+-- a world that may hold less lags too
+pub lags-more : (A : ℕ → Bool) (w v w0 : World Sector) → Lags nowhere w v → Lags A v w0 → Lags A w w0
+lags-more A w v w0 l h =
+    record {
+      reads = λ k a. l .reads k refl ∙ h .reads k a;
+      fewer = λ k x a m. h .fewer k x a (l .fewer k x refl m);
+      certain = λ k x a m. h .certain k x a (l .fewer k x refl m) ∙ sym (l .reads k refl);
+    }
+
 module _ (z : Shelf) where
   -- ---- BEHIND: since the program was last at rest the disks of the slots of A were exchanged, and the old ones are told
 

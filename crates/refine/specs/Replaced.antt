@@ -5,7 +5,7 @@
 use mathlib.Core.Path.{_≡_, refl, sym, ap, subst, _∙_, fun-ext}
 use mathlib.Core.Logic.{_⊎_, ⊎-elim, inl, inr, _≢_}
 use mathlib.Core.Bool.{Bool, true, false, cond, not, _||_, true≢false, false≢true}
-use mathlib.Core.List.{List, [], _++_, Memᴰ·append-left, Memᴰ·append-right}
+use mathlib.Core.List.{List, [], List·Memᴰ·not-nil, _++_, Memᴰ·append-left, Memᴰ·append-right}
 use Prim.Native.Nat.{ℕ, _+_, _<_, _/_, _%_}
 use native.Mathlib.Omega.{arith}
 use native.Mathlib.Decide.{ℕ-discrete}
@@ -24,7 +24,8 @@ use Rattle.label.specs.Fields.{geometryOf}
 use Rattle.label.specs.Newest.{copyOf, diskLabel}
 use Rattle.label.specs.declared.codec.Decoded.the-variants.{Valid, Nothing}
 use Rattle.redo.specs.Decide.{looked}
-use Rattle.protocol.specs.World.{Place, slot, Image, World, after, strip}
+use Rattle.protocol.specs.Apart.{same-nat}
+use Rattle.protocol.specs.World.{Possible, Place, slot, Image, World, after, strip}
 use Rattle.protocol.specs.Machine.{Machine, View, sure, list-of}
 use Rattle.protocol.specs.Pairs.{AnyTwo, no-sets}
 use Rattle.protocol.specs.Label as Label
@@ -68,13 +69,13 @@ use Rattle.refine.specs.Chain.{Reached, step-rests, Heard, Allowed, Tie,
 use Rattle.refine.specs.Chain as chain
 use Rattle.refine.specs.Merged.{slotFrom, disk-of, disk-here, disk-other, cur-alike, copy-alike}
 use Rattle.refine.specs.Swaps.{Exchanged, newDisk, new-reads, swap-kept}
-use Rattle.refine.specs.Lags.{follows-alike, bare, Lags, nowhere, Behind, not-valid, few-low}
+use Rattle.refine.specs.Lags.{lags-more, follows-alike, bare, Lags, nowhere, Behind, not-valid, few-low}
 use Rattle.refine.specs.Sees.{sectorsOf}
 use Rattle.refine.specs.Mends.{may-whole, asked-refused}
-use Rattle.refine.specs.Hosts.{rest-dark, none, has, Time, at, held, HostCalls, creates, starts, creates-late, takes-out, begins, ons, writes, repairs, steps, cut, dies, swaps, HostChain, sets-call, sets, SawStep, SawAsked, Saw, Bound, BoundAt, loose-tie, not-rest, rest-of, call-bound}
+use Rattle.refine.specs.Hosts.{Held, loose, rest-dark, none, has, Time, at, held, HostCalls, creates, starts, creates-late, takes-out, begins, ons, writes, repairs, steps, cut, dies, swaps, HostChain, sets-call, sets, SawStep, SawAsked, Saw, Bound, BoundAt, loose-tie, not-rest, rest-of, call-bound}
 use Rattle.refine.specs.Reads.{in-k, shown-read, read-right}
 use Rattle.refine.specs.Serves.{ReadsAs, Served, served-bound}
-use Rattle.refine.specs.Exchanges.{Blanked, NotAnew, Exchanges, calls, replaced, pulled, ExchangeChain, stays, goes-on, sets-exchange, all-sets, SawExchange, AllServed}
+use Rattle.refine.specs.Exchanges.{Blanked, NotAnew, Exchanges, calls, replaced, pulled, swapped-off, ExchangeChain, stays, goes-on, sets-exchange, all-sets, SawExchange, AllServed}
 use Rattle.refine.specs.Late.{told, LagsAt, retell, Starts, Pulled, handOf, same-length, Late, LateAt, StandsAt, late-cut, late-start, late-step, late-busy, late-unread}
 
 -- one slot more
@@ -91,6 +92,32 @@ in-also d A e q = by (eqb e d) refl q
 seen-alike : (z : Shelf) (A : ℕ → Bool) (x y : List ℕ) (k : Place) → curOf z x k ≡ curOf z y k → seenOf z A x k ≡ seenOf z A y k
 unfolding seenOf
 seen-alike z A x y k e = ap (cond (A (slot k)) zeros) e
+
+-- the same disk put into the slot of another image
+module _ (z : Shelf) (s : State) (d : ℕ) (img left : List ℕ) (x : Exchanged z s d img left) (base : List ℕ) (disks : Disks z base) where
+  abbrev onto : List ℕ
+  onto = slotFrom z d left base (z .sectors)
+
+  onto-disks : Disks z onto
+  onto-disks = disk-of z d (x .there) left base (x .disks) disks
+
+  onto-here : (u : ℕ) → u < z .sectors → sector (z .sectors) onto d u ≡ sector (z .sectors) left d u
+  onto-here = disk-here z d (x .there) left base (x .disks) disks
+
+  onto-other : (e u : ℕ) → e < slots z → u < z .sectors → e ≢ d → sector (z .sectors) onto e u ≡ sector (z .sectors) base e u
+  onto-other = disk-other z d (x .there) left base (x .disks) disks
+
+  onto-swap : Exchanged z s d base onto
+  onto-swap =
+      record {
+        at-rest = x .at-rest;
+        there = x .there;
+        absent = x .absent;
+        disks = onto-disks;
+        others = onto-other;
+        older = λ o a l q. x .older o a l (sym (copy-alike z onto left onto-disks (x .disks) d o (x .there) l (onto-here o (few-low z o l))) ∙ q);
+        shape = follows-alike z onto left onto-disks (x .disks) d (x .there) (λ o l. onto-here o (few-low z o l)) (x .shape);
+      }
 
 module _ (z : Shelf) (F : Family z) (first : Machine Sector) where
   -- ---- AT REST, with slots behind that are out but not called absent
@@ -118,31 +145,13 @@ module _ (z : Shelf) (F : Family z) (first : Machine Sector) where
     -- a disk that is exchanged in a slot that is called absent is told at once
     module _ (d : ℕ) (left : List ℕ) (x : Exchanged z s d img left) where
       abbrev onto0 : List ℕ
-      onto0 = slotFrom z d left (t .img0) (z .sectors)
+      onto0 = onto z s d img left x (t .img0) (t .tie .disks)
 
       d0 : Disks z onto0
-      d0 = disk-of z d (x .there) left (t .img0) (x .disks) (t .tie .disks)
-
-      here0 : (u : ℕ) → u < z .sectors → sector (z .sectors) onto0 d u ≡ sector (z .sectors) left d u
-      here0 = disk-here z d (x .there) left (t .img0) (x .disks) (t .tie .disks)
-
-      copy0 : (o : ℕ) → o < 2 → copyOf (geometry z) onto0 d o ≡ copyOf (geometry z) left d o
-      copy0 o l = copy-alike z onto0 left d0 (x .disks) d o (x .there) l (here0 o (few-low z o l))
-
-      exchange0 : Exchanged z s d (t .img0) onto0
-      exchange0 =
-          record {
-            at-rest = x .at-rest;
-            there = x .there;
-            absent = x .absent;
-            disks = d0;
-            others = disk-other z d (x .there) left (t .img0) (x .disks) (t .tie .disks);
-            older = λ o a l q. x .older o a l (sym (copy0 o l) ∙ q);
-            shape = follows-alike z onto0 left d0 (x .disks) d (x .there) (λ o l. here0 o (few-low z o l)) (x .shape);
-          }
+      d0 = onto-disks z s d img left x (t .img0) (t .tie .disks)
 
       tie0 : Tie z F first p (newDisk z (t .w0) d onto0) onto0 (chain.has s)
-      tie0 = swap-kept z F first p (t .w0) (t .img0) s d onto0 exchange0 (t .tie)
+      tie0 = swap-kept z F first p (t .w0) (t .img0) s d onto0 (onto-swap z s d img left x (t .img0) (t .tie .disks)) (t .tie)
 
       not-away : (e : ℕ) → t .away e ≡ true → e ≢ d
       not-away e a q = true≢false (sym (subst (λ (y : ℕ). inMask (s .absent) y ≡ true) (sym q) (x .absent)) ∙ lost .present e a)
@@ -151,8 +160,8 @@ module _ (z : Shelf) (F : Family z) (first : Machine Sector) where
       sector0 e u i l a = by (ℕ-discrete e d)
         where
           by : Dec (e ≡ d) → sector (z .sectors) left e u ≡ sector (z .sectors) onto0 e u
-          by (yes q) = subst (λ (y : ℕ). sector (z .sectors) left y u ≡ sector (z .sectors) onto0 y u) (sym q) (sym (here0 u l))
-          by (no q) = x .others e u i l q ∙ t .behind .alike e u i l a ∙ sym (disk-other z d (x .there) left (t .img0) (x .disks) (t .tie .disks) e u i l q)
+          by (yes q) = subst (λ (y : ℕ). sector (z .sectors) left y u ≡ sector (z .sectors) onto0 y u) (sym q) (sym (onto-here z s d img left x (t .img0) (t .tie .disks) u l))
+          by (no q) = x .others e u i l q ∙ t .behind .alike e u i l a ∙ sym (onto-other z s d img left x (t .img0) (t .tie .disks) e u i l q)
 
       cur0 : (k : Place) → t .away (slot k) ≡ false → curOf z left k ≡ curOf z onto0 k
       cur0 k a = cur-alike z left onto0 (x .disks) d0 k (λ u i l. sector0 (slot k) u i l a)
@@ -352,13 +361,74 @@ module _ (z : Shelf) (F : Family z) (first : Machine Sector) where
         present = λ e q. ⊎-elim (λ (y : e ≡ d). subst (λ (v : ℕ). inMask (s .absent) v ≡ false) (sym y) n) (λ (y : (e ≢ d) × (A e ≡ true)). present e (y .1)) (in-also d A e q);
       }
 
-  -- A CALL, OR AN EXCHANGE, KEEPS WHAT IS TOLD, and the view goes on as it may
-  pub exchange-bound : {a b : Time} (x : Exchanges z a b) → Allowed z F (sets-exchange x) → (p : View Sector) → StandsAt z F first p a → (q : View Sector) × SawExchange x p q × StandsAt z F first q b
-  exchange-bound (calls x n) ok p (inl t) =
+  -- the image is one of this shelf
+  stands-disks : (p : View Sector) (w : World Sector) (img : List ℕ) (h : Held) → StandsAt z F first p (at w img h) → Disks z img
+  stands-disks p w img h (inl t) = loose z F first p (t .0) img h (t .2) .disks
+  stands-disks p w img h (inr t) = t .behind .disks
+
+  -- a world that may hold less after a cut
+  stands-less : (p : View Sector) (w v : World Sector) (img : List ℕ) (h : Held) → Lags nowhere w v → StandsAt z F first p (at v img h) → StandsAt z F first p (at w img h)
+  stands-less p w v img h l (inl t) = inl (t .0, lags-more nowhere w v (t .0) l (t .1), t .2)
+  stands-less p w v img h l (inr t) =
+      inr
+      (record {
+        away = t .away;
+        w0 = t .w0;
+        img0 = t .img0;
+        behind = record {
+          inner = t .behind .inner;
+          lags = lags-more (t .away) w v (t .w0) l (t .behind .lags);
+          disks = t .behind .disks;
+          reads = fun-ext (λ k. l .reads k refl) ∙ t .behind .reads;
+          alike = t .behind .alike;
+          blank = t .behind .blank;
+        };
+        tie = t .tie;
+        waits = t .waits;
+      })
+
+  -- an exchange while power is off is one before the cut
+  module _ (w : World Sector) (img : List ℕ) (disks : Disks z img) (s : State) (d : ℕ) (left then : List ℕ) (y : Disks z left) (possible : Possible w (curOf z left)) (x : Exchanged z s d left then) where
+    abbrev first-left : List ℕ
+    first-left = onto z s d left then x img disks
+
+    then-other : (k : Place) → slot k ≢ d → curOf z then k ≡ curOf z left k
+    then-other k n = cur-alike z then left (x .disks) y k (λ u i l. x .others (slot k) u i l n)
+
+    then-here : (k : Place) → slot k ≡ d → curOf z then k ≡ curOf z first-left k
+    then-here k q =
+        cur-alike z then first-left (x .disks) (onto-disks z s d left then x img disks) k (λ u i l. subst (λ (e : ℕ). sector (z .sectors) then e u ≡ sector (z .sectors) first-left e u) (sym q) (sym (onto-here z s d left then x img disks u l)))
+
+    then-possible : Possible (newDisk z w d first-left) (curOf z then)
+    unfolding Possible
+    then-possible k = (then-here k, λ n. subst (w .may k) (sym (then-other k n)) (possible k))
+
+    then-less : Lags nowhere (newDisk z (after (curOf z left)) d then) (after (curOf z then))
+    unfolding after
+    then-less =
+        record {
+          reads = λ k a. ap (λ (f : Image Sector). f k) (new-reads z (after (curOf z left)) left d then (x .disks) y refl (x .others));
+          fewer = λ k v a m. ⊎-elim (λ (q : slot k ≡ d). m .0 q) (λ (n : slot k ≢ d). m .1 n ∙ sym (then-other k n)) (same-nat (slot k) d);
+          certain = λ k v a m. absurd (false≢true a);
+        }
+
+  -- a call
+  calls-bound : {a b : Time} (x : HostCalls z a b) → NotAnew x → Allowed z F (sets-call x) → (p : View Sector) → StandsAt z F first p a → (q : View Sector) × Saw x p q × StandsAt z F first q b
+  calls-bound x n ok p (inl t) =
       let y = retell z x (t .0) (t .1) in
       let r = call-bound z F first (y .call) (subst (Allowed z F) (sym (y .same-sets)) ok) p (t .2) in
       (r .0, y .saw p (r .0) (r .1), inl (y .world, y .lags, r .2))
-  exchange-bound (calls x n) ok p (inr t) = late-call x n ok p t
+  calls-bound x n ok p (inr t) = late-call x n ok p t
+
+  -- A CALL, OR AN EXCHANGE, KEEPS WHAT IS TOLD, and the view goes on as it may
+  pub exchange-bound : {a b : Time} (x : Exchanges z a b) → Allowed z F (sets-exchange x) → (p : View Sector) → StandsAt z F first p a → (q : View Sector) × SawExchange x p q × StandsAt z F first q b
+  exchange-bound (calls x n) ok p t = calls-bound x n ok p t
+  exchange-bound (swapped-off {w} {img} {s} {work} d left then y u x) ok p t =
+      let i = stands-disks p w img (has s work) t in
+      let a = calls-bound (swaps {w = w} {img = img} {s = s} {work = work} d (first-left w img i s d left then y u x) (onto-swap z s d left then x img i)) tt (λ e m. absurd (List·Memᴰ·not-nil m)) p t in
+      let b =
+      calls-bound (cut {w = newDisk z w d (first-left w img i s d left then y u x)} {img = first-left w img i s d left then y u x} {h = has s work} then (x .disks) (then-possible w img i s d left then y u x)) tt (λ e m. absurd (List·Memᴰ·not-nil m)) (a .0) (a .2) in
+      (b .0, b .1 ∙ a .1, stands-less (b .0) (newDisk z (after (curOf z left)) d then) (after (curOf z then)) then none (then-less w img i s d left then y u x) (b .2))
   exchange-bound (replaced {w} {img} d left x) ok p (inl t) =
       let tie : Tie z F first p (t .0) img chain.none = t .2 in (
         p,
