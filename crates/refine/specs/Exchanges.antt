@@ -48,7 +48,7 @@ NotAnew (swaps d left x) = Unit {0}
 pub data Exchanges (z : Shelf) : Time → Time → Type 1 where
   calls : {a b : Time} (x : HostCalls z a b) → NotAnew x → Exchanges z a b
   replaced : {w : World Sector} {img : List ℕ} (d : ℕ) (left : List ℕ) → Blanked z d img left → Exchanges z (at w img none) (at (newDisk z w d left) left none)
-  -- at rest, with the state held: slot d is out, but the state does not call it absent (that case is `swaps`). From then on every request but reads is refused, until the shelf is started anew
+  -- at rest, with the state held: slot d is out, but the state does not call it absent (that case is `swaps`). From then on every request that would change something is refused, until the shelf is started anew
   pulled : {w : World Sector} {img : List ℕ} {s : State} {work : List ℕ} (d : ℕ) (left : List ℕ) → s .kind ≡ Idle → looked (geometry z) (s .now) d ≡ false → inMask (s .absent) d ≡ false → Blanked z d img left
       → Exchanges z (at w img (has s work)) (at (newDisk z w d left) left (has s work))
   -- power is lost at rest, and while it is off another disk is put into slot d, which the state called absent: one that `swaps` may put in

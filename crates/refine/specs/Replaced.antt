@@ -1,6 +1,6 @@
 -- DISKS EXCHANGED WHILE NO PROGRAM RUNS: any disk of the shelf, of a slot that was healthy, out or absent, may be exchanged for one that holds no valid label; a fresh one, say. A start-up that does not
 -- call such a slot absent is refused, and one that does never looks at it. So the disk may as well have been exchanged when that start-up came to rest (Swaps): until then the old disk is told to be
--- there still. And so it is at rest, with a slot that is out but not called absent: every request but reads is refused then, until the shelf is started anew, and reads do not look at the slot.
+-- there still. And so it is at rest, with a slot that is out but not called absent: every request that would change something is refused then, until the shelf is started anew, and reads do not look at the slot.
 -- So the host's view goes on as without the exchange, and every read shows it. Nothing else is asked of the caller than in Hosts, but that create is not called on an image of zeros any more. Assumes nothing.
 use mathlib.Core.Path.{_≡_, refl, sym, ap, subst, _∙_, fun-ext}
 use mathlib.Core.Logic.{_⊎_, ⊎-elim, inl, inr, _≢_}
