@@ -55,12 +55,12 @@ use Rattle.shards.specs.Even.{any-code, any-sectors, ShelfRuns}
 use Rattle.shelf.specs.Act.{Move, refuses}
 use Rattle.shelf.specs.Step.{underWay, sound, walk, stepMove, finished}
 use Rattle.shelf.specs.Step as Step
-use Rattle.shelf.specs.Limits.{mostStages}
-use Rattle.shelf.specs.declared.state.State.{State}
-use Rattle.shelf.specs.declared.state.Kind.{Kind}
-use Rattle.shelf.specs.declared.state.Kind.the-variants.{Nothing, Idle, Creating, Starting, Labelling, Writing, Beginning, Filling}
-use Rattle.shelf.specs.declared.state.Answer.{Answer}
-use Rattle.shelf.specs.declared.state.Answer.the-variants as answer
+use Rattle.stages.specs.Limits.{mostStages}
+use Rattle.stages.specs.declared.state.State.{State}
+use Rattle.stages.specs.declared.state.Kind.{Kind}
+use Rattle.stages.specs.declared.state.Kind.the-variants.{Nothing, Idle, Creating, Starting, Labelling, Writing, Beginning, Filling}
+use Rattle.stages.specs.declared.state.Answer.{Answer}
+use Rattle.stages.specs.declared.state.Answer.the-variants as answer
 use Rattle.requests.specs.Begun.{workBytes, begun}
 use Rattle.requests.specs.Create.{createAnswer, created, createOf}
 use Rattle.requests.specs.Start.{started, bySurvey, startOf}

@@ -20,10 +20,10 @@ use Rattle.codecs.specs.Shelf.{Shelf, slots, geometry}
 use Rattle.codecs.specs.Labels.{ours}
 use Rattle.shelf.specs.Act.{Move}
 use Rattle.shelf.specs.Step.{stepMove}
-use Rattle.shelf.specs.declared.state.State.{State}
-use Rattle.shelf.specs.declared.state.Kind.the-variants.{Idle}
-use Rattle.shelf.specs.declared.state.Answer.{Answer}
-use Rattle.shelf.specs.declared.state.Answer.the-variants as answer
+use Rattle.stages.specs.declared.state.State.{State}
+use Rattle.stages.specs.declared.state.Kind.the-variants.{Idle}
+use Rattle.stages.specs.declared.state.Answer.{Answer}
+use Rattle.stages.specs.declared.state.Answer.the-variants as answer
 use Rattle.requests.specs.Begun.{workBytes, refused}
 use Rattle.requests.specs.Start.{bySurvey, startOf}
 use Rattle.requests.specs.Step.{otherWork, stepWith, step-short, step-goes}

@@ -15,8 +15,8 @@ use Rattle.protocol.specs.World.{World, after, Possible}
 use Rattle.protocol.specs.Machine.{View}
 use Rattle.codecs.specs.Sector.{Sector}
 use Rattle.codecs.specs.Shelf.{Shelf, slots, geometry}
-use Rattle.shelf.specs.declared.state.State.{State}
-use Rattle.shelf.specs.declared.state.Kind.the-variants.{Idle}
+use Rattle.stages.specs.declared.state.State.{State}
+use Rattle.stages.specs.declared.state.Kind.the-variants.{Idle}
 use Rattle.refine.specs.Disks.{Disks, curOf}
 use Rattle.refine.specs.Swaps.{Exchanged, newDisk}
 use Rattle.refine.specs.Hosts.{none, has, Time, at, HostCalls, creates, starts, creates-late, takes-out, begins, ons, writes, repairs, steps, cut, dies, swaps, sets-call, Saw}

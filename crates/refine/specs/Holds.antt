@@ -50,14 +50,14 @@ use Rattle.codecs.specs.Media.{stamps}
 use Rattle.shards.specs.Quorum.{fewOf}
 use Rattle.shards.specs.Strips.{zeros-in}
 use Rattle.shards.specs.Even.{any-code}
-use Rattle.shelf.specs.declared.state.State.{State}
-use Rattle.shelf.specs.declared.state.Kind.the-variants.{Nothing, Idle, Creating, Starting, Labelling, Writing, Beginning, Filling}
-use Rattle.shelf.specs.declared.state.Kind.{Kind}
-use Rattle.shelf.specs.State.{rested}
+use Rattle.stages.specs.declared.state.State.{State}
+use Rattle.stages.specs.declared.state.Kind.the-variants.{Nothing, Idle, Creating, Starting, Labelling, Writing, Beginning, Filling}
+use Rattle.stages.specs.declared.state.Kind.{Kind}
+use Rattle.stages.specs.State.{rested}
 use Rattle.shelf.specs.Act.{Move, refuses}
-use Rattle.shelf.specs.declared.state.Stepped.{Stepped}
-use Rattle.shelf.specs.declared.state.Answer.{Answer}
-use Rattle.shelf.specs.declared.state.Answer.the-variants as answer
+use Rattle.stages.specs.declared.state.Stepped.{Stepped}
+use Rattle.stages.specs.declared.state.Answer.{Answer}
+use Rattle.stages.specs.declared.state.Answer.the-variants as answer
 use Rattle.requests.specs.Begun.{workBytes, begun}
 use Rattle.requests.specs.Create.{shardsFit, shelfFits, createAnswer, created, createOf}
 use Rattle.requests.specs.Start.{bySurvey, startOf}

@@ -25,8 +25,8 @@ use Rattle.codecs.specs.Media.{stamps}
 use Rattle.shards.specs.Even.{any-code}
 use Rattle.shelf.specs.Act.{Move, refuses}
 use Rattle.shelf.specs.Step.{stepMove}
-use Rattle.shelf.specs.declared.state.State.{State}
-use Rattle.shelf.specs.declared.state.Kind.the-variants.{Idle}
+use Rattle.stages.specs.declared.state.State.{State}
+use Rattle.stages.specs.declared.state.Kind.the-variants.{Idle}
 use Rattle.requests.specs.Step.{otherWork, stepWith, step-short, step-goes}
 use Rattle.requests.specs.Ready.{isIdle}
 use Rattle.refine.specs.Family.{Family, codeIn, sectorsIn, KeepsIn, sound-in}

@@ -31,11 +31,11 @@ use Rattle.codecs.specs.Labels.{fieldsOf, noLabel, ours, labelOf}
 use Rattle.shards.specs.Even.{any-code}
 use Rattle.shelf.specs.Act.{Move, refuses}
 use Rattle.shelf.specs.Step.{stepMove, finished}
-use Rattle.shelf.specs.declared.state.State.{State}
-use Rattle.shelf.specs.declared.state.Kind.{Kind}
-use Rattle.shelf.specs.declared.state.Kind.the-variants.{Nothing, Idle, Creating, Starting, Labelling, Writing, Beginning, Filling}
-use Rattle.shelf.specs.declared.state.Answer.{Answer}
-use Rattle.shelf.specs.declared.state.Answer.the-variants as answer
+use Rattle.stages.specs.declared.state.State.{State}
+use Rattle.stages.specs.declared.state.Kind.{Kind}
+use Rattle.stages.specs.declared.state.Kind.the-variants.{Nothing, Idle, Creating, Starting, Labelling, Writing, Beginning, Filling}
+use Rattle.stages.specs.declared.state.Answer.{Answer}
+use Rattle.stages.specs.declared.state.Answer.the-variants as answer
 use Rattle.requests.specs.Begun.{workBytes, begun}
 use Rattle.requests.specs.Create.{createOf}
 use Rattle.requests.specs.Start.{startOf}
@@ -49,7 +49,7 @@ use Rattle.rebuilds.specs.On.{onAnswer, wentOn, onOf}
 use Rattle.blocks.specs.Slots.{tooFew}
 use Rattle.blocks.specs.Answers.{sizes, blockAnswer, first-done, answered-done}
 use Rattle.blocks.specs.Write.{stampLeft, writeAnswer, Written, AfterWrite, write-done}
-use Rattle.scrubs.specs.Repair.{mayRepair, Repairs, repair-refused}
+use Rattle.blocks.specs.Repair.{mayRepair, Repairs, repair-refused}
 use Rattle.refine.specs.Given.{shelf-geometry}
 use Rattle.refine.specs.Family.{Family, sound-in}
 use Rattle.refine.specs.Disks.{Disks, curOf}

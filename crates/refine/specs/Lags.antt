@@ -26,9 +26,9 @@ use Rattle.codecs.specs.Sector.{Sector}
 use Rattle.codecs.specs.Shelf.{Shelf, slots, geometry, limits}
 use Rattle.codecs.specs.Labels.{sectorOf}
 use Rattle.shelf.specs.Laws.{Legal}
-use Rattle.shelf.specs.declared.state.State.{State}
-use Rattle.shelf.specs.declared.state.Answer.{Answer}
-use Rattle.shelf.specs.declared.state.Answer.the-variants as answer
+use Rattle.stages.specs.declared.state.State.{State}
+use Rattle.stages.specs.declared.state.Answer.{Answer}
+use Rattle.stages.specs.declared.state.Answer.the-variants as answer
 use Rattle.refine.specs.Places.{label-inside}
 use Rattle.refine.specs.Places as places
 use Rattle.refine.specs.Disks.{Disks, curOf, image-fits, cur-read}

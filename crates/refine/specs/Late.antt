@@ -33,12 +33,12 @@ use Rattle.codecs.specs.Labels.{ours}
 use Rattle.shelf.specs.Act.{Move}
 use Rattle.shelf.specs.Step.{stepMove, finished}
 use Rattle.shelf.specs.Laws.{Legal, Agree, step-one, step-blind, step-agrees}
-use Rattle.shelf.specs.declared.state.State.{State}
-use Rattle.shelf.specs.declared.state.Stepped.{Stepped}
-use Rattle.shelf.specs.declared.state.Kind.{Kind}
-use Rattle.shelf.specs.declared.state.Kind.the-variants.{Idle, Creating, Starting, Labelling, Writing, Beginning, Filling}
-use Rattle.shelf.specs.declared.state.Kind.the-variants as kind
-use Rattle.shelf.specs.declared.state.Answer.the-variants as answer
+use Rattle.stages.specs.declared.state.State.{State}
+use Rattle.stages.specs.declared.state.Stepped.{Stepped}
+use Rattle.stages.specs.declared.state.Kind.{Kind}
+use Rattle.stages.specs.declared.state.Kind.the-variants.{Idle, Creating, Starting, Labelling, Writing, Beginning, Filling}
+use Rattle.stages.specs.declared.state.Kind.the-variants as kind
+use Rattle.stages.specs.declared.state.Answer.the-variants as answer
 use Rattle.requests.specs.Begun.{workBytes, accepted, refused}
 use Rattle.requests.specs.Start.{started, bySurvey, startOf}
 use Rattle.requests.specs.Step.{otherWork, stepWith, step-short, step-goes}

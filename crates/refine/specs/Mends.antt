@@ -40,9 +40,10 @@ use Rattle.views.specs.Whole.{parity-many, mend-finds}
 use Rattle.requests.specs.Begun.{begun, first}
 use Rattle.requests.specs.Ready.{isIdle, readyOf}
 use Rattle.requests.specs.declared.begun.Begun.{Begun}
-use Rattle.scrubs.specs.Slots.{missingAt, missing, tooFew, noneMissing, allSlots, none-lost}
-use Rattle.scrubs.specs.Answers.{stripeAnswer, first-done, answered-done}
-use Rattle.scrubs.specs.Repair.{stampLeft, mayRepair, mendAnswer, mended, RepairedOf, Repairs}
+use Rattle.blocks.specs.Slots.{missingAt, missing, tooFew, noneMissing, allSlots, none-lost}
+use Rattle.blocks.specs.Answers.{stripeAnswer, first-done, answered-done}
+use Rattle.blocks.specs.Write.{stampLeft}
+use Rattle.blocks.specs.Repair.{mayRepair, mendAnswer, mended, RepairedOf, Repairs}
 use Rattle.shelf.specs.declared.state.State.{State}
 use Rattle.refine.specs.Given.{shelf-geometry}
 use Rattle.refine.specs.Places.{sectorOf, strip-is-inside}

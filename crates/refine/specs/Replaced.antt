@@ -38,10 +38,10 @@ use Rattle.codecs.specs.Records.{records, stripBytes}
 use Rattle.shards.specs.Even.{any-code}
 use Rattle.shards.specs.Exact.{blocks-blind}
 use Rattle.shelf.specs.Act.{Move, named}
-use Rattle.shelf.specs.declared.state.State.{State}
-use Rattle.shelf.specs.declared.state.Kind.{Kind}
-use Rattle.shelf.specs.declared.state.Kind.the-variants.{Idle}
-use Rattle.shelf.specs.declared.state.Answer.the-variants as answer
+use Rattle.stages.specs.declared.state.State.{State}
+use Rattle.stages.specs.declared.state.Kind.{Kind}
+use Rattle.stages.specs.declared.state.Kind.the-variants.{Idle}
+use Rattle.stages.specs.declared.state.Answer.the-variants as answer
 use Rattle.requests.specs.Begun.{begun}
 use Rattle.requests.specs.Create.{created}
 use Rattle.requests.specs.TakeOut.{takeAnswer, tookOut}
@@ -54,7 +54,7 @@ use Rattle.rebuilds.specs.On.{onAnswer, wentOn}
 use Rattle.blocks.specs.Answers.{first-done}
 use Rattle.blocks.specs.Read.{readAnswer, Shows, afterRead, shownOf, laidBy, read-done}
 use Rattle.blocks.specs.Write.{writeAnswer, AfterWrite}
-use Rattle.scrubs.specs.Repair.{mayRepair, repair-refused}
+use Rattle.blocks.specs.Repair.{mayRepair, repair-refused}
 use Rattle.refine.specs.Family.{Family, every-few, parts-few, in-parts}
 use Rattle.refine.specs.Disks.{seenOf, Disks, curOf}
 use Rattle.refine.specs.Rounds.{beyond-below}

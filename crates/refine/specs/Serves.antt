@@ -26,7 +26,7 @@ use Rattle.shelf.specs.declared.state.State.{State}
 use Rattle.shelf.specs.declared.state.Kind.the-variants.{Idle}
 use Rattle.requests.specs.declared.begun.Begun.{Begun}
 use Rattle.blocks.specs.Read.{readAnswer, afterRead}
-use Rattle.scrubs.specs.Repair.{Repairs}
+use Rattle.blocks.specs.Repair.{Repairs}
 use Rattle.refine.specs.Family.{Family, every-few, parts-few, in-parts}
 use Rattle.refine.specs.Disks.{Disks, curOf}
 use Rattle.refine.specs.Sees.{sectorsOf, sectors-strip}

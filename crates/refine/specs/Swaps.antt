@@ -30,8 +30,8 @@ use Rattle.codecs.specs.Shelf.{Shelf, slots, geometry, size}
 use Rattle.codecs.specs.Labels.{sectorOf, ours, noLabel, labelOf, meant, labels}
 use Rattle.codecs.specs.Records.{records}
 use Rattle.codecs.specs.Media.{stamps}
-use Rattle.shelf.specs.declared.state.State.{State}
-use Rattle.shelf.specs.declared.state.Kind.the-variants.{Idle}
+use Rattle.stages.specs.declared.state.State.{State}
+use Rattle.stages.specs.declared.state.Kind.the-variants.{Idle}
 use Rattle.refine.specs.Family.{Family, codeIn, sectorsIn}
 use Rattle.refine.specs.Places.{label-inside}
 use Rattle.refine.specs.Places as places
