@@ -35,8 +35,8 @@ use Rattle.protocol.specs.Program as program
 use Rattle.protocol.specs.Host.{Host}
 use Rattle.protocol.specs.Machine.{Machine, Event, ask, effect, from-outside, from-host, power-cut, program-dies, View, sure, Answered, Goes}
 use Rattle.protocol.specs.Machine as machine
-use Rattle.protocol.specs.Shape.{Shapes}
-use Rattle.protocol.specs.Shaped.{Shaped, AllShaped, shaped, zeros-shaped}
+use Rattle.protocol.specs.Shape.{ShapesBy}
+use Rattle.protocol.specs.Formed.{Shaped, AllShaped, shaped, zeros-shaped}
 use Rattle.protocol.specs.Promise.{zeros-off, simulate}
 use Rattle.protocol.specs.Even.{is-accepted}
 use Rattle.protocol.specs.Even as even
@@ -151,7 +151,7 @@ module _ (z : Shelf) (F : Family z) (first : Machine Sector) where
     pub events : List (Event Sector)
     pub runs : ShelfRuns z first events (machine.at w m)
     pub keeps : KeepsIn z F (machine.at w m) p
-    pub tidy : Shaped (size z) (F .sets) (labels z) (records z) (codeIn z F) stamps (sectorsIn z F) (machine.at w m)
+    pub tidy : Shaped (size z) (F .sets) (labels z) (records z) (codeIn z F) stamps (sectorsIn z F) false (machine.at w m)
 
   -- the image is that of the disks as they are read, no label on them names another shelf or is about to, and what the caller holds is in order
   pub record Tie (p : View Sector) (w : World Sector) (img : List ℕ) (h : Hand) : Type 1 where
@@ -164,7 +164,7 @@ module _ (z : Shelf) (F : Family z) (first : Machine Sector) where
 
   -- one event more: the view goes on as it may
   happens-to : {p : View Sector} {w w' : World Sector} {m m' : Memory Sector} {e : Event Sector} → Reached p w m → HappensTo z (machine.at w m) e (machine.at w' m') → (h : HappensIn z F (machine.at w m) e (machine.at w' m'))
-      → AllShaped (size z) (F .sets) (labels z) (records z) (codeIn z F) stamps (sectorsIn z F) h → (q : View Sector) × Goes (z .c) e p q × Reached q w' m'
+      → AllShaped (size z) (F .sets) (labels z) (records z) (codeIn z F) stamps (sectorsIn z F) false h → (q : View Sector) × Goes (z .c) e p q × Reached q w' m'
   happens-to {p} {w} {w'} {m} {m'} {e} t x h new =
       let r = simulate (size z) (F .sets) (labels z) (records z) (codeIn z F) stamps (sectorsIn z F) h p (t .keeps) in (
         r .0,
@@ -173,7 +173,7 @@ module _ (z : Shelf) (F : Family z) (first : Machine Sector) where
           events = t .events ++ (e ∷ []);
           runs = run-on z (t .events) (t .runs) x;
           keeps = r .2;
-          tidy = shaped (size z) (F .sets) (labels z) (records z) (codeIn z F) stamps (sectorsIn z F) h new p (t .keeps) (t .tidy);
+          tidy = shaped (size z) (F .sets) (labels z) (records z) (codeIn z F) stamps (sectorsIn z F) false h new p (t .keeps) (t .tidy);
         },
       )
 
@@ -184,13 +184,13 @@ module _ (z : Shelf) (F : Family z) (first : Machine Sector) where
   asks-to {p} {w} {m} img reads t m' i r e some shared =
       let y : programOf z m (w .cur) i ≡ (m', r) = ap (λ (f : Image Sector). programOf z m f i) reads ∙ e in
       let x = program-in z F m (w .cur) i m' r y some (λ a s j. shared a s (subst (λ (f : Image Sector). List·Memᴰ s (leavesOf z m f i)) reads j)) in
-      let h = subst (λ (b : Memory Sector × Reply Sector). (h : HappensIn z F (machine.at w m) (ask i (b .1)) (machine.at (effect w (b .1)) (b .0))) × AllShaped (size z) (F .sets) (labels z) (records z) (codeIn z F) stamps (sectorsIn z F) h) x (from-host i, tt) in
+      let h = subst (λ (b : Memory Sector × Reply Sector). (h : HappensIn z F (machine.at w m) (ask i (b .1)) (machine.at (effect w (b .1)) (b .0))) × AllShaped (size z) (F .sets) (labels z) (records z) (codeIn z F) stamps (sectorsIn z F) false h) x (from-host i, tt) in
       happens-to t (subst (λ (b : Memory Sector × Reply Sector). HappensTo z (machine.at w m) (ask i (b .1)) (machine.at (effect w (b .1)) (b .0))) y (even.from-host i)) (h .0) (h .1)
 
 module _ (z : Shelf) (F : Family z) (first : Machine Sector) (view : View Sector) where
   -- one event more, that leaves the view
-  happens : {w w' : World Sector} {m m' : Memory Sector} {e : Event Sector} → Reached z F first view w m → HappensTo z (machine.at w m) e (machine.at w' m') → (h : HappensIn z F (machine.at w m) e (machine.at w' m'))
-      → AllShaped (size z) (F .sets) (labels z) (records z) (codeIn z F) stamps (sectorsIn z F) h → ((q : View Sector) → Goes (z .c) e view q → q ≡ view) → Reached z F first view w' m'
+  pub happens : {w w' : World Sector} {m m' : Memory Sector} {e : Event Sector} → Reached z F first view w m → HappensTo z (machine.at w m) e (machine.at w' m') → (h : HappensIn z F (machine.at w m) e (machine.at w' m'))
+      → AllShaped (size z) (F .sets) (labels z) (records z) (codeIn z F) stamps (sectorsIn z F) false h → ((q : View Sector) → Goes (z .c) e view q → q ≡ view) → Reached z F first view w' m'
   happens {w' = w'} {m' = m'} t x h new same = let y = happens-to z F first t x h new in subst (λ (q : View Sector). Reached z F first q w' m') (same (y .0) (y .1)) (y .2)
 
   -- the program dies
@@ -486,7 +486,7 @@ module _ (z : Shelf) (img : List ℕ) (disks : Disks z img) (blank : allZero img
               events = [];
               runs = even.stays;
               keeps = zeros-off (size z) (F .sets) (labels z) (records z) (codeIn z F) stamps (sectorsIn z F) (after (curOf z img)) (sane-after (curOf z img)) (F .none) (always-after (ZerosIn z F) (curOf z img) bare);
-              tidy = always-after (Shapes (labels z)) (curOf z img) (zeros-shaped (size z) (F .sets) (labels z) (records z) (codeIn z F) stamps (sectorsIn z F) (curOf z img) bare);
+              tidy = always-after (ShapesBy (labels z) false) (curOf z img) (zeros-shaped (size z) (F .sets) (labels z) (records z) (codeIn z F) stamps (sectorsIn z F) false (curOf z img) bare);
             };
         named = always-after (Named z) (curOf z img) (subst (Named z) (sym c) (zeros-named z));
         names = tt;

@@ -2,9 +2,9 @@
 -- words for it (`Truthful` and `OwnTrue` of its Kept, `Shape`). Assumes nothing.
 use mathlib.Core.Path.{_≡_, refl, sym, ap, ap₂, subst, _∙_}
 use mathlib.Core.Logic.{_⊎_, ⊎-elim, inl, inr}
-use mathlib.Core.Bool.{Bool, true, false, cond}
+use mathlib.Core.Bool.{Bool, true, false, cond, not}
 use mathlib.Core.List.{List}
-use Prim.Native.Nat.{ℕ, suc, _+_, _≤_, _<_}
+use Prim.Native.Nat.{ℕ, zero, suc, _+_, _≤_, _<_}
 use native.Mathlib.Nat.{mod-eq-of-lt}
 use native.Mathlib.Omega.{arith}
 use lib.ListN.{replicate}
@@ -32,7 +32,7 @@ use Rattle.protocol.specs.Log.{Write, Complete}
 use Rattle.protocol.specs.Label.{Label, copy, Aged}
 use Rattle.protocol.specs.Label as Label
 use Rattle.protocol.specs.Host.{Host, table}
-use Rattle.protocol.specs.Shape.{Shape}
+use Rattle.protocol.specs.Shape.{ShapeBy}
 use Rattle.protocol.specs.Program.{Own}
 use Rattle.protocol.specs.Machine.{View, sure, open-write, kept-write}
 use Rattle.protocol.specs.Kept as Kept
@@ -112,9 +112,9 @@ pub record HeldTrue (z : Shelf) (p : View Sector) (w : World Sector) (a : bytes.
   pub elsewhere : Elsewhere z p stripe changes
   pub right : (left : List ℕ) → Disks z left → Possible w (curOf z left) → Truthful z p stripe changes left a
 
--- THE SHAPE OF A LABEL (document 02, C6): each of the two sectors is zeros or a valid copy, and two copies follow each other
+-- THE SHAPE OF A LABEL (document 02, C6): where one of the two sectors is a valid copy, each is zeros or a valid copy, and two copies follow each other. (A disk without a valid copy may hold anything.)
 pub record Follows (z : Shelf) (img : List ℕ) (d : ℕ) : Type 0 where
-  pub calm : (s : ℕ) → s < 2 → (sector (z .sectors) img d s ≡ replicate sectorBytes 0) ⊎ ((a : bytes.Label) × (copyOf (geometry z) img d s ≡ Valid a))
+  pub calm : (s o : ℕ) (b : bytes.Label) → s < 2 → o < 2 → copyOf (geometry z) img d o ≡ Valid b → (sector (z .sectors) img d s ≡ replicate sectorBytes 0) ⊎ ((a : bytes.Label) × (copyOf (geometry z) img d s ≡ Valid a))
   pub follow : (a b : bytes.Label) → copyOf (geometry z) img d 0 ≡ Valid a → copyOf (geometry z) img d 1 ≡ Valid b → (a .generation ≡ suc (b .generation)) ⊎ (b .generation ≡ suc (a .generation))
 
 -- ---- FROM THE PROTOCOL'S WORDS
@@ -165,7 +165,7 @@ module _ (z : Shelf) (F : Family z) where
         (h d t (ap (λ (y : Label). Label.believed (size z) y d t) e ∙ believe-is z a d t ∙ b))
 
     -- a copy of a label
-    copy-meant : (d : ℕ) (b : Bool) → d < slots z → copy (labels z) (curOf z img) d b ≡ meant z (copyOf (geometry z) img d (sectorOf b))
+    pub copy-meant : (d : ℕ) (b : Bool) → d < slots z → copy (labels z) (curOf z img) d b ≡ meant z (copyOf (geometry z) img d (sectorOf b))
     unfolding copy decodeLabel copyOf places.sectorOf places.copySector
     copy-meant d b h = ap (λ (x : List ℕ). meant z (decodeOf x d (sectorOf b))) (cur-read z img disks (label d b) (label-inside z d b h))
 
@@ -177,7 +177,7 @@ module _ (z : Shelf) (F : Family z) where
           ∙ ap (λ (t : Bool). cond t (labelOf z a) (noLabel z)) (copy-ours z img disks named d s a h l e)
 
       -- a copy that has a generation is a label
-      copy-there : (d : ℕ) (b : Bool) (q : ℕ) → d < slots z → 0 < q → q ≤ copy (labels z) (curOf z img) d b .generation → (a : bytes.Label) × (copyOf (geometry z) img d (sectorOf b) ≡ Valid a) × (q ≤ a .generation)
+      pub copy-there : (d : ℕ) (b : Bool) (q : ℕ) → d < slots z → 0 < q → q ≤ copy (labels z) (curOf z img) d b .generation → (a : bytes.Label) × (copyOf (geometry z) img d (sectorOf b) ≡ Valid a) × (q ≤ a .generation)
       copy-there d b q h pos le = by (copyOf (geometry z) img d (sectorOf b)) refl (subst (λ (x : Label). q ≤ x .generation) (copy-meant d b h) le)
         where
           by : (x : Decoded) → copyOf (geometry z) img d (sectorOf b) ≡ x → q ≤ meant z x .generation → (a : bytes.Label) × (copyOf (geometry z) img d (sectorOf b) ≡ Valid a) × (q ≤ a .generation)
@@ -210,26 +210,39 @@ module _ (z : Shelf) (F : Family z) where
           born : (d s : ℕ) (a : bytes.Label) → copyOf (geometry z) img d s ≡ Valid a → 0 < a .generation
           born d s a e = fits-says a (copy-says (geometry z) img d s a e .fit) .from-one
 
-      pub shape-of : (d : ℕ) → d < slots z → Shape (labels z) (curOf z img) d → Follows z img d
+      -- what a valid copy counts as
+      pub copy-counts : (d : ℕ) (b : Bool) (a : bytes.Label) → d < slots z → copyOf (geometry z) img d (sectorOf b) ≡ Valid a → (copy (labels z) (curOf z img) d b .generation ≡ a .generation) × (0 < a .generation)
+      copy-counts d false a i e = (ap (λ (y : Label). y .generation) (copy-label d 0 a i (omega arith) e), fits-says a (copy-says (geometry z) img d 0 a e .fit) .from-one)
+      copy-counts d true a i e = (ap (λ (y : Label). y .generation) (copy-label d 1 a i (omega arith) e), fits-says a (copy-says (geometry z) img d 1 a e .fit) .from-one)
+
+      pub shape-of : (d : ℕ) → d < slots z → ShapeBy (labels z) false (curOf z img) d → Follows z img d
       unfolding places.sectorOf places.copySector
       shape-of d i h = record { calm = calm; follow = follow }
         where
-          calm : (s : ℕ) → s < 2 → (sector (z .sectors) img d s ≡ replicate sectorBytes 0) ⊎ ((a : bytes.Label) × (copyOf (geometry z) img d s ≡ Valid a))
-          calm s l =
-              let b = side s l in
-              ⊎-elim
-              (λ (q : curOf z img (label d (b .0)) ≡ zeros). inl (ap (sector (z .sectors) img d) (sym (b .1)) ∙ sym (cur-bytes z img disks (label d (b .0)) (label-inside z d (b .0) i)) ∙ ap (λ (x : Sector). x .bytes) q))
-              (λ (q : 0 < copy (labels z) (curOf z img) d (b .0) .generation). inr (let y = copy-there d (b .0) 1 i (omega arith) q in (y .0, ap (copyOf (geometry z) img d) (sym (b .1)) ∙ y .1))) (h .calm (b .0) (inl refl))
+          Either : ℕ → Type 0
+          Either s = (sector (z .sectors) img d s ≡ replicate sectorBytes 0) ⊎ ((a : bytes.Label) × (copyOf (geometry z) img d s ≡ Valid a))
+
+          beside : (b : Bool) → 0 < copy (labels z) (curOf z img) d (not b) .generation → Either (sectorOf b)
+          beside b p =
+              ⊎-elim (λ (q : curOf z img (label d b) ≡ zeros). inl (sym (cur-bytes z img disks (label d b) (label-inside z d b i)) ∙ ap (λ (x : Sector). x .bytes) q))
+              (λ (q : 0 < copy (labels z) (curOf z img) d b .generation). inr (let y = copy-there d b 1 i (omega arith) q in (y .0, y .1))) (h .calm b (inr p))
+
+          calm : (s o : ℕ) (a : bytes.Label) → s < 2 → o < 2 → copyOf (geometry z) img d o ≡ Valid a → Either s
+          calm zero zero a l k e = inr (a, e)
+          calm zero (suc zero) a l k e = let y = copy-counts d true a i e in beside false (omega (arith, y .0, y .1))
+          calm (suc zero) zero a l k e = let y = copy-counts d false a i e in beside true (omega (arith, y .0, y .1))
+          calm (suc zero) (suc zero) a l k e = inr (a, e)
+          calm zero (suc (suc o)) a l k e = absurd (omega arith)
+          calm (suc zero) (suc (suc o)) a l k e = absurd (omega arith)
+          calm (suc (suc s)) o a l k e = absurd (omega arith)
 
           follow : (a b : bytes.Label) → copyOf (geometry z) img d 0 ≡ Valid a → copyOf (geometry z) img d 1 ≡ Valid b → (a .generation ≡ suc (b .generation)) ⊎ (b .generation ≡ suc (a .generation))
           follow a b p q =
-              let x = ap (λ (y : Label). y .generation) (copy-label d 0 a i (omega arith) p) in
-              let y = ap (λ (y : Label). y .generation) (copy-label d 1 b i (omega arith) q) in
-              let m = fits-says a (copy-says (geometry z) img d 0 a p .fit) .from-one in
-              let n = fits-says b (copy-says (geometry z) img d 1 b q .fit) .from-one in
-              ⊎-elim (λ (e : copy (labels z) (curOf z img) d false .generation ≡ suc (copy (labels z) (curOf z img) d true .generation)). inl (omega (arith, e, x, y)))
-              (λ (e : copy (labels z) (curOf z img) d true .generation ≡ suc (copy (labels z) (curOf z img) d false .generation)). inr (omega (arith, e, x, y)))
-              (h .follow false (omega (arith, x, m)) (omega (arith, y, n)))
+              let x = copy-counts d false a i p in
+              let y = copy-counts d true b i q in
+              ⊎-elim (λ (e : copy (labels z) (curOf z img) d false .generation ≡ suc (copy (labels z) (curOf z img) d true .generation)). inl (omega (arith, e, x .0, y .0)))
+              (λ (e : copy (labels z) (curOf z img) d true .generation ≡ suc (copy (labels z) (curOf z img) d false .generation)). inr (omega (arith, e, x .0, y .0)))
+              (h .follow false (omega (arith, x .0, x .1)) (omega (arith, y .0, y .1)))
 
   pub held-true : (p : View Sector) (w : World Sector) (o : Own) (a : bytes.Label) → o .now ≡ labelOf z a → Kept.OwnTrue (size z) (F .sets) (labels z) (records z) (codeIn z F) stamps (sectorsIn z F) p w o → HeldTrue z p w a
   unfolding Always

@@ -13,7 +13,7 @@ use Rattle.label.specs.declared.codec.Decoded.the-variants.{Valid}
 use Rattle.redo.specs.Decide.{believed}
 use Rattle.protocol.specs.World.{strip, World, Possible, Always}
 use Rattle.protocol.specs.Host.{Host}
-use Rattle.protocol.specs.Shaped.{shaped-off}
+use Rattle.protocol.specs.Formed.{shaped-off}
 use Rattle.protocol.specs.Program.{Memory, nothing, idle}
 use Rattle.protocol.specs.Machine.{Machine, View, sure, open-write, kept-write}
 use Rattle.protocol.specs.Machine as machine
@@ -55,7 +55,7 @@ module _ (z : Shelf) (F : Family z) (first : Machine Sector) (p : View Sector) (
   bound-shaped h t left here possible d i =
       let n = loose z F first p w img h t in
       shape-of z F left here (n .named (curOf z left) possible) d i
-      (shaped-off (size z) (F .sets) (labels z) (records z) (codeIn z F) stamps (sectorsIn z F) w nothing (n .reached .tidy) (curOf z left) possible d i)
+      (shaped-off (size z) (F .sets) (labels z) (records z) (codeIn z F) stamps (sectorsIn z F) false w nothing (n .reached .tidy) (curOf z left) possible d i)
 
   module _ (s : State) (work : List ℕ) where
     -- A STEP CAN BE FOLLOWED

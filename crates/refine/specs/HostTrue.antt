@@ -64,7 +64,7 @@ use Rattle.refine.specs.Holds.{Wanted, NoLies, HeldTrue, no-lies, held-t
 use Rattle.refine.specs.Chain.{Allowed, outs, Tie, rests, start-any-passed, out-passed}
 use Rattle.refine.specs.Chain as chain
 use Rattle.refine.specs.Refills.{rest-dark}
-use Rattle.refine.specs.Hosts.{Held, none, has, Time, at, held, HostCalls, creates, starts, creates-late, takes-out, begins, ons, writes, repairs, steps, cut, dies, HostChain, stays, goes-on, sets-call, sets, Bound, BoundAt, loose, not-rest, repair-changes-nothing, call-bound, chain-bound}
+use Rattle.refine.specs.Hosts.{Held, none, has, Time, at, held, HostCalls, creates, starts, creates-late, takes-out, begins, ons, writes, repairs, steps, swaps, cut, dies, HostChain, stays, goes-on, sets-call, sets, Bound, BoundAt, loose, not-rest, repair-changes-nothing, call-bound, chain-bound}
 use Rattle.refine.specs.HostHolds.{bound-followed, write-carried-out, begin-carried-out, rebuild-carried-out, bound-rests}
 
 -- a state at rest, or with a request under way that began at rest: every one but create and start-up, which have no label of their own yet
@@ -330,6 +330,7 @@ module _ (z : Shelf) (first : Machine Sector) where
       by (Refused why) a = ap length (a .1) ∙ t
   call-sized (repairs {w} {img} {s} {work} u b then r) n n' t = ap length (repair-changes-nothing z (n .0) first (n .1) w img s work u b then r (n .2) .1) ∙ t
   call-sized (steps heard) n n' t = t
+  call-sized (swaps d left x) n n' t = t
   call-sized (cut left d p) n n' t = tt
   call-sized dies n n' t = tt
 
@@ -359,6 +360,7 @@ module _ (z : Shelf) (first : Machine Sector) where
   call-passed (writes b given s' then x y e) n a m = absurd (List·Memᴰ·not-nil m)
   call-passed (repairs t b then r) n a m = absurd (List·Memᴰ·not-nil m)
   call-passed (steps heard) n a m = absurd (List·Memᴰ·not-nil m)
+  call-passed (swaps d left x) n a m = absurd (List·Memᴰ·not-nil m)
   call-passed (cut left d p) n a m = absurd (List·Memᴰ·not-nil m)
   call-passed dies n a m = absurd (List·Memᴰ·not-nil m)
 

@@ -1,5 +1,5 @@
--- CHAINS OF CALLS WITH WRITES: create, start, take out, begin, go on with a rebuild, write, repair and step, with power cuts and deaths
--- of the caller in between, and the host's view beside them. The caller hands back the state and the work area that it was handed last.
+-- CHAINS OF CALLS WITH WRITES: create, start, take out, begin, go on with a rebuild, write, repair and step, with power cuts, deaths
+-- of the caller and exchanged disks in between, and the host's view beside them. The caller hands back the state and the work area that it was handed last.
 -- What a call does to the view is said in the words of its answer (`Saw`). A repair is always refused, since no sector changes by itself.
 -- Assumes nothing.
 use mathlib.Core.Path.{_≡_, refl, sym, ap, subst, _∙_}
@@ -69,6 +69,7 @@ use Rattle.refine.specs.Chain.{Heard, outs, handed, Allowed, rests, Reac
 use Rattle.refine.specs.Chain as chain
 use Rattle.refine.specs.OnBegins.{on-rests, on-sized}
 use Rattle.refine.specs.Refills.{Refilling, on-kept, saw-label, fill-kept}
+use Rattle.refine.specs.Swaps.{Exchanged, newDisk, swap-kept}
 
 -- ---- THE CALLS
 
@@ -108,6 +109,8 @@ pub data HostCalls (z : Shelf) : Time → Time → Type 1 where
       → HostCalls z (at w img (has s work)) (at w' (stepWith s img work .image) (has (stepWith s img work .stepped .state) work))
   cut : {w : World Sector} {img : List ℕ} {h : Held} (left : List ℕ) → Disks z left → Possible w (curOf z left) → HostCalls z (at w img h) (at (after (curOf z left)) left none)
   dies : {w : World Sector} {img : List ℕ} {h : Held} → HostCalls z (at w img h) (at w img none)
+  -- at rest another disk is put into slot d, which the state calls absent (Swaps says what it may hold): it has nothing cached, every other slot is as it was
+  swaps : {w : World Sector} {img : List ℕ} {s : State} {work : List ℕ} (d : ℕ) (left : List ℕ) → Exchanged z s d img left → HostCalls z (at w img (has s work)) (at (newDisk z w d left) left (has s work))
 
 pub data HostChain (z : Shelf) : Time → Time → Type 1 where
   stays : {a : Time} → HostChain z a a
@@ -126,6 +129,7 @@ sets-call (repairs t b then r) = []
 sets-call (steps heard) = []
 sets-call (cut left d p) = []
 sets-call dies = []
+sets-call (swaps d left x) = []
 
 abbrev pub sets : {z : Shelf} {a b : Time} → HostChain z a b → List (ℕ → Bool)
 sets stays = []
@@ -164,7 +168,7 @@ SawStep Beginning a p q = q ≡ p
 SawStep Filling a p q = q ≡ p
 
 -- an accepted write opens: the list with the block replaced is the new one
-abbrev SawAsked : Outcome → ℕ → ℕ → (ℕ → Sector) → View Sector → View Sector → Type 0
+abbrev pub SawAsked : Outcome → ℕ → ℕ → (ℕ → Sector) → View Sector → View Sector → Type 0
 SawAsked Done t i x p q = (v : Host Sector) × (p ≡ sure v) × (q ≡ open-write v (replace v t (one-block i x)))
 SawAsked (Refused why) t i x p q = q ≡ p
 
@@ -181,6 +185,7 @@ Saw (repairs t b then r) p q = q ≡ p
 Saw (steps {img = img} {s = s} {work = work} heard) p q = SawStep (s .kind) (stepWith s img work .stepped .answer) p q
 Saw (cut left d x) p q = q ≡ p
 Saw dies p q = q ≡ p
+Saw (swaps d left x) p q = q ≡ p
 
 -- the views along a chain
 abbrev pub Seen : {z : Shelf} {a b : Time} → HostChain z a b → View Sector → View Sector → Type 0
@@ -245,7 +250,7 @@ module _ (z : Shelf) (F : Family z) (first : Machine Sector) where
   BoundAt p (at w img h) = Bound p w img h
 
   -- the state is lost
-  loose-tie : (p : View Sector) (w : World Sector) (img : List ℕ) (h : chain.Hand) → Tie z F first p w img h → Tie z F first p w img chain.none
+  pub loose-tie : (p : View Sector) (w : World Sector) (img : List ℕ) (h : chain.Hand) → Tie z F first p w img h → Tie z F first p w img chain.none
   loose-tie p w img h t = record { disks = t .disks; reads = t .reads; reached = off z F first p (t .reached); named = t .named; names = tt; order = tt }
 
   loose-write : (p : View Sector) (w : World Sector) (img : List ℕ) (s : State) (work : List ℕ) → Laying p w img s work → Tie z F first p w img chain.none
@@ -293,7 +298,7 @@ module _ (z : Shelf) (F : Family z) (first : Machine Sector) where
       by (Refused why) e = inr t
 
   -- begin
-  rest-dark : (p : View Sector) (w : World Sector) (o : Own) → Reached z F first p w (idle o) → (d : ℕ) → o .absent d ≡ true → Label.looked (size z) (o .now) d ≡ true → ⊥
+  pub rest-dark : (p : View Sector) (w : World Sector) (o : Own) → Reached z F first p w (idle o) → (d : ℕ) → o .absent d ≡ true → Label.looked (size z) (o .now) d ≡ true → ⊥
   rest-dark (sure v) w o r d a q = r .keeps .1 .dark d a q
   rest-dark (open-write v v') w o r d a q = r .keeps
   rest-dark (kept-write v') w o r d a q = r .keeps
@@ -365,10 +370,10 @@ module _ (z : Shelf) (F : Family z) (first : Machine Sector) where
   -- ---- a write is asked for
 
   module _ (p : View Sector) (w : World Sector) (img : List ℕ) (s : State) (work : List ℕ) (b : ℕ) (given : List ℕ) (s' : State) (then : List ℕ) (small : Bytes given) (small' : Bytes then) where
-    abbrev asked : Outcome
+    abbrev pub asked : Outcome
     asked = writeAnswer (s .now) (s .kind) (s .absent) (s .count) img b (length given) (length work)
 
-    rest-of : asked ≡ Done → isIdle (s .kind) ≡ true
+    pub rest-of : asked ≡ Done → isIdle (s .kind) ≡ true
     unfolding blockAnswer stampLeft
     rest-of e =
         answered-done (tooFew (s .now) (s .absent)) _ (isIdle (s .kind)) _ (sizes (s .now .k + s .now .m) (s .now .c) (length given) (length work))
@@ -702,6 +707,12 @@ module _ (z : Shelf) (F : Family z) (first : Machine Sector) where
           let d = step-goes s img work (t .refills .fair .in-range) e in
           subst (λ (m : Move). Heard z w (m .stepped .answer) (m .image) w' → (q : View Sector) × SawStep (s .kind) (m .stepped .answer) p q × Bound q w' (m .image) (has (m .stepped .state) work)) (sym d) (step-on p w img s work w' t kind-is) h
 
+  -- ---- another disk
+
+  swap-bound : (p : View Sector) (w : World Sector) (img : List ℕ) (s : State) (work : List ℕ) (d : ℕ) (left : List ℕ) → Exchanged z s d img left → Bound p w img (has s work) → Bound p (newDisk z w d left) left (has s work)
+  swap-bound p w img s work d left x (inl t) = inl (swap-kept z F first p w img s d left x t)
+  swap-bound p w img s work d left x (inr t) = absurd (not-rest p w img s work t (ap isIdle (x .at-rest)))
+
   -- ---- A CALL KEEPS THE TIE, and the view goes on as it may
 
   pub call-bound : {a b : Time} (x : HostCalls z a b) → Allowed z F (sets-call x) → (p : View Sector) → BoundAt p a → (q : View Sector) × Saw x p q × BoundAt q b
@@ -716,6 +727,7 @@ module _ (z : Shelf) (F : Family z) (first : Machine Sector) where
   call-bound (steps {w} {w'} {img} {s} {work} heard) ok p t = step-bound p w img s work w' t heard
   call-bound (cut {w} {img} {h} left d x) ok p t = (p, refl, cut-kept z F first p w img chain.none left d x (loose p w img h t))
   call-bound (dies {w} {img} {h}) ok p t = (p, refl, loose p w img h t)
+  call-bound (swaps {w} {img} {s} {work} d left x) ok p t = (p, refl, swap-bound p w img s work d left x t)
 
   -- AND A CHAIN
   pub chain-bound : {a b : Time} (c : HostChain z a b) → Allowed z F (sets c) → (p : View Sector) → BoundAt p a → (q : View Sector) × Seen c p q × BoundAt q b

@@ -34,6 +34,10 @@ pub mod Named
 pub mod Chain
 pub mod Refills
 pub mod Holds
+pub mod Touched
+pub mod Merged
+pub mod Swaps
+pub mod Lags
 pub mod Strips
 pub mod Sees
 pub mod WriteAsked
@@ -45,3 +49,7 @@ pub mod HostHolds
 pub mod HostTrue
 pub mod Serves
 pub mod Promise
+pub mod Exchanges
+pub mod Late
+pub mod Replaced
+pub mod ExchangeHolds

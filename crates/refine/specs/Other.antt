@@ -49,7 +49,7 @@ otherCode g len absent = cond (fitsImage g len) (cond (allOf (inMask absent) (g 
 mul-cancel-r : (a b c : ℕ) → 0 < c → a * c ≡ b * c → a ≡ b
 mul-cancel-r a b c h e = sym (digits-div a h) ∙ ap (λ (x : ℕ). (x + 0) / c) e ∙ digits-div b h
 
-unless-false : (b : Bool) (why : Refusal) (s : Survey) → b ≡ false → unless b why s ≡ survey.Refused why
+pub unless-false : (b : Bool) (why : Refusal) (s : Survey) → b ≡ false → unless b why s ≡ survey.Refused why
 unless-false b why s e = ap (λ (x : Bool). unless x why s) e
 
 -- one that fails

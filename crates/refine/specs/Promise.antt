@@ -60,30 +60,6 @@ use Rattle.refine.specs.HostTrue.{fromRest, bound-possible, bound-elsewh
 use Rattle.refine.specs.Since.{AnyTwoSince}
 use Rattle.refine.specs.Serves.{Served, bound-since, pairs-since}
 
--- ---- STEPS
-
--- the slot that a step's answer names
-abbrev pub Touches : Answer → ℕ → Type 0
-Touches (answer.Put d to) e = d ≡ e
-Touches (answer.Flush d) e = d ≡ e
-Touches answer.Done e = ⊥
-Touches (answer.Refused why) e = ⊥
-
--- NO STEP TOUCHES AN ABSENT SLOT, in any state, whatever the image and the work area hold
-pub absent-untouched : (s : State) (img work : List ℕ) (e : ℕ) → Touches (stepWith s img work .stepped .answer) e → inMask (s .absent) e ≡ false
-unfolding stepWith
-absent-untouched s img work e = by (sound s && otherWork (s .now) (length img) (length work))
-  where
-    touched : (a : Answer) (after : List ℕ) → Legal a (s .absent) (geometryOf (s .now)) img after → Touches a e → inMask (s .absent) e ≡ false
-    touched (answer.Put d to) after h t = ap (inMask (s .absent)) (sym t) ∙ h .present
-    touched (answer.Flush d) after h t = ap (inMask (s .absent)) (sym t) ∙ h .present
-    touched answer.Done after h t = absurd t
-    touched (answer.Refused why) after h t = absurd t
-
-    by : (b : Bool) → Touches (cond b (refuses s BadBuffer img) (stepMove s work img) .stepped .answer) e → inMask (s .absent) e ≡ false
-    by true t = absurd t
-    by false t = touched (stepMove s work img .stepped .answer) (stepMove s work img .image) (step-one s work img) t
-
 -- ---- CHAINS OF CALLS, from an image of zeros on
 
 module _ (z : Shelf) (first : List ℕ) (disks : Disks z first) (blank : allZero first ≡ true) where
