@@ -10,7 +10,7 @@ use mathlib.Core.List.{List, [], _∷_, _++_, List·Memᴰ, List·Memᴰ·head, 
 use native.Mathlib.Omega.{arith}
 use Rattle.protocol.specs.World.{Image, World, Sane, Always, always-map, always-cur}
 use Rattle.protocol.specs.Log.{RecordCodec}
-use Rattle.protocol.specs.Label.{Label, Size, Quorum, LabelCodec, copy, Labels}
+use Rattle.protocol.specs.Label.{Label, Size, Quorum, LabelCodec, copy, MayRule, Labels}
 use Rattle.protocol.specs.Decide.{Rest}
 use Rattle.protocol.specs.Host.{Host, Code, table}
 use Rattle.protocol.specs.Program.{Stamps, Medium, Own, nothing, idle, doing}
@@ -22,19 +22,12 @@ use Rattle.protocol.specs.Pairs.{Parts, AnyTwo, no-sets, tested-parts, p
 
 -- ---- at rest the labels are right for every family that has the set which the settled label calls out
 
+-- a label of the settled generation calls out what the settled one does
+pub rule-for : {X : Type 0} (z : Size) (C : LabelCodec X (z .n)) (W W' : Quorum (z .n)) (Q l : Label) → W' .few (Q .out) ≡ true → l .generation ≡ Q .generation → MayRule z W C Q Q l → MayRule z W' C Q Q l
+rule-for z C W W' Q l few e y = record { few-out = ap (W' .few) (y .same-out e) ∙ few; same-out = y .same-out; narrow = y .narrow }
+
 labels-for : {X : Type 0} (z : Size) (C : LabelCodec X (z .n)) (W W' : Quorum (z .n)) (Q : Label) (f : Image X) → W' .few (Q .out) ≡ true → Labels z W C Q Q (Q .generation) (Q .out) f → Labels z W' C Q Q (Q .generation) (Q .out) f
-labels-for z C W W' Q f few h =
-    record {
-      few-Q = few;
-      few-far = few;
-      low = h .low;
-      cap = h .cap;
-      near = h .near;
-      fine = λ d b i p g.
-          let y = h .fine d b i p g in
-          let e : copy C f d b .generation ≡ Q .generation = omega (arith, g, h .cap d b i) in
-          record { few-out = ap (W' .few) (y .same-out e) ∙ few; same-out = y .same-out; narrow = y .narrow };
-    }
+labels-for z C W W' Q f few h = record { few-Q = few; few-far = few; low = h .low; cap = h .cap; near = h .near; fine = λ d b i p g. rule-for z C W W' Q (copy C f d b) few (omega (arith, g, h .cap d b i)) (h .fine d b i p g) }
 
 -- ---- moments of rest
 
@@ -50,7 +43,7 @@ settled-out (at w nothing) = []
 settled-out (at w (idle o)) = o .now .out ∷ []
 settled-out (at w (doing k l o o')) = []
 
-more-of : (b : Bool) {l : List (ℕ → Bool)} {t : ℕ → Bool} → List·Memᴰ t (cond b [] l) → List·Memᴰ t l
+pub more-of : (b : Bool) {l : List (ℕ → Bool)} {t : ℕ → Bool} → List·Memᴰ t (cond b [] l) → List·Memᴰ t l
 more-of true j = absurd (List·Memᴰ·not-nil j)
 more-of false j = j
 
@@ -137,7 +130,7 @@ module _ {X : Type 0} (z : Size) (C : LabelCodec X (z .n)) (K : RecordCodec X) (
 
   -- ---- from zeros on
 
-  begins : (W : Quorum (z .n)) (sub : Passing W) → W .few (λ d. false) ≡ true → (w : World X) → Sane w → Always w (Zeros z (no-sets (z .n)) C K E S R) → InvariantFor W sub (at w nothing) (sure (λ t i j. K .zeros))
+  pub begins : (W : Quorum (z .n)) (sub : Passing W) → W .few (λ d. false) ≡ true → (w : World X) → Sane w → Always w (Zeros z (no-sets (z .n)) C K E S R) → InvariantFor W sub (at w nothing) (sure (λ t i j. K .zeros))
   begins W sub none w sane h =
       let E' = code-of z C K E S R test ok W sub in
       let R' = medium-for z C K E S R test ok W sub in
