@@ -1,11 +1,11 @@
 -- EXCHANGED DISKS, WITH k <= m: the machine of Exchange with the program of Even; what is asked of the world there, from one moment of rest to the next; and the promise. Among the sets of slots that
--- are left out (Since) there is then, for each accepted start-up, also the set of those slots that are absent or hold another disk than their last; but not where start-up sees the newest label that
--- there is, on any disk.
+-- are left out (Since) there is then, for each accepted start-up, also the set of the slots that are absent or hold another disk than their last; but not where every slot has its last disk, nor where
+-- start-up sees the newest label that there is on any disk.
 use Prim.Native.Nat.{ℕ, _<_}
 use mathlib.Core.Path.{_≡_, refl, sym, ap, subst, _∙_}
 use mathlib.Core.Bool.{Bool, true, false, cond, _||_}
 use mathlib.Core.Logic.{_⊎_, ⊎-elim, inl, inr, _≢_}
-use mathlib.Core.List.{List, [], _∷_, _++_, List·Memᴰ, List·Memᴰ·head, List·Memᴰ·tail, List·Memᴰ·not-nil, List·Memᴰ·cases-cons, List·Memᴰ·append-cases, Memᴰ·append-left, Memᴰ·append-right}
+use mathlib.Core.List.{List, [], _∷_, _++_, List·Memᴰ, List·Memᴰ·head, List·Memᴰ·tail, List·Memᴰ·not-nil, List·Memᴰ·append-cases, Memᴰ·append-left, Memᴰ·append-right}
 use native.Mathlib.Omega.{arith}
 use Rattle.protocol.specs.World.{Image, World, after, Possible, Sane, Always}
 use Rattle.protocol.specs.Log.{RecordCodec}
@@ -17,12 +17,12 @@ use Rattle.protocol.specs.Machine.{Machine, at, effect, Event, cut, dies
 use Rattle.protocol.specs.Promise.{Zeros}
 use Rattle.protocol.specs.Exchange as Exchange
 use Rattle.protocol.specs.Exchange.{Disks, Room, room, moved, noted, exchanged, with-disk, Strange, Newest, Asked}
-use Rattle.protocol.specs.Apart.{Lying}
+use Rattle.protocol.specs.Apart.{Lying, AtHome}
 use Rattle.protocol.specs.Exchanged.{Kin, Stage, Holds, ready-kin, exchange-simulate}
-use Rattle.protocol.specs.Noticed.{Beside, beside-enough}
+use Rattle.protocol.specs.Noticed.{nothing-asked, Beside, beside-enough}
 use Rattle.protocol.specs.Even.{is-accepted, not-accepted, program-by, leaves, Shared, passed, Refused, by-step, refusable, refuses}
-use Rattle.protocol.specs.Pairs.{Parts, AnyTwo, and-is, no-sets, within, some-is, parts-of, with-none, Mends, code-of, medium-for, same-by, same-leaves}
-use Rattle.protocol.specs.Since.{rule-for, at-rest, settled-out, more-of, rest-for, rest-few, begins}
+use Rattle.protocol.specs.Pairs.{Parts, AnyTwo, two-alone, and-is, no-sets, within, parts, listed, none-listed, Mends, code-of, medium-for, same-by, same-leaves}
+use Rattle.protocol.specs.Since.{rule-for, at-rest, settled-out, more-of, rest-for, rest-few, begins, few-here}
 
 -- the slots that count as absent for a request where nothing is known yet
 abbrev pub absent-in : {X : Type 0} → ℕ → Input X → ℕ → Bool
@@ -45,16 +45,16 @@ module _ {X : Type 0} (z : Size) (C : LabelCodec X (z .n)) (K : RecordCodec X) (
   abbrev answers : Memory X → Image X → Input X → Memory X × Reply X
   answers = program-by z (no-sets (z .n)) C K E S R test
 
-  -- Of a start-up, or create, it may be said that no disk of the shelf, in a bay or not, has a newer label than the newest one that it sees.
+  -- Of a start-up, or create, it may be said that every slot has its last disk; or that no disk of the shelf, in a bay or not, has a newer label than the newest one that it sees.
   abbrev pub Told : World X → Memory X → Input X → Disks X → Type 0
-  Told w nothing i x = Unit {0} ⊎ Newest z (no-sets (z .n)) C K E S R (absent-in (z .n) i) w x
+  Told w nothing i x = Unit {0} ⊎ (AtHome z (no-sets (z .n)) C K E S R x ⊎ Newest z (no-sets (z .n)) C K E S R (absent-in (z .n) i) w x)
   Told w (idle o) i x = Unit {0}
   Told w (doing k l o o') i x = Unit {0}
 
-  -- If it is not said, the set of slots counts that are absent or hold another disk than their last.
+  -- If neither is said, the set of the slots counts that are absent or hold another disk than their last.
   abbrev pub counted : (w : World X) (m : Memory X) (i : Input X) (x : Disks X) → Told w m i x → List (ℕ → Bool)
   counted w nothing i x (inl t) = (λ d. absent-in (z .n) i d || moved x d) ∷ []
-  counted w nothing i x (inr n) = []
+  counted w nothing i x (inr t) = []
   counted w (idle o) i x t = []
   counted w (doing k l o o') i x t = []
 
@@ -161,7 +161,8 @@ module _ {X : Type 0} (z : Size) (C : LabelCodec X (z .n)) (K : RecordCodec X) (
     as-asked : (w : World X) (m : Memory X) (x : Disks X) (i : Input X) (t : Told w m i x) (p : View X) → HoldsFor (room w m x) p → (does m (w .cur) i .1 ≡ accepted → Shared (F .few) (counted w m i x t)) → Asked z W C K E' S R' w m i (does m (w .cur) i .1) x
     as-asked w nothing x i (inl t) p h c = λ e.
         inl (beside-enough z W C K E' S R' w x p h i e (subst (λ (A : ℕ → Bool). Beside z W C K E' S R' A x) (unseen-is i) (λ b few. F .meet (λ d. absent-in (z .n) i d || moved x d) b (c e (λ d. absent-in (z .n) i d || moved x d) (List·Memᴰ·head refl)) (both (test b) (F .few b) few .1))))
-    as-asked w nothing x i (inr n) p h c = λ e. inr (subst (λ (A : ℕ → Bool). Newest z W C K E' S R' A w x) (unseen-is i) n)
+    as-asked w nothing x i (inr (inl a)) p h c = λ e. inl (nothing-asked z W C K E' S R' (unseen z W C K E' S R' nothing i) x a)
+    as-asked w nothing x i (inr (inr n)) p h c = λ e. inr (subst (λ (A : ℕ → Bool). Newest z W C K E' S R' A w x) (unseen-is i) n)
     as-asked w (idle o) x i t p h c = tt
     as-asked w (doing k l o o') x i t p h c = tt
 
@@ -207,7 +208,7 @@ module _ {X : Type 0} (z : Size) (C : LabelCodec X (z .n)) (K : RecordCodec X) (
     settled-few : (r : Room X) (p : View X) → HoldsFor r p → Shared (F .few) (settled-out (bays r))
     settled-few (room w nothing x) p h t j = absurd (List·Memᴰ·not-nil j)
     settled-few (room w (doing k l o o') x) p h t j = absurd (List·Memᴰ·not-nil j)
-    settled-few (room w (idle o) x) p h t j = ⊎-elim (λ e. ap (F .few) e ∙ both (test (o .now .out)) (F .few (o .now .out)) (rest-few z C K E S R test ok W sub w o p (ready-kin z W C K E' S R' w o x p h .0)) .1) (λ k. absurd (List·Memᴰ·not-nil k)) (List·Memᴰ·cases-cons j)
+    settled-few (room w (idle o) x) p h t j = both (test t) (F .few t) (few-here z C K E S R test ok W sub (at w (idle o)) p (ready-kin z W C K E' S R' w o x p h .0) t j) .1
 
   -- ---- AT REST ANOTHER FAMILY CAN BE CHOSEN: any that has the set which the settled label calls out. Disks that lie around are no hindrance: what their older labels call out is not believed.
   lying-for : (W W' : Quorum (z .n)) (x : Disks X) (Q : Label) → W' .few (Q .out) ≡ true → Lying z W C x Q → Lying z W' C x Q
@@ -234,18 +235,8 @@ module _ {X : Type 0} (z : Size) (C : LabelCodec X (z .n)) (K : RecordCodec X) (
 
     -- ---- the promise
     module _ (none : test (λ d. false) ≡ true) (some : 0 < z .n) where
-      -- the parts of the sets of a list, and the empty set
-      abbrev family : (l : List (ℕ → Bool)) → AnyTwo (z .n) l → Quorum (z .n)
-      family l two = parts-of (z .n) ((λ d. false) ∷ l) (with-none (z .n) some l two)
-
-      in-family : (l : List (ℕ → Bool)) (two : AnyTwo (z .n) l) → Shared (family l two .few) l
-      in-family l two s m = some-is (z .n) s s ((λ d. false) ∷ l) (List·Memᴰ·tail m) (λ d i e. e)
-
       two-here : {r r' : Room X} {l : List (Event X)} (b : BefellBy r l r') → AnyTwo (z .n) (settled-out (bays r)) → ExchangeSince b → AnyTwo (z .n) (settled-out (bays r) ++ sets-ahead b)
-      two-here {r} stays h two = λ s t i j. h s t (only i) (only j)
-        where
-          only : {s : ℕ → Bool} → List·Memᴰ s (settled-out (bays r) ++ []) → List·Memᴰ s (settled-out (bays r))
-          only i = ⊎-elim (λ k. k) (λ k. absurd (List·Memᴰ·not-nil k)) (List·Memᴰ·append-cases (settled-out (bays r)) i)
+      two-here {r} stays h two = two-alone (z .n) (settled-out (bays r)) h
       two-here (goes s b) h two = two .0
 
       -- the next room is not at rest, and the family stays; or it is, and the next family takes over
@@ -258,8 +249,8 @@ module _ {X : Type 0} (z : Size) (C : LabelCodec X (z .n)) (K : RecordCodec X) (
           let l = o .now .out ∷ sets-ahead b in
           let few = settled-few ok part F (room w (idle o) x) p i in
           let all : AnyTwo (z .n) l = two-here b (λ s t c d. F .meet s t (few s c) (few t d)) two in
-          let F' = family l all in
-          then F' (λ s j. in-family l all s (List·Memᴰ·tail j)) p (room-for F F' w o x p (in-family l all (o .now .out) (List·Memᴰ·head refl)) i)
+          let F' = parts some l all in
+          then F' (λ s j. listed some l all s (List·Memᴰ·tail j)) p (room-for F F' w o x p (listed some l all (o .now .out) (List·Memᴰ·head refl)) i)
 
       along : (F : Quorum (z .n)) {r r' : Room X} {l : List (Event X)} (b : BefellBy r l r') → Shared (F .few) (sets-ahead b) → ExchangeSince b → (p : View X) → HoldsFor ok part F r p → (q : View X) × Views (K .c) p l q
       along F stays h two p i = (p, same)
@@ -274,15 +265,12 @@ module _ {X : Type 0} (z : Size) (C : LabelCodec X (z .n)) (K : RecordCodec X) (
           subst (λ (b : Bool). Stage z (within test part F) C K (E' ok part F) S (R' ok part F) b w nothing x (sure (λ t i j. K .zeros))) (sym made)
           (begins z C K E S R test ok (within test part F) (sub ok part F) (and-is (test (λ d. false)) (F .few (λ d. false)) none empty) w sane h, strange)
 
-      empty-in : (l : List (ℕ → Bool)) (two : AnyTwo (z .n) l) → family l two .few (λ d. false) ≡ true
-      empty-in l two = some-is (z .n) (λ d. false) (λ d. false) ((λ d. false) ∷ l) (List·Memᴰ·head refl) (λ d i e. e)
-
       -- THE PROMISE WITH EXCHANGED DISKS, from zeros on
       pub exchange-since-promised : (w : World X) (x : Disks X) → Sane w → Always w (Zeros z (no-sets (z .n)) C K E S R) → x .made ≡ false → Strange z C x → {r : Room X} {l : List (Event X)} (b : BefellBy (room w nothing x) l r) → ExchangeSince b → (p : View X) × Views (K .c) (sure (λ t i j. K .zeros)) l p
       exchange-since-promised w x sane h made strange b two =
           let all : AnyTwo (z .n) (sets-ahead b) = two-here b (λ s t i j. absurd (List·Memᴰ·not-nil i)) two in
-          let F = family (sets-ahead b) all in
-          along F b (in-family (sets-ahead b) all) two (sure (λ t i j. K .zeros)) (first-holds F (empty-in (sets-ahead b) all) w x sane h made strange)
+          let F = parts some (sets-ahead b) all in
+          along F b (listed some (sets-ahead b) all) two (sure (λ t i j. K .zeros)) (first-holds F (none-listed some (sets-ahead b) all) w x sane h made strange)
 
       -- where all sets are in one family, any two leave a slot out
       family-along : (F : Quorum (z .n)) {r r' : Room X} {l : List (Event X)} (b : BefellBy r l r') → Shared (F .few) (sets-all b) → (p : View X) → HoldsFor ok part F r p → ExchangeSince b
@@ -295,5 +283,5 @@ module _ {X : Type 0} (z : Size) (C : LabelCodec X (z .n)) (K : RecordCodec X) (
       -- it is less than to ask it of all sets of the history
       pub exchange-pairs-since : (w : World X) (x : Disks X) → Sane w → Always w (Zeros z (no-sets (z .n)) C K E S R) → x .made ≡ false → Strange z C x → {r : Room X} {l : List (Event X)} (b : BefellBy (room w nothing x) l r) → AnyTwo (z .n) (sets-all b) → ExchangeSince b
       exchange-pairs-since w x sane h made strange b two =
-          let F = family (sets-all b) two in
-          family-along F b (in-family (sets-all b) two) (sure (λ t i j. K .zeros)) (first-holds F (empty-in (sets-all b) two) w x sane h made strange)
+          let F = parts some (sets-all b) two in
+          family-along F b (listed some (sets-all b) two) (sure (λ t i j. K .zeros)) (first-holds F (none-listed some (sets-all b) two) w x sane h made strange)

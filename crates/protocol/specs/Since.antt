@@ -18,7 +18,7 @@ use Rattle.protocol.specs.Machine.{Machine, at, Event, View, sure, open-
 use Rattle.protocol.specs.Invariant.{Ready, Invariant}
 use Rattle.protocol.specs.Promise.{Zeros, zeros-off, promise}
 use Rattle.protocol.specs.Even.{views-alike, Shared, HappensBy, RunsBy, stays, goes, left-one, left-by, asked-runs, all-passed}
-use Rattle.protocol.specs.Pairs.{Parts, AnyTwo, no-sets, tested-parts, parts-pass, none-in, in-parts, Mends, code-of, medium-for, same-runs, same-zeros-of}
+use Rattle.protocol.specs.Pairs.{Parts, AnyTwo, two-alone, no-sets, tested-parts, parts-pass, none-in, in-parts, Mends, code-of, medium-for, same-runs, same-zeros-of}
 
 -- ---- at rest the labels are right for every family that has the set which the settled label calls out
 
@@ -137,7 +137,7 @@ module _ {X : Type 0} (z : Size) (C : LabelCodec X (z .n)) (K : RecordCodec X) (
       zeros-off z W C K E' S R' w sane none (always-map (Zeros z (no-sets (z .n)) C K E S R) (Zeros z W C K E' S R') w (same-zeros-of z C K E S R test ok W sub) h)
 
   -- the set that is settled is in the family
-  few-here : (W : Quorum (z .n)) (sub : Passing W) (m : Machine X) (p : View X) → InvariantFor W sub m p → Shared (W .few) (settled-out m)
+  pub few-here : (W : Quorum (z .n)) (sub : Passing W) (m : Machine X) (p : View X) → InvariantFor W sub m p → Shared (W .few) (settled-out m)
   few-here W sub (at w nothing) p i t j = absurd (List·Memᴰ·not-nil j)
   few-here W sub (at w (doing k l o o')) p i t j = absurd (List·Memᴰ·not-nil j)
   few-here W sub (at w (idle o)) p i t j = ⊎-elim (λ e. ap (W .few) e ∙ rest-few W sub w o p i) (λ k. absurd (List·Memᴰ·not-nil k)) (List·Memᴰ·cases-cons j)
@@ -146,10 +146,7 @@ module _ {X : Type 0} (z : Size) (C : LabelCodec X (z .n)) (K : RecordCodec X) (
 
   module _ (part : Parts (z .n) test) (none : test (λ d. false) ≡ true) (some : 0 < z .n) where
     two-here : {m m' : Machine X} {l : List (Event X)} (r : RunsTo m l m') → AnyTwo (z .n) (settled-out m) → AnyTwoSince r → AnyTwo (z .n) (settled-out m ++ ahead r)
-    two-here {m} stays h two = λ s t i j. h s t (only i) (only j)
-      where
-        only : {s : ℕ → Bool} → List·Memᴰ s (settled-out m ++ []) → List·Memᴰ s (settled-out m)
-        only i = ⊎-elim (λ k. k) (λ k. absurd (List·Memᴰ·not-nil k)) (List·Memᴰ·append-cases (settled-out m) i)
+    two-here {m} stays h two = two-alone (z .n) (settled-out m) h
     two-here (goes s r) h two = two .0
 
     -- the next machine is not at rest, and the family stays; or it is, and the next family takes over
