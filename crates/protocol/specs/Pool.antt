@@ -18,7 +18,7 @@ use Rattle.protocol.specs.Promise.{Zeros}
 use Rattle.protocol.specs.Exchange as Exchange
 use Rattle.protocol.specs.Exchange.{Disks, Room, room, moved, noted, exchanged, with-disk, Strange, Newest, Asked}
 use Rattle.protocol.specs.Apart.{Lying, AtHome}
-use Rattle.protocol.specs.Exchanged.{Kin, Stage, Holds, ready-kin, exchange-simulate}
+use Rattle.protocol.specs.Exchanged.{Stage, Holds, ready-kin, exchange-simulate}
 use Rattle.protocol.specs.Noticed.{nothing-asked, Beside, beside-enough}
 use Rattle.protocol.specs.Even.{is-accepted, not-accepted, program-by, leaves, Shared, passed, Refused, by-step, refusable, refuses}
 use Rattle.protocol.specs.Pairs.{Parts, AnyTwo, two-alone, and-is, no-sets, within, parts, listed, none-listed, Mends, code-of, medium-for, same-by, same-leaves}
@@ -37,7 +37,11 @@ absent-in n (scrub-stripe t) = beyond n (λ d. false)
 absent-in n (repair t) = beyond n (λ d. false)
 absent-in n step = beyond n (λ d. false)
 
--- as far as the machine without exchanged disks knows it
+-- they, and those that hold another disk than their last
+abbrev pub missing : {X : Type 0} → ℕ → Input X → Disks X → ℕ → Bool
+missing n i x d = absent-in n i d || moved x d
+
+-- the room without the disks: a state of the machine in which none is exchanged
 abbrev pub bays : {X : Type 0} → Room X → Machine X
 bays (room w m x) = at w m
 
@@ -53,7 +57,7 @@ module _ {X : Type 0} (z : Size) (C : LabelCodec X (z .n)) (K : RecordCodec X) (
 
   -- If neither is said, the set of the slots counts that are absent or hold another disk than their last.
   abbrev pub counted : (w : World X) (m : Memory X) (i : Input X) (x : Disks X) → Told w m i x → List (ℕ → Bool)
-  counted w nothing i x (inl t) = (λ d. absent-in (z .n) i d || moved x d) ∷ []
+  counted w nothing i x (inl t) = missing (z .n) i x ∷ []
   counted w nothing i x (inr t) = []
   counted w (idle o) i x t = []
   counted w (doing k l o o') i x t = []
@@ -160,7 +164,7 @@ module _ {X : Type 0} (z : Size) (C : LabelCodec X (z .n)) (K : RecordCodec X) (
     -- what Exchange asks
     as-asked : (w : World X) (m : Memory X) (x : Disks X) (i : Input X) (t : Told w m i x) (p : View X) → HoldsFor (room w m x) p → (does m (w .cur) i .1 ≡ accepted → Shared (F .few) (counted w m i x t)) → Asked z W C K E' S R' w m i (does m (w .cur) i .1) x
     as-asked w nothing x i (inl t) p h c = λ e.
-        inl (beside-enough z W C K E' S R' w x p h i e (subst (λ (A : ℕ → Bool). Beside z W C K E' S R' A x) (unseen-is i) (λ b few. F .meet (λ d. absent-in (z .n) i d || moved x d) b (c e (λ d. absent-in (z .n) i d || moved x d) (List·Memᴰ·head refl)) (both (test b) (F .few b) few .1))))
+        inl (beside-enough z W C K E' S R' w x p h i e (subst (λ (A : ℕ → Bool). Beside z W C K E' S R' A x) (unseen-is i) (λ b few. F .meet (missing (z .n) i x) b (c e (missing (z .n) i x) (List·Memᴰ·head refl)) (both (test b) (F .few b) few .1))))
     as-asked w nothing x i (inr (inl a)) p h c = λ e. inl (nothing-asked z W C K E' S R' (unseen z W C K E' S R' nothing i) x a)
     as-asked w nothing x i (inr (inr n)) p h c = λ e. inr (subst (λ (A : ℕ → Bool). Newest z W C K E' S R' A w x) (unseen-is i) n)
     as-asked w (idle o) x i t p h c = tt
@@ -210,7 +214,8 @@ module _ {X : Type 0} (z : Size) (C : LabelCodec X (z .n)) (K : RecordCodec X) (
     settled-few (room w (doing k l o o') x) p h t j = absurd (List·Memᴰ·not-nil j)
     settled-few (room w (idle o) x) p h t j = both (test t) (F .few t) (few-here z C K E S R test ok W sub (at w (idle o)) p (ready-kin z W C K E' S R' w o x p h .0) t j) .1
 
-  -- ---- AT REST ANOTHER FAMILY CAN BE CHOSEN: any that has the set which the settled label calls out. Disks that lie around are no hindrance: what their older labels call out is not believed.
+  -- ---- AT REST ANOTHER FAMILY CAN BE CHOSEN: any that has the set which the settled label calls out. Of the disks that lie
+  -- around nothing else is in the way: a label there of the settled generation calls out what the settled one does, and of older ones nothing is said of the sets that they call out.
   lying-for : (W W' : Quorum (z .n)) (x : Disks X) (Q : Label) → W' .few (Q .out) ≡ true → Lying z W C x Q → Lying z W' C x Q
   lying-for W W' x Q few h d i b n m =
       let y = h d i b n m in
