@@ -82,7 +82,7 @@ module _ {X : Type 0} (z : Size) (C : LabelCodec X (z .n)) (K : RecordCodec X) (
   left-event (swapped-on d i g a b p) = []
   left-event (from-host {w = w} {m = m} i t) = cond (is-accepted (answers m (w .cur) i .1)) (leaves z (no-sets (z .n)) C K E S R test m (w .cur) i) []
 
-  -- those of the slots that are absent or hold another disk, at accepted start-ups
+  -- the set that counts besides, at an accepted start-up
   abbrev pub moved-event : {r r' : Room X} {e : Event X} → BefallsBy r e r' → List (ℕ → Bool)
   moved-event (power-cut f p) = []
   moved-event program-dies = []
@@ -90,6 +90,7 @@ module _ {X : Type 0} (z : Size) (C : LabelCodec X (z .n)) (K : RecordCodec X) (
   moved-event (swapped-on d i g a b p) = []
   moved-event (from-host {w = w} {m = m} {x = x} i t) = cond (is-accepted (answers m (w .cur) i .1)) (counted w m i x t) []
 
+  -- all of them: of an event, of a history
   abbrev pub sets-event : {r r' : Room X} {e : Event X} → BefallsBy r e r' → List (ℕ → Bool)
   sets-event s = moved-event s ++ left-event s
 
@@ -107,6 +108,7 @@ module _ {X : Type 0} (z : Size) (C : LabelCodec X (z .n)) (K : RecordCodec X) (
   ExchangeSince stays = Unit {0}
   ExchangeSince (goes {r = r} s b) = AnyTwo (z .n) (settled-out (bays r) ++ sets-ahead (goes s b)) × ExchangeSince b
 
+  -- they are among all of the history
   ahead-all : {r r' : Room X} {l : List (Event X)} (b : BefellBy r l r') (t : ℕ → Bool) → List·Memᴰ t (sets-ahead b) → List·Memᴰ t (sets-all b)
   ahead-all stays t j = j
   ahead-all (goes {r' = r'} s b) t j = ⊎-elim (λ k. Memᴰ·append-left (sets-all b) k) (λ k. Memᴰ·append-right (sets-event s) (ahead-all b t (more-of (at-rest (bays r')) k))) (List·Memᴰ·append-cases (sets-event s) j)
