@@ -128,11 +128,10 @@ module _ {X : Type 0} (z : Size) (W : Quorum (z .n)) (C : LabelCodec X (z .n)) (
           ⊎-elim (λ q. aside-about z W C (h .Q) (h .N) (h .top) d (copy C (x .stock i) d b) below (subst (λ (Q : Label). Aside z W C Q Q (Q .generation) d (copy C (x .stock i) d b)) (sym q) a))
           (λ j. aside-next z W C (h .Q) (h .N) (h .top) d (copy C (x .stock i) d b) (g .base) j below a) (h .since)
 
-  -- THE WITNESS: if the absent slots and those with another disk are few together, some slot is present with its last disk, which belongs to the shelf, and is not out
-  pub witness : (g : Ghost X) (p : View X) (x : Disks X) (A : ℕ → Bool) (f : Image X) → W .few (λ d. A d || moved x d) ≡ true → (h : Whole g p (x .home) (pile x f)) → (d : ℕ) × (d < z .n) × (A d ≡ false) × (h .virt d ≡ x .inn d) × (h .shelf .Q .out d ≡ false)
-  witness g p x A f few h =
+  -- THE WITNESS: a slot that is neither absent nor holds another disk than its last, and is not out, is present with its last disk, which belongs to the shelf
+  pub witness : (g : Ghost X) (p : View X) (x : Disks X) (A : ℕ → Bool) (f : Image X) (h : Whole g p (x .home) (pile x f)) → ((d : ℕ) × (d < z .n) × ((A d || moved x d) ≡ false) × (h .shelf .Q .out d ≡ false)) → (d : ℕ) × (d < z .n) × (A d ≡ false) × (h .virt d ≡ x .inn d) × (h .shelf .Q .out d ≡ false)
+  witness g p x A f h y =
       let Q = h .shelf .Q in
-      let y = W .meet (λ d. A d || moved x d) (Q .out) few (h .shelf .labels .few-Q) in
       let q = neither (A (y .0)) (moved x (y .0)) (y .2) in
       (y .0, y .1, q .0, in-place (y .0) (h .at-home (y .0) (y .1) (inl (look-is z Q (y .0) (y .1) (inl (y .3))))) (eqb (x .inn (y .0)) (x .home (y .0))) refl (q .1), y .3)
     where
@@ -146,10 +145,10 @@ module _ {X : Type 0} (z : Size) (W : Quorum (z .n)) (C : LabelCodec X (z .n)) (
 
   -- START-UP SEES A LABEL THAT IS NO OLDER THAN THE SETTLED ONE
   module _ (g : Ghost X) (p : View X) (x : Disks X) (A : ℕ → Bool) (w : World X) (f : Image X) (possible : Possible w f) (same : M z C A f ≡ M z C A (w .cur)) (few : W .few A ≡ true) (h : Whole g p (x .home) (pile x f)) where
-    familiar-low : Familiar z W C K E S R A x → h .shelf .Q .generation ≤ M z C A f
+    pub witness-low : ((d : ℕ) × (d < z .n) × ((A d || moved x d) ≡ false) × (h .shelf .Q .out d ≡ false)) → h .shelf .Q .generation ≤ M z C A f
     unfolding Aged
-    familiar-low familiar =
-        let d = witness g p x A f (familiar few) h in
+    witness-low y =
+        let d = witness g p x A f h y in
         let a = h .shelf .labels .low (d .0) (d .1) (d .4) in
         seen-aged z W C A f (d .0) (h .shelf .Q .generation) (d .1) (d .2) (a .0, subst (λ (l : Label). h .shelf .Q .generation ≤ l .generation) (chosen-copy z W C x f (h .virt) (d .0) (a .0) (d .3)) (a .1))
 
@@ -161,13 +160,13 @@ module _ {X : Type 0} (z : Size) (W : Quorum (z .n)) (C : LabelCodec X (z .n)) (
         omega (arith, same, a .1, newest f possible (y .0) (h .virt (y .0)) (a .0) (y .1))
 
     pub asked-low : Familiar z W C K E S R A x ⊎ Newest z W C K E S R A w x → h .shelf .Q .generation ≤ M z C A f
-    asked-low q = ⊎-elim familiar-low newest-low q
+    asked-low q = ⊎-elim (λ familiar. witness-low (W .meet (λ d. A d || moved x d) (h .shelf .Q .out) (familiar few) (h .shelf .labels .few-Q))) newest-low q
 
     -- so the bays do not all look empty, once there is a shelf
-    pub unborn : Familiar z W C K E S R A x ⊎ Newest z W C K E S R A w x → ((d : ℕ) (b : Bool) → d < z .n → copy C f d b .generation ≡ 0) → g .base .generation ≡ 0
-    unborn q none =
+    pub unborn : h .shelf .Q .generation ≤ M z C A f → ((d : ℕ) (b : Bool) → d < z .n → copy C f d b .generation ≡ 0) → g .base .generation ≡ 0
+    unborn low none =
         let y = W .meet (h .shelf .Q .out) (h .shelf .Q .out) (h .shelf .labels .few-Q) (h .shelf .labels .few-Q) in
-        omega (arith, base-below z W C (g .base) (Under z W C K E S R g p) (chosen (h .virt) (pile x f)) (h .shelf), asked-low q, M-none z W C A f (omega (arith, y .1)) none)
+        omega (arith, base-below z W C (g .base) (Under z W C K E S R g p) (chosen (h .virt) (pile x f)) (h .shelf), low, M-none z W C A f (omega (arith, y .1)) none)
 
   -- START-UP MEETS THIS
   module _ (g : Ghost X) (p : View X) (x : Disks X) (A : ℕ → Bool) (f0 : Image X) (ok : Accepted z W C A f0) (h : Whole g p (x .home) (pile x f0)) (low : h .shelf .Q .generation ≤ M z C A f0) where

@@ -2,7 +2,7 @@
 -- out by accepted start-ups and take-outs lie in one family of which any two sets leave a slot out (a Quorum), it does what the program does whose test is that family. (What is asked of the world
 -- there, and the promise: Since.)
 use Prim.Native.Nat.{ℕ, suc}
-use mathlib.Core.Path.{_≡_, refl, sym, ap, subst}
+use mathlib.Core.Path.{_≡_, refl, sym, ap, subst, _∙_}
 use mathlib.Core.Bool.{Bool, true, false, cond, not, _||_, true≢false, false≢true}
 use mathlib.Core.Logic.{_⊎_, ⊎-elim, inl, inr}
 use mathlib.Core.List.{List, [], _∷_, List·Memᴰ, List·Memᴰ·head, List·Memᴰ·tail, List·Memᴰ·not-nil, List·Memᴰ·append-cases, Memᴰ·append-left, Memᴰ·append-right, _++_}
@@ -42,6 +42,10 @@ is-accepted safe = false
 is-accepted (done k) = false
 is-accepted (block b) = false
 is-accepted (found x) = false
+
+pub not-accepted : {X : Type 0} (r : Reply X) (why : Refusal) → r ≡ refused why → r ≡ accepted → ⊥
+unfolding is-accepted
+not-accepted r why e q = false≢true (sym (ap is-accepted e) ∙ ap is-accepted q)
 
 is-clear : Verdict → Bool
 is-clear clear = true

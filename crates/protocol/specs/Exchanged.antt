@@ -426,16 +426,16 @@ module _ {X : Type 0} (z : Size) (W : Quorum (z .n)) (C : LabelCodec X (z .n)) (
         go (because why) e a = (p, refl, as-made w nothing x p made h)
 
     -- create is refused: the bays are not all empty
-    not-blank : Zeros z W C K E S R (w .cur) → Asks (beyond (z .n) (λ d. false)) → ⊥
+    pub not-blank : Zeros z W C K E S R (w .cur) → (W .few (beyond (z .n) (λ d. false)) ≡ true → (y : All (w .cur)) → y .shelf .Q .generation ≤ M z C (beyond (z .n) (λ d. false)) (w .cur)) → ⊥
     unfolding Sane
-    not-blank empty asks =
+    not-blank empty sees =
         let y = always-cur All w (h .sane) (h .left) in
         let A = beyond (z .n) (λ d. false) in
         let few : W .few A ≡ true = W .part A (y .shelf .Q .out) (λ d i q. absurd (true≢false (sym q ∙ beyond-none (z .n) d i))) (y .shelf .labels .few-Q) in
-        omega (arith, h .born, unborn z W C K E S R (h .ghost) p x A w (w .cur) (h .sane) refl few y asks (copy-zeros z W C K E S R (w .cur) empty))
+        omega (arith, h .born, unborn z W C K E S R (h .ghost) p x A w (w .cur) (h .sane) refl few y (sees few y) (copy-zeros z W C K E S R (w .cur) empty))
 
     host-create : Asked z W C K E S R w nothing create (program z W C K E S R nothing (w .cur) create .1) x → Replies w nothing x create (program z W C K E S R nothing (w .cur) create) p
-    unfolding Next program
+    unfolding Next program Sane
     host-create asked = go (may-create z W C K E S R seen) refl asked
       where
         A' : ℕ → Bool
@@ -445,7 +445,7 @@ module _ {X : Type 0} (z : Size) (W : Quorum (z .n)) (C : LabelCodec X (z .n)) (
         seen = mask z W C K E S R A' (w .cur)
 
         go : (v : Verdict) → may-create z W C K E S R seen ≡ v → (answer z W C K E S R nothing v (asked-create z W C K E S R) accepted .1 ≡ accepted → Asks A') → Replies w nothing x create (answer z W C K E S R nothing v (asked-create z W C K E S R) accepted) p
-        go clear e a = absurd (not-blank (zeros-same z W C K E S R seen (w .cur) (λ k i. sym (mask-present z W C K E S R A' (w .cur) k (beyond-none (z .n) (slot k) i))) (create-tests z W C K E S R seen e .0)) (a refl))
+        go clear e a = absurd (not-blank (zeros-same z W C K E S R seen (w .cur) (λ k i. sym (mask-present z W C K E S R A' (w .cur) k (beyond-none (z .n) (slot k) i))) (create-tests z W C K E S R seen e .0)) (λ few y. asked-low z W C K E S R (h .ghost) p x A' w (w .cur) (h .sane) refl few y (a refl)))
         go (because why) e a = (p, refl, as-made w nothing x p made h)
 
     host-nothing : (i : Input X) → Asked z W C K E S R w nothing i (program z W C K E S R nothing (w .cur) i .1) x → Replies w nothing x i (program z W C K E S R nothing (w .cur) i) p

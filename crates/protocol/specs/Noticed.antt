@@ -1,24 +1,25 @@
 -- WHAT FOLLOWS from the promise with exchanged disks: another disk than the last is noticed; when nothing is asked of the world; what every sector holds; what labels may say; which slots are touched.
 use Prim.Native.Nat.{ℕ, _≤_, _<_}
 use mathlib.Core.Path.{_≡_, refl, sym, ap, subst, _∙_}
-use mathlib.Core.Bool.{Bool, true, false, not, _||_, true≢false}
-use mathlib.Core.Logic.{_⊎_, ⊎-elim}
+use mathlib.Core.Bool.{Bool, true, false, not, _||_, true≢false, or-true}
+use mathlib.Core.Logic.{_⊎_, ⊎-elim, inl}
 use native.Mathlib.Omega.{arith}
 use borrow.Author.Tests.{eq-eqb}
 use Rattle.protocol.specs.World.{Place, strip, slot, Image, World, Action, Possible, Sane, Always, always-cur, always-map}
 use Rattle.protocol.specs.Log.{RecordCodec, Quiet}
-use Rattle.protocol.specs.Label.{Label, Size, looked, believed, belief, Quorum, LabelCodec, copy, Aged, MayRule}
-use Rattle.protocol.specs.Startup.{L, gone, seen-aged}
-use Rattle.protocol.specs.Decide.{settled, Accepted}
+use Rattle.protocol.specs.Label.{Label, Size, looked, believed, belief, look-is, Quorum, LabelCodec, copy, Aged, MayRule}
+use Rattle.protocol.specs.Startup.{L, M, gone, absent-gone, seen-aged}
+use Rattle.protocol.specs.Decide.{settled, Accepted, few-absent}
 use Rattle.protocol.specs.Host.{Host, Code, table}
-use Rattle.protocol.specs.Program.{Stamps, Medium, clear, Own, creating, starting, logging, storing, labelling, Memory, nothing, idle, doing, Input, did, beyond, mask, may-start, program}
+use Rattle.protocol.specs.Program.{Stamps, Medium, NOT_NOW, Verdict, clear, because, Own, creating, starting, logging, storing, labelling, Memory, nothing, idle, doing, Input, create, start, read-block, write, take-out, begin, rebuild-on, scrub-stripe, repair, step, accepted, refused, did, beyond, mask, may-start, may-create, answer, asked-start, asked-create, unseen, program}
 use Rattle.protocol.specs.Machine.{View, sure}
 use Rattle.protocol.specs.Invariant.{Ghost}
-use Rattle.protocol.specs.Promise.{mask-present, accept-f, same-label}
+use Rattle.protocol.specs.Promise.{beyond-none, mask-present, accept-f, same-label, create-tests, zeros-same}
 use Rattle.protocol.specs.Kept.{slot-of, away, Sparing, spared-away, sparing, sound}
 use Rattle.protocol.specs.Exchange.{Disks, room, moved, pile, Familiar, Newest}
-use Rattle.protocol.specs.Apart.{same-nat, chosen, Whole, AtHome, settled-dark}
-use Rattle.protocol.specs.Exchanged.{OffAll, low, Made, Holds, made-or-not, ready-kin}
+use Rattle.protocol.specs.Apart.{same-nat, chosen, Whole, AtHome, witness-low, settled-dark}
+use Rattle.protocol.specs.Exchanged.{OffAll, low, not-blank, Made, Holds, made-or-not, ready-kin}
+use Rattle.protocol.specs.Even.{not-accepted}
 
 module _ {X : Type 0} (z : Size) (W : Quorum (z .n)) (C : LabelCodec X (z .n)) (K : RecordCodec X) (E : Code X (z .n) (K .c) W) (S : Stamps) (R : Medium z W C K E S) where
   -- ANOTHER DISK IS NOTICED. No program runs, and then a start-up is not refused. A slot whose bay holds another disk than its last is not looked at by the label that this start-up
@@ -59,6 +60,79 @@ module _ {X : Type 0} (z : Size) (W : Quorum (z .n)) (C : LabelCodec X (z .n)) (
   -- and no more than what start-up has to achieve: that it calls every slot out that is absent or holds another disk.
   pub no-more-asked : (A : ℕ → Bool) (f : Image X) (x : Disks X) → Accepted z W C A f → ((d : ℕ) → d < z .n → (A d || moved x d) ≡ true → (L z C A f .out d || gone z C A f d) ≡ true) → Familiar z W C K E S R A x
   no-more-asked A f x ok h few = W .part (λ d. A d || moved x d) (λ d. L z C A f .out d || gone z C A f d) h (ok .enough)
+
+  -- IT IS ENOUGH that the slots which are absent or hold another disk leave a slot out in common with any few slots. (Where few is at most m: that more than m slots are present with their last disk.)
+  -- Start-up then calls each of them out, and that they are few is its own test.
+  abbrev pub Beside : (ℕ → Bool) → Disks X → Type 0
+  Beside A x = (b : ℕ → Bool) → W .few b ≡ true → (d : ℕ) × (d < z .n) × ((A d || moved x d) ≡ false) × (b d ≡ false)
+
+  module _ (w : World X) (x : Disks X) (p : View X) (made : x .made ≡ true) (h : OffAll z W C K E S R p w x) where
+    sees : (A : ℕ → Bool) → W .few A ≡ true → Beside A x → (y : Whole z W C K E S R (h .ghost) p (x .home) (pile x (w .cur))) → y .shelf .Q .generation ≤ M z C A (w .cur)
+    unfolding Sane
+    sees A few beside y = witness-low z W C K E S R (h .ghost) p x A w (w .cur) (h .sane) refl few y (beside (y .shelf .Q .out) (y .shelf .labels .few-Q))
+
+    start-enough : (A : ℕ → Bool) → may-start z W C K E S R (beyond (z .n) A) (mask z W C K E S R (beyond (z .n) A) (w .cur)) ≡ clear → Beside (beyond (z .n) A) x → Familiar z W C K E S R (beyond (z .n) A) x
+    unfolding Sane
+    start-enough A ok beside = no-more-asked A' (w .cur) x there (λ d i e. called d i (A' d) refl e)
+      where
+        A' : ℕ → Bool
+        A' = beyond (z .n) A
+
+        seen : Image X
+        seen = mask z W C K E S R A' (w .cur)
+
+        there : Accepted z W C A' (w .cur)
+        there = accept-f z W C K E S R A' seen ok (w .cur) (λ k a. mask-present z W C K E S R A' (w .cur) k a)
+
+        y : Whole z W C K E S R (h .ghost) p (x .home) (pile x (w .cur))
+        y = always-cur (λ f. Whole z W C K E S R (h .ghost) p (x .home) (pile x f)) w (h .sane) (h .left)
+
+        S0 : Label
+        S0 = settled z C K A' (w .cur)
+
+        unlit : (d : ℕ) → d < z .n → (b : Bool) → S0 .out d ≡ b → (looked z S0 d ≡ true → ⊥) → S0 .out d ≡ true
+        unlit d i true e dark = e
+        unlit d i false e dark = absurd (dark (look-is z S0 d i (inl e)))
+
+        called : (d : ℕ) → d < z .n → (a : Bool) → A' d ≡ a → (a || moved x d) ≡ true → (L z C A' (w .cur) .out d || gone z C A' (w .cur) d) ≡ true
+        called d i true q e = rw (absent-gone z W C A' (w .cur) d i q, or-true)
+        called d i false q e = unlit d i (S0 .out d) refl (settled-dark z W C K E S R (h .ghost) p x A' (w .cur) there y (sees A' (few-absent z W C K (h .ghost .history) A' (w .cur) there) beside y) d e)
+
+    made-enough : (i : Input X) → program z W C K E S R nothing (w .cur) i .1 ≡ accepted → Beside (unseen z W C K E S R nothing i) x → Familiar z W C K E S R (unseen z W C K E S R nothing i) x
+    unfolding program
+    made-enough create e beside = go (may-create z W C K E S R seen) refl e
+      where
+        A' : ℕ → Bool
+        A' = beyond (z .n) (λ d. false)
+
+        seen : Image X
+        seen = mask z W C K E S R A' (w .cur)
+
+        go : (v : Verdict) → may-create z W C K E S R seen ≡ v → answer z W C K E S R nothing v (asked-create z W C K E S R) accepted .1 ≡ accepted → Familiar z W C K E S R A' x
+        go clear q r = absurd (not-blank z W C K E S R w x p made h (zeros-same z W C K E S R seen (w .cur) (λ k i. sym (mask-present z W C K E S R A' (w .cur) k (beyond-none (z .n) (slot k) i))) (create-tests z W C K E S R seen q .0)) (λ few y. sees A' few beside y))
+        go (because why) q r = absurd (not-accepted (refused why) why refl r)
+    made-enough (start A) e beside = go (may-start z W C K E S R A' seen) refl e
+      where
+        A' : ℕ → Bool
+        A' = beyond (z .n) A
+
+        seen : Image X
+        seen = mask z W C K E S R A' (w .cur)
+
+        go : (v : Verdict) → may-start z W C K E S R A' seen ≡ v → answer z W C K E S R nothing v (asked-start z W C K E S R A' seen) accepted .1 ≡ accepted → Familiar z W C K E S R A' x
+        go clear q r = start-enough A q beside
+        go (because why) q r = absurd (not-accepted (refused why) why refl r)
+    made-enough (read-block t i) e beside = absurd (not-accepted (refused NOT_NOW) NOT_NOW refl e)
+    made-enough (write t ch) e beside = absurd (not-accepted (refused NOT_NOW) NOT_NOW refl e)
+    made-enough (take-out d) e beside = absurd (not-accepted (refused NOT_NOW) NOT_NOW refl e)
+    made-enough (begin d) e beside = absurd (not-accepted (refused NOT_NOW) NOT_NOW refl e)
+    made-enough (rebuild-on b) e beside = absurd (not-accepted (refused NOT_NOW) NOT_NOW refl e)
+    made-enough (scrub-stripe t) e beside = absurd (not-accepted (refused NOT_NOW) NOT_NOW refl e)
+    made-enough (repair t) e beside = absurd (not-accepted (refused NOT_NOW) NOT_NOW refl e)
+    made-enough step e beside = absurd (not-accepted (refused NOT_NOW) NOT_NOW refl e)
+
+  pub beside-enough : (w : World X) (x : Disks X) (p : View X) → Holds z W C K E S R (room w nothing x) p → (i : Input X) → program z W C K E S R nothing (w .cur) i .1 ≡ accepted → Beside (unseen z W C K E S R nothing i) x → Familiar z W C K E S R (unseen z W C K E S R nothing i) x
+  beside-enough w x p h i e beside = ⊎-elim (λ y. made-enough w x p (y .0) (y .1) i e beside) (λ y. nothing-asked (unseen z W C K E S R nothing i) x (y .2 .at-home)) (made-or-not z W C K E S R w nothing x p h)
 
   -- READY: each believed sector is what the list wants there, whatever a cut leaves
   pub exchange-sound : (v : Host X) (w : World X) (o : Own) (x : Disks X) → Holds z W C K E S R (room w (idle o) x) (sure v) → Always w (λ f. (d t j : ℕ) → believed z (o .now) d t ≡ true → j < K .c → f (strip d t j) ≡ table z W K E v t d j)

@@ -4,7 +4,7 @@ use Prim.Native.Nat.{ℕ, zero, suc, _<_}
 use mathlib.Core.Path.{_≡_, refl, sym, ap, subst, _∙_}
 use mathlib.Core.Bool.{Bool, true, false, cond, not, _&&_, _||_, true≢false, false≢true}
 use mathlib.Core.Logic.{_⊎_, ⊎-elim, inl, inr}
-use mathlib.Core.List.{List, [], _∷_, List·Memᴰ, List·Memᴰ·head, List·Memᴰ·tail, List·Memᴰ·not-nil, List·Memᴰ·cases-cons}
+use mathlib.Core.List.{List, [], _∷_, _++_, List·Memᴰ, List·Memᴰ·head, List·Memᴰ·tail, List·Memᴰ·not-nil, List·Memᴰ·cases-cons, List·Memᴰ·append-cases}
 use native.Mathlib.Nat.{eq-or-lt-of-le, le-of-suc-le-suc}
 use native.Mathlib.Omega.{arith}
 use Rattle.protocol.specs.World.{Image}
@@ -27,6 +27,12 @@ Parts n test = (a b : ℕ → Bool) → ((d : ℕ) → d < n → a d ≡ true �
 -- any two sets of the list, and each one by itself, leave a slot out
 abbrev pub AnyTwo : ℕ → List (ℕ → Bool) → Type 0
 AnyTwo n l = (s t : ℕ → Bool) → List·Memᴰ s l → List·Memᴰ t l → (d : ℕ) × (d < n) × (s d ≡ false) × (t d ≡ false)
+
+pub two-alone : (n : ℕ) (l : List (ℕ → Bool)) → AnyTwo n l → AnyTwo n (l ++ [])
+two-alone n l two s t i j = two s t (only i) (only j)
+  where
+    only : {s : ℕ → Bool} → List·Memᴰ s (l ++ []) → List·Memᴰ s l
+    only i = ⊎-elim (λ k. k) (λ k. absurd (List·Memᴰ·not-nil k)) (List·Memᴰ·append-cases l i)
 
 pub and-is : (a b : Bool) → a ≡ true → b ≡ true → (a && b) ≡ true
 and-is a b p q = rw (p, q)
@@ -122,22 +128,29 @@ parts-of n l two =
 pub with-none : (n : ℕ) → 0 < n → (l : List (ℕ → Bool)) → AnyTwo n l → AnyTwo n ((λ d. false) ∷ l)
 with-none n some l two s t i j = ⊎-elim (λ e. ⊎-elim (λ e'. (0, some, ap (λ (a : ℕ → Bool). a 0) e, ap (λ (a : ℕ → Bool). a 0) e')) (λ m. let y = two t t m m in (y .0, y .1, ap (λ (a : ℕ → Bool). a (y .0)) e, y .3)) (List·Memᴰ·cases-cons j)) (λ m. ⊎-elim (λ e'. let y = two s s m m in (y .0, y .1, y .2, ap (λ (a : ℕ → Bool). a (y .0)) e')) (λ m'. two s t m m') (List·Memᴰ·cases-cons j)) (List·Memᴰ·cases-cons i)
 
--- the parts of the sets of a list that pass the test
-module _ {n : ℕ} (test : (ℕ → Bool) → Bool) (part : Parts n test) (none : test (λ d. false) ≡ true) (some : 0 < n) (l : List (ℕ → Bool)) (two : AnyTwo n l) where
-  abbrev parts : Quorum n
+module _ {n : ℕ} (some : 0 < n) (l : List (ℕ → Bool)) (two : AnyTwo n l) where
+  abbrev pub parts : Quorum n
   parts = parts-of n ((λ d. false) ∷ l) (with-none n some l two)
 
+  pub none-listed : parts .few (λ d. false) ≡ true
+  none-listed = some-is n (λ d. false) (λ d. false) ((λ d. false) ∷ l) (List·Memᴰ·head refl) (λ d i e. e)
+
+  pub listed : (s : ℕ → Bool) → List·Memᴰ s l → parts .few s ≡ true
+  listed s m = some-is n s s ((λ d. false) ∷ l) (List·Memᴰ·tail m) (λ d i q. q)
+
+-- the parts of the sets of a list that pass the test
+module _ {n : ℕ} (test : (ℕ → Bool) → Bool) (part : Parts n test) (none : test (λ d. false) ≡ true) (some : 0 < n) (l : List (ℕ → Bool)) (two : AnyTwo n l) where
   abbrev pub tested-parts : Quorum n
-  tested-parts = within test part parts
+  tested-parts = within test part (parts some l two)
 
   pub parts-pass : (a : ℕ → Bool) → tested-parts .few a ≡ true → test a ≡ true
-  parts-pass a e = both (test a) (parts .few a) e .0
+  parts-pass a e = both (test a) (parts some l two .few a) e .0
 
   pub none-in : tested-parts .few (λ d. false) ≡ true
-  none-in = and-is (test (λ d. false)) (parts .few (λ d. false)) none (some-is n (λ d. false) (λ d. false) ((λ d. false) ∷ l) (List·Memᴰ·head refl) (λ d i e. e))
+  none-in = and-is (test (λ d. false)) (parts some l two .few (λ d. false)) none (none-listed some l two)
 
   pub in-parts : (s : ℕ → Bool) → List·Memᴰ s l → test s ≡ true → tested-parts .few s ≡ true
-  in-parts s m e = and-is (test s) (parts .few s) e (some-is n s s ((λ d. false) ∷ l) (List·Memᴰ·tail m) (λ d i q. q))
+  in-parts s m e = and-is (test s) (parts some l two .few s) e (listed some l two s m)
 
 -- ---- a code, and a medium, for a family whose sets pass the test
 

@@ -10,7 +10,7 @@ use mathlib.Core.List.{List, [], _∷_, _++_, List·Memᴰ, List·Memᴰ·head, 
 use native.Mathlib.Omega.{arith}
 use Rattle.protocol.specs.World.{Image, World, Sane, Always, always-map, always-cur}
 use Rattle.protocol.specs.Log.{RecordCodec}
-use Rattle.protocol.specs.Label.{Label, Size, Quorum, LabelCodec, copy, Labels}
+use Rattle.protocol.specs.Label.{Label, Size, Quorum, LabelCodec, copy, MayRule, Labels}
 use Rattle.protocol.specs.Decide.{Rest}
 use Rattle.protocol.specs.Host.{Host, Code, table}
 use Rattle.protocol.specs.Program.{Stamps, Medium, Own, nothing, idle, doing}
@@ -18,23 +18,16 @@ use Rattle.protocol.specs.Machine.{Machine, at, Event, View, sure, open-
 use Rattle.protocol.specs.Invariant.{Ready, Invariant}
 use Rattle.protocol.specs.Promise.{Zeros, zeros-off, promise}
 use Rattle.protocol.specs.Even.{views-alike, Shared, HappensBy, RunsBy, stays, goes, left-one, left-by, asked-runs, all-passed}
-use Rattle.protocol.specs.Pairs.{Parts, AnyTwo, no-sets, tested-parts, parts-pass, none-in, in-parts, Mends, code-of, medium-for, same-runs, same-zeros-of}
+use Rattle.protocol.specs.Pairs.{Parts, AnyTwo, two-alone, no-sets, tested-parts, parts-pass, none-in, in-parts, Mends, code-of, medium-for, same-runs, same-zeros-of}
 
 -- ---- at rest the labels are right for every family that has the set which the settled label calls out
 
+-- a label of the settled generation calls out what the settled one does
+pub rule-for : {X : Type 0} (z : Size) (C : LabelCodec X (z .n)) (W W' : Quorum (z .n)) (Q l : Label) → W' .few (Q .out) ≡ true → l .generation ≡ Q .generation → MayRule z W C Q Q l → MayRule z W' C Q Q l
+rule-for z C W W' Q l few e y = record { few-out = ap (W' .few) (y .same-out e) ∙ few; same-out = y .same-out; narrow = y .narrow }
+
 labels-for : {X : Type 0} (z : Size) (C : LabelCodec X (z .n)) (W W' : Quorum (z .n)) (Q : Label) (f : Image X) → W' .few (Q .out) ≡ true → Labels z W C Q Q (Q .generation) (Q .out) f → Labels z W' C Q Q (Q .generation) (Q .out) f
-labels-for z C W W' Q f few h =
-    record {
-      few-Q = few;
-      few-far = few;
-      low = h .low;
-      cap = h .cap;
-      near = h .near;
-      fine = λ d b i p g.
-          let y = h .fine d b i p g in
-          let e : copy C f d b .generation ≡ Q .generation = omega (arith, g, h .cap d b i) in
-          record { few-out = ap (W' .few) (y .same-out e) ∙ few; same-out = y .same-out; narrow = y .narrow };
-    }
+labels-for z C W W' Q f few h = record { few-Q = few; few-far = few; low = h .low; cap = h .cap; near = h .near; fine = λ d b i p g. rule-for z C W W' Q (copy C f d b) few (omega (arith, g, h .cap d b i)) (h .fine d b i p g) }
 
 -- ---- moments of rest
 
@@ -50,7 +43,7 @@ settled-out (at w nothing) = []
 settled-out (at w (idle o)) = o .now .out ∷ []
 settled-out (at w (doing k l o o')) = []
 
-more-of : (b : Bool) {l : List (ℕ → Bool)} {t : ℕ → Bool} → List·Memᴰ t (cond b [] l) → List·Memᴰ t l
+pub more-of : (b : Bool) {l : List (ℕ → Bool)} {t : ℕ → Bool} → List·Memᴰ t (cond b [] l) → List·Memᴰ t l
 more-of true j = absurd (List·Memᴰ·not-nil j)
 more-of false j = j
 
@@ -137,14 +130,14 @@ module _ {X : Type 0} (z : Size) (C : LabelCodec X (z .n)) (K : RecordCodec X) (
 
   -- ---- from zeros on
 
-  begins : (W : Quorum (z .n)) (sub : Passing W) → W .few (λ d. false) ≡ true → (w : World X) → Sane w → Always w (Zeros z (no-sets (z .n)) C K E S R) → InvariantFor W sub (at w nothing) (sure (λ t i j. K .zeros))
+  pub begins : (W : Quorum (z .n)) (sub : Passing W) → W .few (λ d. false) ≡ true → (w : World X) → Sane w → Always w (Zeros z (no-sets (z .n)) C K E S R) → InvariantFor W sub (at w nothing) (sure (λ t i j. K .zeros))
   begins W sub none w sane h =
       let E' = code-of z C K E S R test ok W sub in
       let R' = medium-for z C K E S R test ok W sub in
       zeros-off z W C K E' S R' w sane none (always-map (Zeros z (no-sets (z .n)) C K E S R) (Zeros z W C K E' S R') w (same-zeros-of z C K E S R test ok W sub) h)
 
   -- the set that is settled is in the family
-  few-here : (W : Quorum (z .n)) (sub : Passing W) (m : Machine X) (p : View X) → InvariantFor W sub m p → Shared (W .few) (settled-out m)
+  pub few-here : (W : Quorum (z .n)) (sub : Passing W) (m : Machine X) (p : View X) → InvariantFor W sub m p → Shared (W .few) (settled-out m)
   few-here W sub (at w nothing) p i t j = absurd (List·Memᴰ·not-nil j)
   few-here W sub (at w (doing k l o o')) p i t j = absurd (List·Memᴰ·not-nil j)
   few-here W sub (at w (idle o)) p i t j = ⊎-elim (λ e. ap (W .few) e ∙ rest-few W sub w o p i) (λ k. absurd (List·Memᴰ·not-nil k)) (List·Memᴰ·cases-cons j)
@@ -153,10 +146,7 @@ module _ {X : Type 0} (z : Size) (C : LabelCodec X (z .n)) (K : RecordCodec X) (
 
   module _ (part : Parts (z .n) test) (none : test (λ d. false) ≡ true) (some : 0 < z .n) where
     two-here : {m m' : Machine X} {l : List (Event X)} (r : RunsTo m l m') → AnyTwo (z .n) (settled-out m) → AnyTwoSince r → AnyTwo (z .n) (settled-out m ++ ahead r)
-    two-here {m} stays h two = λ s t i j. h s t (only i) (only j)
-      where
-        only : {s : ℕ → Bool} → List·Memᴰ s (settled-out m ++ []) → List·Memᴰ s (settled-out m)
-        only i = ⊎-elim (λ k. k) (λ k. absurd (List·Memᴰ·not-nil k)) (List·Memᴰ·append-cases (settled-out m) i)
+    two-here {m} stays h two = two-alone (z .n) (settled-out m) h
     two-here (goes s r) h two = two .0
 
     -- the next machine is not at rest, and the family stays; or it is, and the next family takes over

@@ -9,17 +9,16 @@ use native.Mathlib.Omega.{arith}
 use lib.Dec.{leb, lit<}
 use Rattle.disk.specs.Geometry.{slotOf, stripLength, inRange, splits, inRangeWith}
 use Rattle.protocol.specs.World.{Image, World, Sane, Always}
-use Rattle.protocol.specs.Label.{Quorum}
 use Rattle.protocol.specs.Host.{Code, read, read-through, writeOf, whole-change, repairOf, rebuilt}
 use Rattle.protocol.specs.Count.{count-part}
 use Rattle.protocol.specs.Program.{Medium, Memory, nothing, idle, doing, Input, create, start, read-block, write, take-out, begin, rebuild-on, scrub-stripe, repair, step, Reply, mask, change-made, left-out, flushed-first, told-to, program}
 use Rattle.protocol.specs.Machine.{Machine, at, Event, View, sure, Views}
 use Rattle.protocol.specs.Promise.{Zeros}
-use Rattle.protocol.specs.Even.{Shared, program-by, RunsBy, left-by, all-passed}
-use Rattle.protocol.specs.Pairs.{Parts, AnyTwo, no-sets, within, Mends}
+use Rattle.protocol.specs.Even.{program-by, RunsBy, left-by, all-passed}
+use Rattle.protocol.specs.Pairs.{Parts, AnyTwo, no-sets, Mends}
 use Rattle.protocol.specs.Since as Since
 use Rattle.protocol.specs.Exchange.{Disks, Room, room, Strange}
-use Rattle.protocol.specs.Pool.{BefellBy, left-all}
+use Rattle.protocol.specs.Pool.{BefellBy, sets-all}
 use Rattle.protocol.specs.Pool as Pool
 use Rattle.codecs.specs.Sector.{Sector, zeros}
 use Rattle.codecs.specs.Shelf.{Shelf, slots, size, some-slots}
@@ -84,11 +83,12 @@ module _ (z : Shelf) where
   abbrev pub left : {a b : Machine Sector} {l : List (Event Sector)} → ShelfRuns a l b → List (ℕ → Bool)
   left r = left-by (size z) (no-sets (slots z)) (labels z) (records z) any-code stamps any-sectors (fewOf z) r
 
-  abbrev pub ShelfBefell : Quorum (slots z) → Room Sector → List (Event Sector) → Room Sector → Type 1
-  ShelfBefell F = BefellBy (size z) (no-sets (slots z)) (labels z) (records z) any-code stamps any-sectors (fewOf z) (within (fewOf z) few-parts F .few)
+  -- histories with exchanged disks; the sets that their accepted start-ups and take-outs leave out, and those of the slots that are absent or hold another disk than their last
+  abbrev pub ShelfBefell : Room Sector → List (Event Sector) → Room Sector → Type 1
+  ShelfBefell = BefellBy (size z) (labels z) (records z) any-code stamps any-sectors (fewOf z)
 
-  abbrev pub left-room : (F : Quorum (slots z)) {r r' : Room Sector} {l : List (Event Sector)} → ShelfBefell F r l r' → List (ℕ → Bool)
-  left-room F b = left-all (size z) (no-sets (slots z)) (labels z) (records z) any-code stamps any-sectors (fewOf z) (within (fewOf z) few-parts F .few) b
+  abbrev pub sets : {r r' : Room Sector} {l : List (Event Sector)} → ShelfBefell r l r' → List (ℕ → Bool)
+  sets b = sets-all (size z) (labels z) (records z) any-code stamps any-sectors (fewOf z) b
 
   -- any two of those that are left out from one moment of rest to the next, and of what the label calls out that is settled at the first, leave a slot out
   abbrev pub AnyTwoSince : {a b : Machine Sector} {l : List (Event Sector)} → ShelfRuns a l b → Type 0
@@ -113,10 +113,17 @@ module _ (z : Shelf) where
       passed : (s : ℕ → Bool) → List·Memᴰ s (left r) → fewOf z s ≡ true
       passed = all-passed (size z) (no-sets (slots z)) (labels z) (records z) any-code stamps any-sectors (fewOf z) r
 
-  -- with exchanged disks: the sets that are left out lie in a family F of which any two leave a slot out, and so do, and are at most m, the slots that are absent or hold another disk than
-  -- their last, at an accepted start-up that may miss the newest label
-  pub exchange-promised : (F : Quorum (slots z)) → F .few (λ d. false) ≡ true → (w : World Sector) (x : Disks Sector) → Sane w → Always w ShelfZeros → x .made ≡ false → Strange (size z) (labels z) x → {r : Room Sector} {l : List (Event Sector)} (b : ShelfBefell F (room w nothing x) l r) → Shared (F .few) (left-room F b) → (p : View Sector) × Views (z .c) (sure (λ t i j. zeros)) l p
-  exchange-promised F none w x sane h made strange b shared = Pool.exchange-family-promised (size z) (labels z) (records z) any-code stamps any-sectors (fewOf z) mends F few-parts (few-none z) none w x sane h made strange b shared
+  -- WITH EXCHANGED DISKS the same is asked, with one more set for an accepted start-up: the slots that are absent or hold another disk than their last. It does not count where every slot has its
+  -- last disk, nor where start-up sees the newest label that there is on any disk.
+  abbrev pub ExchangeSince : {r r' : Room Sector} {l : List (Event Sector)} → ShelfBefell r l r' → Type 0
+  ExchangeSince b = Pool.ExchangeSince (size z) (labels z) (records z) any-code stamps any-sectors (fewOf z) b
+
+  pub exchange-promised : (w : World Sector) (x : Disks Sector) → Sane w → Always w ShelfZeros → x .made ≡ false → Strange (size z) (labels z) x → {r : Room Sector} {l : List (Event Sector)} (b : ShelfBefell (room w nothing x) l r) → ExchangeSince b → (p : View Sector) × Views (z .c) (sure (λ t i j. zeros)) l p
+  exchange-promised w x sane h made strange b two = Pool.exchange-since-promised (size z) (labels z) (records z) any-code stamps any-sectors (fewOf z) mends few-parts (few-none z) (some-slots z) w x sane h made strange b two
+
+  -- it is so where any two of all sets of the history leave a slot out; where one slot always takes part with its last disk, say
+  pub exchange-pairs-since : (w : World Sector) (x : Disks Sector) → Sane w → Always w ShelfZeros → x .made ≡ false → Strange (size z) (labels z) x → {r : Room Sector} {l : List (Event Sector)} (b : ShelfBefell (room w nothing x) l r) → AnyTwo (slots z) (sets b) → ExchangeSince b
+  exchange-pairs-since w x sane h made strange b two = Pool.exchange-pairs-since (size z) (labels z) (records z) any-code stamps any-sectors (fewOf z) mends few-parts (few-none z) (some-slots z) w x sane h made strange b two
 
   -- for k > m it is the program that Promise is about
   pub same-program : (more : z .m < z .k) (m : Memory Sector) (f : Image Sector) (i : Input Sector) → shelf-program m f i ≡ program (size z) (quorum z more) (labels z) (records z) (code z more) stamps (sectors z more) m f i
