@@ -1,7 +1,7 @@
 -- EACH ACCEPTED REQUEST ENDS IN ITS OWN SUCCESS: with a work area of the right size its steps are what is left to do, an action each,
--- and the next one is done; none is refused. Assumes nothing.
-use mathlib.Core.Path.{_≡_, refl, ap, subst, _∙_}
-use mathlib.Core.Bool.{true}
+-- and the next one is done; none is refused. A step that answers Done ends its request. Assumes nothing.
+use mathlib.Core.Path.{_≡_, refl, sym, ap, subst, _∙_}
+use mathlib.Core.Bool.{Bool, true, false, cond, _&&_, false≢true}
 use mathlib.Core.List.{List, [], _∷_}
 use Prim.Native.Nat.{ℕ, zero, suc, _<_}
 use native.Mathlib.Omega.{arith}
@@ -9,12 +9,15 @@ use lib.ListN.{length}
 use Rattle.protocol.specs.World.{Action, put, flush}
 use Rattle.codecs.specs.Sector.{Sector}
 use Rattle.codecs.specs.Shelf.{Shelf, slots}
-use Rattle.shelf.specs.Act.{Move}
-use Rattle.shelf.specs.Step.{done}
+use Rattle.disk.specs.declared.refusal.Refusal.the-variants.{BadBuffer}
+use Rattle.shelf.specs.Act.{Move, refuses}
+use Rattle.shelf.specs.Step.{done, finished, sound, stepMove}
+use Rattle.shelf.specs.Laws.{step-done}
 use Rattle.shelf.specs.Bound.{acted}
 use Rattle.stages.specs.declared.state.State.{State}
+use Rattle.stages.specs.declared.state.Answer.the-variants as answer
 use Rattle.requests.specs.Begun.{workBytes}
-use Rattle.requests.specs.Step.{stepWith}
+use Rattle.requests.specs.Step.{otherWork, stepWith}
 use Rattle.refine.specs.ToDo.{toDo}
 use Rattle.refine.specs.Steps.{Fair, Does, step-does}
 use Rattle.refine.specs.Requests.{room-fits}
@@ -57,3 +60,17 @@ module _ (z : Shelf) (work : List ℕ) (fits : length work ≡ workBytes (slots 
   -- a request under way ends after as many actions as are left
   pub request-ends : (s : State) (img : List ℕ) → Fair z s work img → EndsAfter (length (toDo z s work img)) work s img
   request-ends s img fair = ends-by (toDo z s work img) s img fair refl
+
+-- A STEP THAT ANSWERS DONE leaves the image as it was
+done-image : (s : State) (img work : List ℕ) → stepWith s img work .stepped .answer ≡ answer.Done → stepWith s img work .image ≡ img
+unfolding stepWith
+done-image s img work = by (sound s && otherWork (s .now) (length img) (length work))
+  where
+    by : (b : Bool) → cond {A = Move} b (refuses s BadBuffer img) (stepMove s work img) .stepped .answer ≡ answer.Done → cond {A = Move} b (refuses s BadBuffer img) (stepMove s work img) .image ≡ img
+    by true e = refl
+    by false e = step-done s work img e
+
+-- and is the last one of its request: all is at rest then
+pub done-ends : (n : ℕ) (work : List ℕ) (s : State) (img : List ℕ) → EndsAfter n work s img → stepWith s img work .stepped .answer ≡ answer.Done → stepWith s img work ≡ finished s img
+done-ends zero work s img h e = let q = done-image s img work e in λ i. record { stepped = h .ends i; image = q i }
+done-ends (suc n) work s img h e = absurd (false≢true (sym (ap acted e) ∙ h .acts 0 (omega arith)))

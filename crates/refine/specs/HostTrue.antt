@@ -63,7 +63,7 @@ use Rattle.refine.specs.Named.{copy-ours}
 use Rattle.refine.specs.Holds.{Wanted, NoLies, HeldTrue, no-lies, held-true}
 use Rattle.refine.specs.Chain.{Allowed, outs, Tie, rests, start-any-passed, out-passed}
 use Rattle.refine.specs.Chain as chain
-use Rattle.refine.specs.Refills.{rest-dark}
+use Rattle.refine.specs.Refills.{Heals, rest-dark}
 use Rattle.refine.specs.Hosts.{Held, none, has, Time, at, held, HostCalls, creates, starts, creates-late, takes-out, begins, ons, writes, repairs, steps, swaps, cut, dies, HostChain, stays, goes-on, sets-call, sets, Bound, BoundAt, loose, not-rest, repair-changes-nothing, call-bound, chain-bound}
 use Rattle.refine.specs.HostHolds.{bound-followed, write-carried-out, begin-carried-out, rebuild-carried-out, bound-rests}
 
@@ -213,6 +213,14 @@ module _ (z : Shelf) (F : Family z) (first : Machine Sector) (p : View Sector) (
 
     -- ---- WHAT IS UNDER WAY
 
+    -- while a rebuild goes on: where the label that it is to settle has no slot that is being rebuilt, the one of the label before is not out any more
+    pub bound-heals : s .kind ≡ Filling → Bound z F first p w img (has s work) → Heals z (s .now) (s .next)
+    bound-heals k (inl t) =
+        ⊎-elim (λ (f : Fair z s [] img × (plain (s .kind) ≡ true)). absurd (false≢true (sym (ap plain k) ∙ f .1))) (λ (q : (s .kind ≡ Idle) × (ours z (s .now) ≡ true)). absurd (false≢true (sym (ap isIdle k) ∙ ap isIdle (q .0)))) (t .order .1)
+    bound-heals k (inr (inl t)) = let q = t .writes .kind in absurd (let i : _≡_ {A = ℕ} 0 1 = cc in omega arith)
+    bound-heals k (inr (inr (inl t))) = absurd (false≢true (sym (ap plain k) ∙ ap plain (t .kind)))
+    bound-heals k (inr (inr (inr t))) = t .refills .heals
+
     -- A REQUEST UNDER WAY IS CARRIED OUT by its steps, whichever it is: some actions, and then it is done; none of them is refused
     pub bound-carried-out : length work ≡ workBytes (slots z) (z .c) → (s .kind ≡ Idle → ⊥) → Bound z F first p w img (has s work) → (n : ℕ) × EndsAfter n work s img
     bound-carried-out fits busy (inl t) =
@@ -223,7 +231,7 @@ module _ (z : Shelf) (F : Family z) (first : Machine Sector) (p : View Sector) (
 
 -- ---- CHAINS
 
-pub chained-on : {z : Shelf} {a b c : Time} → HostChain z a b → HostChain z b c → HostChain z a c
+unfoldable pub chained-on : {z : Shelf} {a b c : Time} → HostChain z a b → HostChain z b c → HostChain z a c
 chained-on p stays = p
 chained-on p (goes-on q x) = goes-on (chained-on p q) x
 

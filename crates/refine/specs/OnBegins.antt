@@ -12,7 +12,7 @@ use lib.Arith.{bin-ind}
 use lib.Bits.{bitOr, or-step}
 use lib.Count.{ones, onesIn, ones-step}
 use lib.ListN.{length}
-use borrow.Author.Tests.{lt-ltb, le-leb, ne-eqb, eqb-true, ltb-false, not-true}
+use borrow.Author.Tests.{lt-ltb, le-leb, eq-eqb, ne-eqb, eqb-true, ltb-false, not-true}
 use Rattle.disk.specs.Limits.{sectorBytes, leastN, mostN, mostK, mostM}
 use Rattle.disk.specs.Tests.{and-left, and-right, both}
 use Rattle.disk.specs.Geometry.{inRangeWith, stripLength, stripesOf}
@@ -279,6 +279,16 @@ module _ (z : Shelf) (img : List ℕ) (disks : Disks z img) (s : State) (own : o
 
   pub on-next : ours z (onLabel l b) ≡ true
   on-next = next-tells .same
+
+  -- where that label has no slot that is being rebuilt, the slot is healthy
+  pub on-heals : onLabel l b .rebuilding ≡ noSlot → (r < slots z) × (inMask (onLabel l b .out) r ≡ false)
+  unfolding onLabel
+  on-heals e = (there, by (lastBatch l b) e)
+    where
+      by : (x : Bool) → cond x (nextLabel l (withoutSlot (l .out) r) noSlot 0) (nextLabel l (l .out) r (l .mark + atLeastOne b)) .rebuilding ≡ noSlot
+          → inMask (cond x (nextLabel l (withoutSlot (l .out) r) noSlot 0) (nextLabel l (l .out) r (l .mark + atLeastOne b)) .out) r ≡ false
+      by true q = in-without (l .out) r r ∙ ap (λ (x : Bool). not x && inMask (l .out) r) (eq-eqb r r refl)
+      by false q = absurd (omega (arith, q, there, few-slots z))
 
   -- ---- the beginning
 

@@ -1,10 +1,11 @@
 -- WHAT EVERY CHAIN OF CALLS KEEPS, in the words of the bytes, from an image of zeros on, whatever is called: create, start, take out, begin, rebuild on, write, repair and step, with power cuts and deaths of
--- the caller in between. No label on any disk lies, names another shelf or loses its shape; the state's own label is true, whatever a cut leaves; no step touches an absent slot; what was accepted is
--- carried out. For every shelf, where any two of the sets of slots that accepted start-ups and take-outs leave out from one moment of rest to the next leave a slot out in common (Since); for k > m nothing is asked
+-- the caller in between. No label on any disk lies, names another shelf or loses its shape; the state's own label is true, whatever a cut leaves, and so is the answer Done of a step; no step touches an absent
+-- slot; what was accepted is carried out. For every shelf, where any two of the sets of slots that accepted start-ups and take-outs leave out from one moment of rest to the next leave a slot out in common (Since); for k > m nothing is asked
 -- (`nothing-asked`). (Where they leave none, no start-up can tell what was written: the protocol's Limits.) What reads show meanwhile is in Serves. Assumes nothing.
 use mathlib.Core.Path.{_≡_, refl, sym, ap, subst, _∙_}
 use mathlib.Core.Bool.{Bool, true, false, cond, _&&_}
-use mathlib.Core.List.{List, [], _++_, List·Memᴰ, List·Memᴰ·not-nil}
+use mathlib.Core.Logic.{⊎-elim}
+use mathlib.Core.List.{List, [], _++_, List·Memᴰ, List·Memᴰ·not-nil, List·Memᴰ·append-cases, Memᴰ·append-left, Memᴰ·append-right}
 use Prim.Native.Nat.{ℕ, zero, suc, _*_, _≤_, _<_}
 use native.Mathlib.Omega.{arith}
 use lib.Dec.{leb}
@@ -20,7 +21,7 @@ use Rattle.disk.specs.declared.geometry.Geometry.{Geometry}
 use Rattle.disk.specs.declared.refusal.Refusal.the-variants.{BadImage, BadBuffer, NotNow}
 use Rattle.disk.specs.declared.refusal.Outcome.{Outcome}
 use Rattle.disk.specs.declared.refusal.Outcome.the-variants.{Done, Refused}
-use Rattle.label.specs.Fields.{geometryOf}
+use Rattle.label.specs.Fields.{noSlot}
 use Rattle.label.specs.Newest.{copyOf}
 use Rattle.label.specs.Bytes.{allZero}
 use Rattle.label.specs.declared.fields.Label as bytes
@@ -35,29 +36,28 @@ use Rattle.codecs.specs.Sector.{Sector, bytes-zeros}
 use Rattle.codecs.specs.Shelf.{Shelf, slots, geometry, limits, few-data, few-parity}
 use Rattle.codecs.specs.Labels.{ours, labelOf}
 use Rattle.shards.specs.Quorum.{quorum}
-use Rattle.shelf.specs.Laws.{Legal, step-one}
-use Rattle.shelf.specs.Act.{refuses}
-use Rattle.shelf.specs.Step.{sound, stepMove}
+use Rattle.shelf.specs.Act.{Move}
+use Rattle.shelf.specs.Step.{finished}
 use Rattle.stages.specs.declared.state.State.{State}
 use Rattle.stages.specs.declared.state.Answer.{Answer}
 use Rattle.stages.specs.declared.state.Answer.the-variants as answer
-use Rattle.stages.specs.declared.state.Kind.the-variants.{Idle}
+use Rattle.stages.specs.declared.state.Kind.the-variants.{Idle, Filling}
 use Rattle.stages.specs.State.{rested}
 use Rattle.requests.specs.Begun.{workBytes, begun}
 use Rattle.requests.specs.Create.{shardsFit, shelfFits, createAnswer, created, createOf}
 use Rattle.requests.specs.Start.{startOf}
-use Rattle.requests.specs.Step.{otherWork, stepWith}
+use Rattle.requests.specs.Step.{stepWith}
 use Rattle.requests.specs.TakeOut.{plainlyOut, outNow}
 use Rattle.refine.specs.Family.{Family, every-few}
 use Rattle.refine.specs.Disks.{Disks, image-fits, curOf}
-use Rattle.refine.specs.Ends.{EndsAfter}
+use Rattle.refine.specs.Ends.{EndsAfter, done-ends}
 use Rattle.refine.specs.Other.{Sits, otherCode}
-use Rattle.refine.specs.Chain.{Heard, blocks, fresh, fresh-tie}
+use Rattle.refine.specs.Chain.{Heard, blocks, step-rests, fresh, fresh-tie}
 use Rattle.refine.specs.Holds.{Wanted, StripTrue, NoLies, HeldTrue, Follows, healthy-believed}
-use Rattle.refine.specs.Hosts.{Held, none, has, Time, at, held, creates, HostChain, stays, goes-on, sets, BoundAt}
+use Rattle.refine.specs.Hosts.{Held, none, has, Time, at, held, HostCalls, creates, steps, HostChain, stays, goes-on, sets-call, sets, BoundAt}
 use Rattle.refine.specs.HostHolds.{bound-labels, bound-shaped, bound-followed}
-use Rattle.refine.specs.HostTrue.{fromRest, bound-possible, bound-elsewhere, bound-honest, bound-own, bound-rests-true, bound-absent-out, bound-same-out, bound-labelled, bound-create-again, bound-carried-out, bound-comes-to-rest, chained-on, sets-on, Along, along-in, chain-sized, chain-passed}
-use Rattle.refine.specs.Since.{AnyTwoSince}
+use Rattle.refine.specs.HostTrue.{fromRest, bound-possible, bound-elsewhere, bound-honest, bound-own, bound-rests-true, bound-absent-out, bound-same-out, bound-labelled, bound-create-again, bound-heals, bound-carried-out, bound-comes-to-rest, chained-on, sets-on, Along, along-in, chain-sized, chain-passed}
+use Rattle.refine.specs.Since.{AnyTwoSince, since, since-two}
 use Rattle.refine.specs.Serves.{Served, bound-since, pairs-since}
 
 -- ---- CHAINS OF CALLS, from an image of zeros on
@@ -78,6 +78,21 @@ module _ (z : Shelf) (first : List ℕ) (disks : Disks z first) (blank : allZero
   along : {b : Time} (c : ComesTo b) → AnyTwoSince c → Along z (fresh z first disks blank) c
   along stays two = let y = bound-since z first disks blank stays two in (y .0, y .1, y .3)
   along (goes-on c x) two = (along c (two .0), let y = bound-since z first disks blank (goes-on c x) two in (y .0, y .1, y .3))
+
+  -- CALLS THAT LEAVE NOTHING OUT ASK FOR NOTHING MORE
+  one-more : {b d : Time} (c : ComesTo b) → AnyTwoSince c → (x : HostCalls z b d) → ((s : ℕ → Bool) → List·Memᴰ s (sets-call x) → ⊥) → AnyTwoSince (goes-on c x)
+  one-more c two x empty =
+      let y = bound-since z first disks blank c two in
+      let r = since-two z (fresh z first disks blank) c two (y .0) (y .1) (y .3) in
+      (two, λ a b i j. r a b (old a i) (old b j))
+    where
+      old : (s : ℕ → Bool) → List·Memᴰ s (sets-call x ++ since c) → List·Memᴰ s (since c)
+      old s m = ⊎-elim (λ n. absurd (empty s n)) (λ n. n) (List·Memᴰ·append-cases (sets-call x) m)
+
+  more : {b d : Time} (c : ComesTo b) → AnyTwoSince c → (q : HostChain z b d) → ((s : ℕ → Bool) → List·Memᴰ s (sets q) → ⊥) → AnyTwoSince (chained-on c q)
+  unfolding chained-on
+  more c two stays empty = two
+  more c two (goes-on q x) empty = one-more (chained-on c q) (more c two q (λ s m. empty s (Memᴰ·append-right (sets-call x) m))) x (λ s m. empty s (Memᴰ·append-left (sets q) m))
 
   module _ {w : World Sector} {img : List ℕ} {h : Held} (chain : ComesTo (at w img h)) (two : AnyTwoSince chain) where
     -- the tie with the protocol's machine
@@ -160,12 +175,56 @@ module _ (z : Shelf) (first : List ℕ) (disks : Disks z first) (blank : allZero
     pub carried-out : (s .kind ≡ Idle → ⊥) → (n : ℕ) × EndsAfter n work s img
     carried-out busy = let t = tie chain two in bound-carried-out z (t .0) (fresh z first disks blank) (t .1) w img s work room-kept busy (t .3)
 
-    -- so the steps lead to rest, under the label that the request was to settle; they leave no further set out
-    pub comes-to-rest : (s .kind ≡ Idle → ⊥) → (w' : World Sector) × (left : List ℕ) × (c : ComesTo (at w' left (has (rested s) work))) × (sets c ≡ sets chain)
+    -- so the steps lead to rest, under the label that the request was to settle; they leave no further set out, and ask for nothing more
+    pub comes-to-rest : (s .kind ≡ Idle → ⊥) → (w' : World Sector) × (left : List ℕ) × (c : ComesTo (at w' left (has (rested s) work))) × (sets c ≡ sets chain) × AnyTwoSince c
     comes-to-rest busy =
         let t = tie chain two in
-        let r = bound-comes-to-rest z (t .0) (fresh z first disks blank) (t .1) w img s work room-kept busy (t .3) in
-        (r .0, r .1, chained-on chain (r .2), sets-on chain (r .2) ∙ ap (λ (l : List (ℕ → Bool)). l ++ sets chain) (r .3))
+        let r = bound-comes-to-rest z (t .0) (fresh z first disks blank) (t .1) w img s work room-kept busy (t .3) in (
+          r .0,
+          r .1,
+          chained-on chain (r .2),
+          sets-on chain (r .2) ∙ ap (λ (l : List (ℕ → Bool)). l ++ sets chain) (r .3),
+          more chain two (r .2) (λ a m. List·Memᴰ·not-nil (subst (λ (l : List (ℕ → Bool)). List·Memᴰ a l) (r .3) m)),
+        )
+
+  -- A STEP THAT ANSWERS DONE: nothing is done with the disks, and the request's label is settled
+  module _ {w : World Sector} {img : List ℕ} {s : State} {work : List ℕ} (chain : ComesTo (at w img (has s work))) (two : AnyTwoSince chain) (done : stepWith s img work .stepped .answer ≡ answer.Done) where
+    ended : stepWith s img work ≡ finished s img
+    ended =
+        let n = carried-out chain two (λ k. let t = tie chain two in let q : answer.Done ≡ answer.Refused NotNow = sym done ∙ ap (λ (m : Move). m .stepped .answer) (step-rests z (t .0) (fresh z first disks blank) (t .1) s img work k) in let i : _≡_ {A = ℕ} 0 1 = cc in omega arith) in
+        done-ends (n .0) work s img (n .1) done
+
+    -- it is followed by doing nothing
+    pub done-heard : Heard z w (stepWith s img work .stepped .answer) (stepWith s img work .image) w
+    done-heard = subst (λ (a : Answer). Heard z w a (stepWith s img work .image) w) (sym done) refl
+
+    -- the chain with this step
+    abbrev pub done-chain : ComesTo (at w (stepWith s img work .image) (has (stepWith s img work .stepped .state) work))
+    done-chain = goes-on chain (steps done-heard)
+
+    -- it asks for nothing more
+    pub done-two : AnyTwoSince done-chain
+    done-two = one-more chain two (steps {w = w} {w' = w} {img = img} {s = s} {work = work} done-heard) (λ a m. List·Memᴰ·not-nil m)
+
+    -- THE ANSWER DONE IS TRUE: the state that is handed out is at rest under the label that the request was to settle, the image is as it was, the view is a list, and every strip that the label believes is
+    -- what the list asks for, whatever a cut leaves
+    pub done-true : (stepWith s img work .stepped .state ≡ rested s) × (stepWith s img work .image ≡ img)
+        × (v : Host Sector) × (view done-chain done-two ≡ sure v) × ((left : List ℕ) → Disks z left → Possible w (curOf z left) → (d t : ℕ) → believed (geometry z) (s .next) d t ≡ true → Wanted z v left d t)
+    done-true =
+        let is : stepWith s img work .stepped .state ≡ rested s = ap (λ (m : Move). m .stepped .state) ended in
+        let r = rests-true done-chain done-two (ap (λ (x : State). x .kind) is) in
+        (is, ap (λ (m : Move). m .image) ended, r .0, r .1, λ left here possible d t b. r .2 left here possible d t (ap (λ (x : State). believed (geometry z) (x .now) d t) is ∙ b))
+
+    -- SO NO ANSWER CALLS A SLOT HEALTHY BEFORE EACH OF ITS STRIPS IS: where a rebuild is done and no slot is being rebuilt any more (the answer 4), the slot that was is not out any more, and each of its
+    -- strips is what the list asks for, whatever a cut leaves
+    pub healthy-answer : s .kind ≡ Filling → s .next .rebuilding ≡ noSlot
+        → (v : Host Sector) × (view done-chain done-two ≡ sure v) × (s .now .rebuilding < slots z) × (inMask (s .next .out) (s .now .rebuilding) ≡ false)
+        × ((left : List ℕ) → Disks z left → Possible w (curOf z left) → (t : ℕ) → t < stripesOf (geometry z) → Wanted z v left (s .now .rebuilding) t)
+    healthy-answer k healed =
+        let y = tie chain two in
+        let h = bound-heals z (y .0) (fresh z first disks blank) (y .1) w img s work k (y .3) healed in
+        let r = done-true in
+        (r .2, r .3, h .0, h .1, λ left here possible t l. r .4 left here possible (s .now .rebuilding) t (healthy-believed z (s .next) (s .now .rebuilding) t (h .0) l (h .1)))
 
 -- ---- THERE ARE SUCH CHAINS: the image of zeros is one to begin with, and create is accepted on it
 

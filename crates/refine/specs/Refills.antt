@@ -2,13 +2,15 @@
 -- and leaves it under way or at rest. Assumes nothing.
 use mathlib.Core.Path.{_≡_, refl, sym, ap, subst, _∙_}
 use mathlib.Core.Logic.{_⊎_, inl, inr, ⊎-elim}
-use mathlib.Core.Bool.{true}
+use mathlib.Core.Bool.{true, false}
 use mathlib.Core.List.{List, [], _∷_, List·Memᴰ·not-nil}
 use Prim.Native.Nat.{ℕ, _*_, _≤_, _<_}
 use lib.ListN.{length}
 use Rattle.disk.specs.Limits.{sectorBytes}
 use Rattle.disk.specs.Mask.{inMask}
 use Rattle.disk.specs.declared.refusal.Outcome.the-variants.{Done}
+use Rattle.label.specs.Fields.{noSlot}
+use Rattle.label.specs.declared.fields.Label as bytes
 use Rattle.protocol.specs.World.{Image, World, Action, Always}
 use Rattle.protocol.specs.Label.{looked}
 use Rattle.protocol.specs.Program.{Own, Memory, idle, doing, labelling, Reply, accepted, rebuild-on, step, beyond, asked-on}
@@ -35,9 +37,13 @@ use Rattle.refine.specs.Tied.{ownOf, memoryOf, plain, programOf}
 use Rattle.refine.specs.Requests.{goes}
 use Rattle.refine.specs.Relabels.{TiedLabel, label-tied}
 use Rattle.refine.specs.FillList.{fill-memory, fill-work, fill-same}
-use Rattle.refine.specs.OnBegins.{on-rests, on-next, on-fair, on-asked, on-accepted}
+use Rattle.refine.specs.OnBegins.{on-rests, on-next, on-heals, on-fair, on-asked, on-accepted}
 use Rattle.refine.specs.Named.{Named, Names, leftIn, on-names, step-names}
 use Rattle.refine.specs.Chain.{Heard, has, Reached, Tie, asks-to, rests, off, accepted-none, idle-is, step-some, step-leaves, heard-is}
+
+-- where the next label has no slot that is being rebuilt, the one of the label before is not out any more
+abbrev pub Heals : Shelf → bytes.Label → bytes.Label → Type 0
+Heals z now next = next .rebuilding ≡ noSlot → (now .rebuilding < slots z) × (inMask (next .out) (now .rebuilding) ≡ false)
 
 module _ (z : Shelf) (F : Family z) (first : Machine Sector) where
   -- a rebuild is under way; `before` is what the program knew when it began: the same label, and the same absent slots
@@ -51,6 +57,7 @@ module _ (z : Shelf) (F : Family z) (first : Machine Sector) where
     pub named : Always w (Named z)
     pub names : Names z (toDo z s work img)
     pub own-next : ours z (s .next) ≡ true
+    pub heals : Heals z (s .now) (s .next)
     pub fair : Fair z s work img
     pub kind : s .kind ≡ Filling
 
@@ -106,6 +113,7 @@ module _ (z : Shelf) (F : Family z) (first : Machine Sector) where
             named = t .named;
             names = subst (λ (x : Memory Sector). Names z (leftIn z x)) asked-is (on-names z o (seenOf z (beyond (slots z) (inMask (s .absent))) img) b);
             own-next = on-next z img (t .disks) s own b work (g .0) dark;
+            heals = on-heals z img (t .disks) s own b work (g .0) dark;
             fair = on-fair z img (t .disks) s own b work (g .0) dark;
             kind = refl;
           }
@@ -124,6 +132,7 @@ module _ (z : Shelf) (F : Family z) (first : Machine Sector) where
         named = t .named;
         names = subst (Names z) same (t .names);
         own-next = t .own-next;
+        heals = t .heals;
         fair = fill-work z s work img (t .kind) other room (t .fair);
         kind = t .kind;
       }
@@ -180,6 +189,7 @@ module _ (z : Shelf) (F : Family z) (first : Machine Sector) where
             named = n .0;
             names = subst (λ (v : Memory Sector). Names z (leftIn z v)) (x .4) (n .1);
             own-next = ap (ours z) (d .settles) ∙ t .own-next;
+            heals = subst (λ (l : bytes.Label). Heals z l (m .stepped .state .next)) (sym (x .2)) (subst (Heals z (s .now)) (sym (d .settles)) (t .heals));
             fair = x .0;
             kind = x .1 ∙ t .kind;
           }

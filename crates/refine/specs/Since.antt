@@ -106,6 +106,24 @@ module _ (z : Shelf) (first : Machine Sector) where
       let F = parts-few z l (two .1) in
       (F, (F, (λ s m. in-parts z l (two .1) s (Memᴰ·append-left (since c) m)), since-suits c (two .0) F (λ s m. in-parts z l (two .1) s (Memᴰ·append-right (sets-call x) m)), λ q h. h))
 
+  -- ---- THE SETS SINCE THE LAST REST THEMSELVES: any two of them leave a slot out. At rest it is one, and the family for which the tie holds has it
+
+  settles-two : (F : Family z) (p : View Sector) (b : Time) (l : List (ℕ → Bool)) → AnyTwo (slots z) l → BoundAt z F first p b → AnyTwo (slots z) (settles b l)
+  settles-two F p (at w img none) l two t = two
+  settles-two F p (at w img (has s work)) l two t = by (isIdle (s .kind)) refl t
+    where
+      by : (i : Bool) → isIdle (s .kind) ≡ i → Bound z F first p w img (has s work) → AnyTwo (slots z) (cond i (inMask (s .now .out) ∷ []) l)
+      by true e (inl t) = λ a b i j. F .sets .meet a b (one a i) (one b j)
+        where
+          one : (a : ℕ → Bool) → List·Memᴰ a (inMask (s .now .out) ∷ []) → F .sets .few a ≡ true
+          one a m = ⊎-elim (λ x. ap (F .sets .few) x ∙ rests-in F p w img s e t .1) (λ n. absurd (List·Memᴰ·not-nil n)) (List·Memᴰ·cases-cons m)
+      by true e (inr t) = absurd (not-rest z F first p w img s work t e)
+      by false e t = two
+
+  pub since-two : {a b : Time} (c : HostChain z a b) → AnyTwoSince c → (F : Family z) (p : View Sector) → BoundAt z F first p b → AnyTwo (slots z) (since c)
+  since-two {b = b} stays two F p t = settles-two F p b [] (λ s r i j. absurd (List·Memᴰ·not-nil i)) t
+  since-two {b = b} (goes-on c x) two F p t = settles-two F p b (sets-call x ++ since c) (two .1) t
+
   -- ---- IT IS LESS THAN TO ASK IT OF ALL SETS OF THE CHAIN: at rest the label calls out a part of one of them, or nothing
 
   module _ (l : List (ℕ → Bool)) (two : AnyTwo (slots z) l) where
