@@ -1,4 +1,4 @@
--- CHAINS OF CALLS WITH DISKS EXCHANGED WHILE NO PROGRAM RUNS, or at rest where the slot is out, and what they do to the host's view. (Exchanges in slots that the state calls absent are calls of Hosts.)
+-- CHAINS OF CALLS WITH DISKS EXCHANGED WHILE NO PROGRAM RUNS, or at rest where the slot is out, what is asked of the sets of slots that they leave out, and what they do to the host's view. (Exchanges in slots that the state calls absent are calls of Hosts.)
 -- Assumes nothing.
 use mathlib.Core.Path.{_≡_}
 use mathlib.Core.Logic.{_≢_}
@@ -13,6 +13,7 @@ use Rattle.label.specs.declared.codec.Decoded.the-variants.{Nothing}
 use Rattle.redo.specs.Decide.{looked}
 use Rattle.protocol.specs.World.{World, after, Possible}
 use Rattle.protocol.specs.Machine.{View}
+use Rattle.protocol.specs.Pairs.{AnyTwo}
 use Rattle.codecs.specs.Sector.{Sector}
 use Rattle.codecs.specs.Shelf.{Shelf, slots, geometry}
 use Rattle.stages.specs.declared.state.State.{State}
@@ -20,6 +21,7 @@ use Rattle.stages.specs.declared.state.Kind.the-variants.{Idle}
 use Rattle.refine.specs.Disks.{Disks, curOf}
 use Rattle.refine.specs.Swaps.{Exchanged, newDisk}
 use Rattle.refine.specs.Hosts.{none, has, Time, at, HostCalls, creates, starts, creates-late, takes-out, begins, ons, writes, repairs, steps, cut, dies, swaps, sets-call, Saw}
+use Rattle.refine.specs.Since.{settles}
 use Rattle.refine.specs.Serves.{ReadsAs}
 
 -- the disk of slot d is exchanged: the image was img and is left then; the new disk holds no valid label, every other slot stays
@@ -68,6 +70,21 @@ sets-exchange (swapped-off d left then y q x) = []
 abbrev pub all-sets : {z : Shelf} {a b : Time} → ExchangeChain z a b → List (ℕ → Bool)
 all-sets stays = []
 all-sets (goes-on c x) = sets-exchange x ++ all-sets c
+
+-- ---- WHAT IS ASKED, for shelves with k <= m, as without exchanges (Since)
+
+-- the sets that are left out since the last moment of rest: k are those before the chain. (A state at rest has its label settled, with a disk exchanged of a slot that is out too; while no state is held there is
+-- no rest.)
+abbrev pub since-then : {z : Shelf} {a b : Time} → List (ℕ → Bool) → ExchangeChain z a b → List (ℕ → Bool)
+since-then k stays = k
+since-then {b = b} k (goes-on c x) = settles b (sets-exchange x ++ since-then k c)
+
+-- at every call any two of them leave a slot out
+abbrev pub AnyTwoThen : {z : Shelf} {a b : Time} → List (ℕ → Bool) → ExchangeChain z a b → Type 0
+AnyTwoThen k stays = Unit {0}
+AnyTwoThen {z} k (goes-on c x) = AnyTwoThen k c × AnyTwo (slots z) (sets-exchange x ++ since-then k c)
+
+-- ---- THE VIEW
 
 -- an exchange leaves the view
 abbrev pub SawExchange : {z : Shelf} {a b : Time} → Exchanges z a b → View Sector → View Sector → Type 0

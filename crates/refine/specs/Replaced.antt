@@ -1,11 +1,12 @@
 -- DISKS EXCHANGED WHILE NO PROGRAM RUNS: any disk of the shelf, of a slot that was healthy, out or absent, may be exchanged for one that holds no valid label; a fresh one, say. A start-up that does not
 -- call such a slot absent is refused, and one that does never looks at it. So the disk may as well have been exchanged when that start-up came to rest (Swaps): until then the old disk is told to be
 -- there still. And so it is at rest, with a slot that is out but not called absent: every request that would change something is refused then, until the shelf is started anew, and reads do not look at the slot.
--- So the host's view goes on as without the exchange, and every read shows it. Nothing else is asked of the caller than in Hosts, but that create is not called on an image of zeros any more. Assumes nothing.
+-- So the host's view goes on as without the exchange, and every read shows it. Nothing else is asked of the caller than in Hosts, but that create is not called on an image of zeros any more; and of the sets of slots that are left out
+-- the same as without exchanges (Since): from one moment of rest to the next any two leave a slot out in common; for k > m nothing. Assumes nothing.
 use mathlib.Core.Path.{_≡_, refl, sym, ap, subst, _∙_, fun-ext}
 use mathlib.Core.Logic.{_⊎_, ⊎-elim, inl, inr, _≢_}
 use mathlib.Core.Bool.{Bool, true, false, cond, not, _||_, true≢false, false≢true}
-use mathlib.Core.List.{List, [], List·Memᴰ·not-nil, _++_, Memᴰ·append-left, Memᴰ·append-right}
+use mathlib.Core.List.{List, [], _∷_, List·Memᴰ, List·Memᴰ·not-nil, _++_, Memᴰ·append-left, Memᴰ·append-right}
 use Prim.Native.Nat.{ℕ, _+_, _<_, _/_, _%_}
 use native.Mathlib.Omega.{arith}
 use native.Mathlib.Decide.{ℕ-discrete}
@@ -27,6 +28,7 @@ use Rattle.redo.specs.Decide.{looked}
 use Rattle.protocol.specs.Apart.{same-nat}
 use Rattle.protocol.specs.World.{Possible, Place, slot, Image, World, after, strip}
 use Rattle.protocol.specs.Machine.{Machine, View, sure, list-of}
+use Rattle.protocol.specs.Even.{Shared}
 use Rattle.protocol.specs.Pairs.{AnyTwo, no-sets}
 use Rattle.protocol.specs.Label as Label
 use Rattle.protocol.specs.Host.{missing, read}
@@ -65,7 +67,7 @@ use Rattle.refine.specs.Tied.{ownOf, plain}
 use Rattle.refine.specs.OnBegins.{on-rests}
 use Rattle.refine.specs.BeginBegins.{begin-goes}
 use Rattle.refine.specs.Other.{create-late}
-use Rattle.refine.specs.Chain.{Reached, step-rests, Heard, Allowed, Tie, blocks, fresh}
+use Rattle.refine.specs.Chain.{Reached, step-rests, Heard, Allowed, Tie, blocks, fresh, fresh-tie}
 use Rattle.refine.specs.Chain as chain
 use Rattle.refine.specs.Merged.{slotFrom, disk-of, disk-here, disk-other, cur-alike, copy-alike}
 use Rattle.refine.specs.Swaps.{Exchanged, newDisk, new-reads, swap-kept}
@@ -74,8 +76,9 @@ use Rattle.refine.specs.Sees.{sectorsOf}
 use Rattle.refine.specs.Mends.{may-whole, asked-refused}
 use Rattle.refine.specs.Hosts.{Held, loose, rest-dark, none, has, Time, at, held, HostCalls, creates, starts, creates-late, takes-out, begins, ons, writes, repairs, steps, cut, dies, swaps, HostChain, sets-call, sets, SawStep, SawAsked, Saw, Bound, BoundAt, loose-tie, not-rest, rest-of, call-bound}
 use Rattle.refine.specs.Reads.{in-k, shown-read, read-right}
-use Rattle.refine.specs.Serves.{ReadsAs, Served, served-bound}
-use Rattle.refine.specs.Exchanges.{Blanked, NotAnew, Exchanges, calls, replaced, pulled, swapped-off, ExchangeChain, stays, goes-on, sets-exchange, all-sets, SawExchange, AllServed}
+use Rattle.refine.specs.Since.{AnyTwoSince, since, RestsIn, rests-in, tie-for, bound-for, before, rests-out, parts, settled-in, with-call, since-in, pairs-since}
+use Rattle.refine.specs.Serves.{ReadsAs, Served, served-bound, bound-since, bound-for-since}
+use Rattle.refine.specs.Exchanges.{Blanked, NotAnew, Exchanges, calls, replaced, pulled, swapped-off, ExchangeChain, stays, goes-on, sets-exchange, all-sets, since-then, AnyTwoThen, SawExchange, AllServed}
 use Rattle.refine.specs.Late.{told, LagsAt, retell, Starts, Pulled, handOf, same-length, Late, LateAt, StandsAt, late-cut, late-start, late-step, late-busy, late-unread}
 
 -- one slot more
@@ -480,6 +483,48 @@ module _ (z : Shelf) (F : Family z) (first : Machine Sector) where
       let r = exchange-bound x (λ s m. ok s (Memᴰ·append-left (all-sets c) m)) (y .0) (y .2) in
       (r .0, (y .0, y .1, r .1, stands-reads b (r .0) (r .2)), r .2)
 
+-- ---- A FAMILY FOR EACH CALL, where any two of the sets since the last rest leave a slot out
+
+module _ (z : Shelf) (first : Machine Sector) where
+  -- at rest another family can be chosen, disks exchanged or not: any that has the set which the label calls out
+  stands-for : (F F' : Family z) (p : View Sector) (w : World Sector) (img : List ℕ) (s : State) (work : List ℕ) → isIdle (s .kind) ≡ true → Allowed z F' (inMask (s .now .out) ∷ [])
+      → StandsAt z F first p (at w img (has s work)) → StandsAt z F' first p (at w img (has s work))
+  stands-for F F' p w img s work e ok (inl t) = inl (t .0, t .1, bound-for z first F F' p (t .0) img s work e ok (t .2))
+  stands-for F F' p w img s work e ok (inr t) = inr (record { away = t .away; w0 = t .w0; img0 = t .img0; behind = t .behind; tie = tie-for z first F F' p (t .w0) (t .img0) s e ok (t .tie); waits = t .waits })
+
+  -- P is what is known of the view with which the chain begins
+  then-served : (F : Family z) {a b : Time} (r : ExchangeChain z a b) (k : List (ℕ → Bool)) → AnyTwoThen k r → Allowed z F (since-then k r) → (P : View Sector → Type 0)
+      → ((G : Family z) → Allowed z G k → (p : View Sector) × P p × StandsAt z G first p a) → (p : View Sector) × (q : View Sector) × P p × AllServed r p q × StandsAt z F first q b
+  then-served F {a} stays k two ok P from-here = let y = from-here F ok in (y .0, y .0, y .1, (refl, stands-reads z F first a (y .0) (y .2)), y .2)
+  then-served F {b = b} (goes-on c x) k two ok P from-here =
+      let g = before z first (λ G q t. StandsAt z G first q t) stands-for b (sets-exchange x ++ since-then k c) (two .1) F ok in
+      let G = g .0 in
+      let y = then-served G c k (two .0) (λ s m. g .1 s (Memᴰ·append-right (sets-exchange x) m)) P from-here in
+      let r = exchange-bound z G first x (λ s m. g .1 s (Memᴰ·append-left (since-then k c) m)) (y .1) (y .4) in
+      (y .0, r .0, y .2, (y .1, y .3, r .1, stands-reads z G first b (r .0) (r .2)), g .2 (r .0) (r .2))
+
+  -- it is less than to ask it of all sets of the chain
+  stands-out : (F : Family z) (p : View Sector) (b : Time) → StandsAt z F first p b → RestsIn z F b
+  stands-out F p (at w img none) t = tt
+  stands-out F p (at w img (has s work)) (inl t) = rests-out z first F p (at (t .0) img (has s work)) (t .2)
+  stands-out F p (at w img (has s work)) (inr t) = λ e. rests-in z first F p (t .w0) (t .img0) s e (t .tie) .1
+
+  module _ (l : List (ℕ → Bool)) (two : AnyTwo (slots z) l) where
+    then-in : {a b : Time} (r : ExchangeChain z a b) (k : List (ℕ → Bool)) → Shared (parts z first l two .few) k → ((s : ℕ → Bool) → List·Memᴰ s (all-sets r) → List·Memᴰ s l) → (p : View Sector) → StandsAt z (parts-few z l two) first p a
+        → Shared (parts z first l two .few) (since-then k r)
+    then-in stays k h of p t = h
+    then-in {b = b} (goes-on c x) k h of p t =
+        let y = all-served z (parts-few z l two) first (goes-on c x) (λ s m. in-parts z l two s (of s m)) p t in
+        settled-in z first l two b (sets-exchange x ++ since-then k c) (stands-out (parts-few z l two) (y .0) b (y .2)) (with-call z first l two (sets-exchange x) (all-sets c) (since-then k c) of (then-in c k h (λ s m. of s (Memᴰ·append-right (sets-exchange x) m)) p t))
+
+    pairs-then : {a b : Time} (r : ExchangeChain z a b) (k : List (ℕ → Bool)) → Shared (parts z first l two .few) k → ((s : ℕ → Bool) → List·Memᴰ s (all-sets r) → List·Memᴰ s l) → (p : View Sector) → StandsAt z (parts-few z l two) first p a
+        → AnyTwoThen k r
+    pairs-then stays k h of p t = tt
+    pairs-then (goes-on c x) k h of p t =
+        let of' : (s : ℕ → Bool) → List·Memᴰ s (all-sets c) → List·Memᴰ s l = λ s m. of s (Memᴰ·append-right (sets-exchange x) m) in
+        let all = with-call z first l two (sets-exchange x) (all-sets c) (since-then k c) of (then-in c k h of' p t) in
+        (pairs-then c k h of' p t, λ a b i j. parts z first l two .meet a b (all a i) (all b j))
+
 -- ---- FROM ZEROS ON: any chain of calls, and then any chain in which disks are exchanged while no program runs too
 
 -- the same world
@@ -487,22 +532,48 @@ lags-self : (t : Time) → (w0 : World Sector) × LagsAt t w0 × (told t w0 ≡ 
 lags-self (at w img h) = (w, record { reads = λ k q. refl; fewer = λ k v q m. m; certain = λ k v q m. absurd (false≢true q) }, refl)
 
 module _ (z : Shelf) (img : List ℕ) (disks : Disks z img) (blank : allZero img ≡ true) where
+  -- no disk is exchanged yet
+  stands-first : (F : Family z) (p : View Sector) (a : Time) → BoundAt z F (fresh z img disks blank) p a → StandsAt z F (fresh z img disks blank) p a
+  stands-first F p a t = let s = lags-self a in inl (s .0, s .1, subst (λ (t : Time). BoundAt z F (fresh z img disks blank) p t) (sym (s .2)) t)
+
   -- the views, and what is told (ExchangeHolds says what else follows from it)
   pub exchanged-stands : (F : Family z) {a b : Time} (c : HostChain z (at (after (curOf z img)) img none) a) (r : ExchangeChain z a b) → Allowed z F (sets c) → Allowed z F (all-sets r)
       → (p : View Sector) × (q : View Sector) × Served c (sure blocks) p × AllServed r p q × StandsAt z F (fresh z img disks blank) q b
   exchanged-stands F {a} c r before then =
       let y = served-bound z img disks blank F c before in
-      let s = lags-self a in
-      let e = all-served z F (fresh z img disks blank) r then (y .0) (inl (s .0, s .1, subst (λ (t : Time). BoundAt z F (fresh z img disks blank) (y .0) t) (sym (s .2)) (y .2))) in
+      let e = all-served z F (fresh z img disks blank) r then (y .0) (stands-first F (y .0) a (y .2)) in
       (y .0, e .0, y .1, e .1, e .2)
 
-  -- FOR EVERY SHELF, where any two of the sets that are left out leave a slot out in common
-  pub any-exchanged-reads-right : {a b : Time} (c : HostChain z (at (after (curOf z img)) img none) a) (r : ExchangeChain z a b) → AnyTwo (slots z) (all-sets r ++ sets c)
+  -- FOR EVERY SHELF, where any two of the sets that are left out from one moment of rest to the next leave a slot out in common: the views, and what is told, for a family of these sets
+  pub any-exchanged-stands : {a b : Time} (c : HostChain z (at (after (curOf z img)) img none) a) (r : ExchangeChain z a b) → AnyTwoSince c → AnyTwoThen (since c) r
+      → (F : Family z) × (p : View Sector) × (q : View Sector) × Served c (sure blocks) p × AllServed r p q × StandsAt z F (fresh z img disks blank) q b
+  any-exchanged-stands {a} c stays two then =
+      let y = bound-since z img disks blank c two in
+      let t = stands-first (y .0) (y .1) a (y .3) in
+      (y .0, y .1, y .1, y .2, (refl, stands-reads z (y .0) (fresh z img disks blank) a (y .1) t), t)
+  any-exchanged-stands {a} {b} c (goes-on r x) two then =
+      let l = sets-exchange x ++ since-then (since c) r in
+      let F = parts-few z l (then .1) in
+      let y = then-served z (fresh z img disks blank) F r (since c) (then .0) (λ s m. in-parts z l (then .1) s (Memᴰ·append-right (sets-exchange x) m)) (Served c (sure blocks))
+      (λ G ok. let h = bound-for-since z img disks blank G c two ok in (h .0, h .1, stands-first G (h .0) a (h .2))) in
+      let e = exchange-bound z F (fresh z img disks blank) x (λ s m. in-parts z l (then .1) s (Memᴰ·append-left (since-then (since c) r) m)) (y .1) (y .4) in
+      (F, y .0, e .0, y .2, (y .1, y .3, e .1, stands-reads z F (fresh z img disks blank) b (e .0) (e .2)), e .2)
+
+  pub any-exchanged-reads-right : {a b : Time} (c : HostChain z (at (after (curOf z img)) img none) a) (r : ExchangeChain z a b) → AnyTwoSince c → AnyTwoThen (since c) r
       → (p : View Sector) × (q : View Sector) × Served c (sure blocks) p × AllServed r p q
-  any-exchanged-reads-right c r two =
+  any-exchanged-reads-right c r two then = let y = any-exchanged-stands c r two then in (y .1, y .2, y .3, y .4)
+
+  -- it is less than to ask it of all sets of the two chains
+  pub exchanged-pairs : {a b : Time} (c : HostChain z (at (after (curOf z img)) img none) a) (r : ExchangeChain z a b) → AnyTwo (slots z) (all-sets r ++ sets c) → AnyTwoSince c × AnyTwoThen (since c) r
+  exchanged-pairs {a} c r two =
       let l = all-sets r ++ sets c in
-      let y = exchanged-stands (parts-few z l two) c r (λ s m. in-parts z l two s (Memᴰ·append-right (all-sets r) m)) (λ s m. in-parts z l two s (Memᴰ·append-left (sets c) m)) in
-      (y .0, y .1, y .2, y .3)
+      let F = parts-few z l two in
+      let m0 = fresh z img disks blank in
+      let of : (s : ℕ → Bool) → List·Memᴰ s (sets c) → List·Memᴰ s l = λ s m. Memᴰ·append-right (all-sets r) m in
+      let y = served-bound z img disks blank F c (λ s m. in-parts z l two s (of s m)) in (
+        pairs-since z m0 l two c of (sure blocks) (fresh-tie z img disks blank F),
+        pairs-then z m0 l two r (since c) (since-in z m0 l two c of (sure blocks) (fresh-tie z img disks blank F)) (λ s m. Memᴰ·append-left (sets c) m) (y .0) (stands-first F (y .0) a (y .2)),
+      )
 
   -- FOR k > m
   pub exchanged-reads-right : z .m < z .k → {a b : Time} (c : HostChain z (at (after (curOf z img)) img none) a) (r : ExchangeChain z a b) → (p : View Sector) × (q : View Sector) × Served c (sure blocks) p × AllServed r p q

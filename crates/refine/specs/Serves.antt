@@ -33,7 +33,7 @@ use Rattle.refine.specs.Sees.{sectorsOf, sectors-strip}
 use Rattle.refine.specs.Chain.{Allowed, blocks, fresh, fresh-tie}
 use Rattle.refine.specs.Hosts.{none, has, Time, at, HostChain, stays, goes-on, sets, Saw, Bound, BoundAt, repair-refused-there, repair-changes-nothing, call-bound}
 use Rattle.refine.specs.HostHolds.{bound-rests}
-use Rattle.refine.specs.Since.{AnyTwoSince, Suits, one-suits, some-family}
+use Rattle.refine.specs.Since.{AnyTwoSince, since, Suits, one-suits, since-suits, some-family}
 use Rattle.refine.specs.Since as Since
 use Rattle.refine.specs.Reads.{read-right}
 
@@ -83,6 +83,10 @@ module _ (z : Shelf) (img : List ℕ) (disks : Disks z img) (blank : allZero img
       let f = some-family z (fresh z img disks blank) c two in
       let y = served-in z (fresh z img disks blank) (f .0) c (f .1) (sure blocks) (fresh-tie z img disks blank) in
       (f .0, y .0, y .1, y .2)
+
+  -- for any family that has them
+  pub bound-for-since : (F : Family z) {b : Time} (c : HostChain z (at (after (curOf z img)) img none) b) → AnyTwoSince c → Allowed z F (since c) → (p : View Sector) × Served c (sure blocks) p × BoundAt z F (fresh z img disks blank) p b
+  bound-for-since F c two ok = served-in z (fresh z img disks blank) F c (since-suits z (fresh z img disks blank) c two F ok) (sure blocks) (fresh-tie z img disks blank)
 
   pub any-reads-right : {b : Time} (c : HostChain z (at (after (curOf z img)) img none) b) → AnyTwoSince c → (p : View Sector) × Served c (sure blocks) p
   any-reads-right c two = let y = bound-since c two in (y .1, y .2)
