@@ -1,5 +1,5 @@
--- CHAINS OF CALLS WITH DISKS EXCHANGED WHILE NO PROGRAM RUNS, or at rest where the slot is out, what is asked of the sets of slots that they leave out, and what they do to the host's view. (Exchanges in slots that the state calls absent are calls of Hosts.)
--- Assumes nothing.
+-- CHAINS OF CALLS WITH DISKS EXCHANGED WHILE NO PROGRAM RUNS, or at rest where the slot is out, what is asked of the sets of slots that they leave out, and what they do to the host's view. (Exchanges in
+-- slots that the state calls absent are calls of Hosts.) Assumes nothing.
 use mathlib.Core.Path.{_≡_}
 use mathlib.Core.Logic.{_≢_}
 use mathlib.Core.Bool.{Bool, false}
@@ -73,16 +73,16 @@ all-sets (goes-on c x) = sets-exchange x ++ all-sets c
 
 -- ---- WHAT IS ASKED, for shelves with k <= m, as without exchanges (Since)
 
--- the sets that are left out since the last moment of rest: k are those before the chain. (A state at rest has its label settled, with a disk exchanged of a slot that is out too; while no state is held there is
--- no rest.)
+-- the sets that are left out since the last moment of rest; `old` are those before the chain. (A state at rest has its label settled, even where the disk of a slot that is out was exchanged. While no state is
+-- held, and while a start-up is under way, there is no rest.)
 abbrev pub since-then : {z : Shelf} {a b : Time} → List (ℕ → Bool) → ExchangeChain z a b → List (ℕ → Bool)
-since-then k stays = k
-since-then {b = b} k (goes-on c x) = settles b (sets-exchange x ++ since-then k c)
+since-then old stays = old
+since-then {b = b} old (goes-on c x) = settles b (sets-exchange x ++ since-then old c)
 
 -- at every call any two of them leave a slot out
 abbrev pub AnyTwoThen : {z : Shelf} {a b : Time} → List (ℕ → Bool) → ExchangeChain z a b → Type 0
-AnyTwoThen k stays = Unit {0}
-AnyTwoThen {z} k (goes-on c x) = AnyTwoThen k c × AnyTwo (slots z) (sets-exchange x ++ since-then k c)
+AnyTwoThen old stays = Unit {0}
+AnyTwoThen {z} old (goes-on c x) = AnyTwoThen old c × AnyTwo (slots z) (sets-exchange x ++ since-then old c)
 
 -- ---- THE VIEW
 

@@ -1,8 +1,8 @@
 -- DISKS EXCHANGED WHILE NO PROGRAM RUNS: any disk of the shelf, of a slot that was healthy, out or absent, may be exchanged for one that holds no valid label; a fresh one, say. A start-up that does not
 -- call such a slot absent is refused, and one that does never looks at it. So the disk may as well have been exchanged when that start-up came to rest (Swaps): until then the old disk is told to be
 -- there still. And so it is at rest, with a slot that is out but not called absent: every request that would change something is refused then, until the shelf is started anew, and reads do not look at the slot.
--- So the host's view goes on as without the exchange, and every read shows it. Nothing else is asked of the caller than in Hosts, but that create is not called on an image of zeros any more; and of the sets of slots that are left out
--- the same as without exchanges (Since): from one moment of rest to the next any two leave a slot out in common; for k > m nothing. Assumes nothing.
+-- So the host's view goes on as without the exchange, and every read shows it. Nothing else is asked of the caller than in Hosts, but that create is not called on an image of zeros any more; and of the sets
+-- of slots that are left out the same is asked as without exchanges (Since): from one moment of rest to the next any two leave a slot out in common; for k > m nothing. Assumes nothing.
 use mathlib.Core.Path.{_≡_, refl, sym, ap, subst, _∙_, fun-ext}
 use mathlib.Core.Logic.{_⊎_, ⊎-elim, inl, inr, _≢_}
 use mathlib.Core.Bool.{Bool, true, false, cond, not, _||_, true≢false, false≢true}
@@ -492,7 +492,7 @@ module _ (z : Shelf) (first : Machine Sector) where
   stands-for F F' p w img s work e ok (inl t) = inl (t .0, t .1, bound-for z first F F' p (t .0) img s work e ok (t .2))
   stands-for F F' p w img s work e ok (inr t) = inr (record { away = t .away; w0 = t .w0; img0 = t .img0; behind = t .behind; tie = tie-for z first F F' p (t .w0) (t .img0) s e ok (t .tie); waits = t .waits })
 
-  -- P is what is known of the view with which the chain begins
+  -- the views along the chain, and what is told, for a family that has the sets since the last rest; k are those before the chain, and P is what is known of the view with which it begins
   then-served : (F : Family z) {a b : Time} (r : ExchangeChain z a b) (k : List (ℕ → Bool)) → AnyTwoThen k r → Allowed z F (since-then k r) → (P : View Sector → Type 0)
       → ((G : Family z) → Allowed z G k → (p : View Sector) × P p × StandsAt z G first p a) → (p : View Sector) × (q : View Sector) × P p × AllServed r p q × StandsAt z F first q b
   then-served F {a} stays k two ok P from-here = let y = from-here F ok in (y .0, y .0, y .1, (refl, stands-reads z F first a (y .0) (y .2)), y .2)
@@ -503,7 +503,8 @@ module _ (z : Shelf) (first : Machine Sector) where
       let r = exchange-bound z G first x (λ s m. g .1 s (Memᴰ·append-left (since-then k c) m)) (y .1) (y .4) in
       (y .0, r .0, y .2, (y .1, y .3, r .1, stands-reads z G first b (r .0) (r .2)), g .2 (r .0) (r .2))
 
-  -- it is less than to ask it of all sets of the chain
+  -- ---- IT IS LESS THAN TO ASK IT OF ALL SETS OF THE CHAIN: at rest the label calls out a part of one of them, or nothing
+
   stands-out : (F : Family z) (p : View Sector) (b : Time) → StandsAt z F first p b → RestsIn z F b
   stands-out F p (at w img none) t = tt
   stands-out F p (at w img (has s work)) (inl t) = rests-out z first F p (at (t .0) img (has s work)) (t .2)
