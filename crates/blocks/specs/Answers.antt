@@ -169,16 +169,15 @@ sized-half l room f e = half-le l room f (eqb-true room (workBytes (l .k + l .m)
 abbrev pub mostStripe : ℕ
 mostStripe = 77824
 
-pub stripe-small : (g : Geometry) → InRange g → g .n * (g .c * sectorBytes) ≤ mostStripe
-stripe-small g r = product-le (g .n) (g .c * sectorBytes) mostN (mostC * sectorBytes) (r .few) (omega (arith, r .short))
-
 -- the same of the geometry that was found
 module _ (l : Label) (g : Geometry) (f : fitsOf l ≡ true) (ge : g ≡ geometryOf l) where
   pub range-at : InRange g
   range-at = subst InRange (sym ge) (fits-says l f .range)
 
   pub half-small : g .n * (g .c * sectorBytes) ≤ mostStripe
-  half-small = stripe-small g range-at
+  half-small =
+      let r = range-at in
+      product-le (g .n) (g .c * sectorBytes) mostN (mostC * sectorBytes) (r .few) (omega (arith, r .short))
 
   pub half-at : (room : ℕ) → room ≡ workBytes (l .k + l .m) (l .c) → g .n * (g .c * sectorBytes) ≤ room
   half-at room e = let q = ap (λ (x : Geometry). x .n * (x .c * sectorBytes)) ge in omega (arith, q, half-le l room f e)

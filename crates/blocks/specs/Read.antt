@@ -1,9 +1,9 @@
 -- Read: a block as it is shown, whatever is missing. Assumes nothing.
-use mathlib.Core.Path.{_≡_, sym, ap, subst, _∙_}
+use mathlib.Core.Path.{_≡_, refl, sym, ap, subst, _∙_}
 use mathlib.Core.Bool.{Bool, true, false, cond, _&&_}
-use mathlib.Core.List.{List}
-use Prim.Native.Nat.{ℕ, _+_, _*_, _<_, _/_, _%_}
-use native.Mathlib.Nat.{zero-add}
+use mathlib.Core.List.{List, [], _∷_, _++_}
+use Prim.Native.Nat.{ℕ, zero, suc, _+_, _*_, _<_, _/_, _%_}
+use native.Mathlib.Nat.{zero-add, suc-add}
 use native.Mathlib.Omega.{arith}
 use lib.Dec.{leb, ltb, eqb}
 use lib.ListN.{length, take}
@@ -19,7 +19,7 @@ use Rattle.disk.specs.declared.refusal.Outcome.the-variants.{Done, Refused}
 use Rattle.label.specs.Fields.{geometryOf, fitsOf}
 use Rattle.label.proofs.Fits.{fits-says}
 use Rattle.label.specs.declared.fields.Label.{Label}
-use Rattle.position.specs.Row.{listed}
+use Rattle.position.specs.Row.{inRow, listed, listed-length}
 use Rattle.requests.specs.Begun.{workBytes, first}
 use Rattle.stages.specs.declared.state.State.{State}
 use Rattle.stages.specs.declared.state.Kind.{Kind}
@@ -111,13 +111,49 @@ read-done l kind absent block img work buf e =
     let q = look-done l kind (length img) (p .0) in
     shows l absent true (serves kind) img work block buf (q .0) (q .1) (p .1)
 
--- ---- all sectors at once
+-- ---- the sectors of a shard, one by one and all at once
 
--- they are the shard
+listed-append : (a b : ℕ) (f : ℕ → ℕ) → listed (a + b) f ≡ listed a f ++ listed b (λ p. f (a + p))
+unfolding listed
+listed-append zero b f =
+    let e : 0 + b ≡ b = omega arith in
+    ap (λ (n : ℕ). listed n f) e ∙ sym (ap (λ (h : ℕ → ℕ). listed b h) (λ i p. f (zero-add p i)))
+listed-append (suc a) b f =
+    let e : suc a + b ≡ suc (a + b) = omega arith in
+    ap (λ (n : ℕ). listed n f) e ∙ ap (λ (l : List ℕ). f 0 ∷ l) (listed-append a b (λ i. f (suc i)))
+    ∙ ap (λ (h : ℕ → ℕ). listed (suc a) f ++ listed b h) (λ i p. f (sym (suc-add a p) i))
+
+listed-none : (f : ℕ → ℕ) → listed (0 * sectorBytes) f ≡ []
+unfolding listed
+listed-none f = refl
+
+-- a sector has its bytes
+pub shown-length : (g : Geometry) (k : ℕ) (img : List ℕ) (there over : ℕ) (kept : List ℕ) (t j r : ℕ) → length (shardShown g k img there over kept t j 1 r) ≡ sectorBytes
+unfolding shardShown
+shown-length g k img there over kept t j r = listed-length sectorBytes (λ p. shownByte g k img there over kept t r (j * sectorBytes + p))
+
+-- the sectors one behind the other are the shard
 pub sectors-shown : (g : Geometry) (k : ℕ) (img : List ℕ) (there over : ℕ) (kept : List ℕ) (t r : ℕ)
+    → inRow (g .c) (λ j. shardShown g k img there over kept t j 1 r) ≡ blockShown g k img there over kept t r
+unfolding shardShown blockShown
+sectors-shown g k img there over kept t r = go (g .c)
+  where
+    f : ℕ → ℕ
+    f = shownByte g k img there over kept t r
+
+    go : (n : ℕ) → inRow n (λ j. listed (1 * sectorBytes) (λ p. f (j * sectorBytes + p))) ≡ listed (n * sectorBytes) f
+    go zero = sym (listed-none f)
+    go (suc n) =
+        let e : n * sectorBytes + sectorBytes ≡ suc n * sectorBytes = omega arith in
+        ap (λ (l : List ℕ). l ++ listed sectorBytes (λ p. f (n * sectorBytes + p))) (go n)
+        ∙ sym (listed-append (n * sectorBytes) sectorBytes f)
+        ∙ ap (λ (m : ℕ). listed m f) e
+
+-- all at once
+pub whole-shown : (g : Geometry) (k : ℕ) (img : List ℕ) (there over : ℕ) (kept : List ℕ) (t r : ℕ)
     → shardShown g k img there over kept t 0 (g .c) r ≡ blockShown g k img there over kept t r
 unfolding shardShown blockShown
-sectors-shown g k img there over kept t r =
+whole-shown g k img there over kept t r =
     ap (λ (h : ℕ → ℕ). listed (shardBytes g) h) (λ i p. shownByte g k img there over kept t r (zero-add p i))
 
 -- what `show_block` needs of what it is given
@@ -129,25 +165,24 @@ pub record Showing (g : Geometry) (k : ℕ) (img : List ℕ) (there : ℕ) (kept
   pub shard : r < g .n
   pub keeps : length kept ≡ g .n * shardBytes g
 
--- then it is not refused where it is rebuilt, with room for a stripe
-pub rebuild-goes : (g : Geometry) (k : ℕ) (img : List ℕ) (there : ℕ) (kept : List ℕ) (t r : ℕ) → Showing g k img there kept t r
-    → (a b : ℕ) → a ≡ g .n * shardBytes g → b ≡ shardBytes g → shownAnswer g k (length img) t r 0 (g .c) there (length kept) a b ≡ Done
+-- then no sector is refused
+pub sector-goes : (g : Geometry) (k : ℕ) (img : List ℕ) (there : ℕ) (kept : List ℕ) (t r : ℕ) → Showing g k img there kept t r
+    → (j a b : ℕ) → j < g .c → a ≡ g .n * sectorBytes → b ≡ sectorBytes → shownAnswer g k (length img) t r j 1 there (length kept) a b ≡ Done
 unfolding shownAnswer partOf
-rebuild-goes g k img there kept t r h a b ha hb =
+sector-goes g k img there kept t r h j a b hj ha hb =
     simp (
       h .image,
       h .split,
       lt-ltb t (stripesOf g) (h .stripe),
-      le-leb 1 (g .c) (fits-image g img (h .image) .0 .some),
-      le-leb (0 + g .c) (g .c) (omega arith),
+      le-leb (j + 1) (g .c) (omega arith),
       lt-ltb r (g .n) (h .shard),
       h .few,
       eq-eqb (length kept) (g .n * shardBytes g) (h .keeps),
-      eq-eqb a (g .n * shardBytes g) ha,
-      eq-eqb b (shardBytes g) hb,
+      eq-eqb a (g .n * (1 * sectorBytes)) ha,
+      eq-eqb b (1 * sectorBytes) hb,
     )
 
--- nor where it is taken as it lies
+-- nor the shard, where it is taken as it lies
 pub fetch-goes : (g : Geometry) (k : ℕ) (img : List ℕ) (there : ℕ) (kept : List ℕ) (t r : ℕ) → Showing g k img there kept t r
     → (b : ℕ) → b ≡ shardBytes g → shardAnswer g (length img) t r (length kept) b ≡ Done
 unfolding shardAnswer partOf

@@ -3,9 +3,9 @@ use crate::answers::block_answer;
 use crate::answers::is_served;
 use crate::answers::look_answer;
 use crate::of_label::geometry;
-use crate::scrub::MOST_STRIPE;
 use crate::slots::slots_there;
 use disk::geometry::Geometry;
+use disk::limits::MOST_N;
 use disk::limits::SECTOR;
 use disk::mask::has;
 use disk::refusal::Outcome;
@@ -15,7 +15,9 @@ use stages::state::State;
 use strips::seen::fetch_shard;
 use strips::shown::shown;
 ghost use mathlib.Core.Path.{_≡_};
+ghost use Prim.Native.Nat.{_*_};
 ghost use lib.ListN.{length};
+ghost use Rattle.disk.specs.Limits.{sectorBytes};
 ghost use Rattle.strips.specs.Seen.{shardBytes};
 ghost use Rattle.blocks.specs.Read.{isWriting, laidBy, laidOver, blockShown, shownOf, Shows, Showing, readAnswer, afterRead};
 
@@ -64,6 +66,44 @@ pub(crate) fn laid_over(s: State, t: usize) -> u64
     laid(kind, cursor.stage, marks.redo, marks.stripe, t)
 }
 
+// Shard r of stripe t as it is shown, sector by sector, with room for a sector of every shard.
+fn show_sectors(
+    image: &[u8],
+    g: Geometry,
+    k: usize,
+    there: u64,
+    over: u64,
+    kept: &[u8],
+    t: usize,
+    r: usize,
+    room: &mut [u8],
+    bytes: &mut [u8],
+)
+    requires { ⌜ Showing g k (now image) there (now kept) t r × (length (now room) ≡ g .n * sectorBytes) × (length (now bytes) ≡ shardBytes g) ⌝ }
+    ensures { λ _. ⌜ now (bytes .exit) ≡ blockShown g k (now (image .entry)) there over (now (kept .entry)) t r ⌝ }
+{
+    let mut j = 0;
+    while j < g.c {
+        let at = j * SECTOR;
+        let e = at + SECTOR;
+        shown(
+            image,
+            g,
+            k,
+            there,
+            over,
+            kept,
+            t,
+            r,
+            j,
+            1,
+            room,
+            &mut bytes[at..e],
+        );
+        j += 1;
+    }
+}
+
 // Shard r of stripe t, whose slot is not there, as it is shown: rebuilt.
 fn show_lost(
     image: &[u8],
@@ -79,9 +119,9 @@ fn show_lost(
     requires { ⌜ Showing g k (now image) there (now kept) t r × (length (now bytes) ≡ shardBytes g) ⌝ }
     ensures { λ _. ⌜ now (bytes .exit) ≡ blockShown g k (now (image .entry)) there over (now (kept .entry)) t r ⌝ }
 {
-    let mut room = [0u8; MOST_STRIPE];
-    let wide = g.n * (g.c * SECTOR);
-    shown(
+    let mut room = [0u8; MOST_N * SECTOR];
+    let wide = g.n * SECTOR;
+    show_sectors(
         image,
         g,
         k,
@@ -90,8 +130,6 @@ fn show_lost(
         kept,
         t,
         r,
-        0,
-        g.c,
         &mut room[..wide],
         bytes,
     );

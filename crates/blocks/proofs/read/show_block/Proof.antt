@@ -3,7 +3,7 @@ use mathlib.Core.Path.{sym, ap, _∙_}
 use native.Mathlib.Omega.{arith}
 use borrow.Author.Needs.{needs}
 use Rattle.blocks.proofs.read.show_block.Statement.{statement}
-use Rattle.blocks.specs.Read.{fetch-goes, sectors-shown}
+use Rattle.blocks.specs.Read.{fetch-goes, whole-shown}
 use Rattle.disk.specs.Geometry.{slotOf, stripes-le}
 use Rattle.disk.specs.Image.{fits-image}
 use Rattle.disk.specs.declared.refusal.Outcome.{Outcome}
@@ -40,7 +40,7 @@ returns c =
     e .1 ∙ ap (λ (x : Outcome). afterShard x (a .g) (a .image .now) (a .there) (a .over) (a .kept .now) (a .t) (a .r) (a .bytes .now))
     (e .0 ∙ fetch-goes (a .g) (a .k) (a .image .now) (a .there) (a .kept .now) (a .t) (a .r) (s .pre .0) _ (s .pre .1))
     ∙ shown-there (a .g) (a .k) (a .image .now) (a .there) (a .over) (a .kept .now) (a .t) 0 (a .g .c) (a .r) (s .pre .0 .shard) (sym (i .before .has .ensures) ∙ i .if1 .taken)
-    ∙ sectors-shown (a .g) (a .k) (a .image .now) (a .there) (a .over) (a .kept .now) (a .t) (a .r)
+    ∙ whole-shown (a .g) (a .k) (a .image .now) (a .there) (a .over) (a .kept .now) (a .t) (a .r)
 
 show-lost-requires : tie.Need-show-lost-requires
 show-lost-requires c κs = search needs
