@@ -11,7 +11,7 @@ use lib.Seq.{length-take-le}
 use borrow.Author.Tests.{ltb-true, eqb-true, lt-ltb, le-leb, eq-eqb}
 use Rattle.disk.specs.Limits.{sectorBytes}
 use Rattle.disk.specs.Geometry.{splits, stripesOf, blocksOf, block-inside}
-use Rattle.disk.specs.Image.{fitsImage}
+use Rattle.disk.specs.Image.{fitsImage, fits-image}
 use Rattle.disk.specs.Tests.{and-left, and-right}
 use Rattle.disk.specs.declared.geometry.Geometry.{Geometry}
 use Rattle.disk.specs.declared.refusal.Outcome.{Outcome}
@@ -25,7 +25,7 @@ use Rattle.stages.specs.declared.state.State.{State}
 use Rattle.stages.specs.declared.state.Kind.{Kind}
 use Rattle.stages.specs.declared.state.Kind.the-variants.{Nothing, Idle, Creating, Starting, Labelling, Writing, Beginning, Filling}
 use Rattle.strips.specs.Seen.{shardBytes, shownByte, shardShown}
-use Rattle.strips.specs.Answers.{partOf, fewLost, shownAnswer}
+use Rattle.strips.specs.Answers.{partOf, fewLost, shardAnswer, shownAnswer}
 use Rattle.blocks.specs.Slots.{tooFew, there}
 use Rattle.blocks.specs.Counted.{few-lost}
 use Rattle.blocks.specs.Answers.{serves, lookAnswer, sizes, blockAnswer, look-done, first-done, answered-done, splits-of, half-le}
@@ -111,7 +111,7 @@ read-done l kind absent block img work buf e =
     let q = look-done l kind (length img) (p .0) in
     shows l absent true (serves kind) img work block buf (q .0) (q .1) (p .1)
 
--- ---- sector by sector
+-- ---- the sectors of a shard, one by one and all at once
 
 listed-append : (a b : ℕ) (f : ℕ → ℕ) → listed (a + b) f ≡ listed a f ++ listed b (λ p. f (a + p))
 unfolding listed
@@ -149,6 +149,13 @@ sectors-shown g k img there over kept t r = go (g .c)
         ∙ sym (listed-append (n * sectorBytes) sectorBytes f)
         ∙ ap (λ (m : ℕ). listed m f) e
 
+-- all at once
+pub whole-shown : (g : Geometry) (k : ℕ) (img : List ℕ) (there over : ℕ) (kept : List ℕ) (t r : ℕ)
+    → shardShown g k img there over kept t 0 (g .c) r ≡ blockShown g k img there over kept t r
+unfolding shardShown blockShown
+whole-shown g k img there over kept t r =
+    ap (λ (h : ℕ → ℕ). listed (shardBytes g) h) (λ i p. shownByte g k img there over kept t r (zero-add p i))
+
 -- what `show_block` needs of what it is given
 pub record Showing (g : Geometry) (k : ℕ) (img : List ℕ) (there : ℕ) (kept : List ℕ) (t r : ℕ) : Type 0 where
   pub image : fitsImage g (length img) ≡ true
@@ -173,6 +180,21 @@ sector-goes g k img there kept t r h j a b hj ha hb =
       eq-eqb (length kept) (g .n * shardBytes g) (h .keeps),
       eq-eqb a (g .n * (1 * sectorBytes)) ha,
       eq-eqb b (1 * sectorBytes) hb,
+    )
+
+-- nor the shard, where it is taken as it lies
+pub fetch-goes : (g : Geometry) (k : ℕ) (img : List ℕ) (there : ℕ) (kept : List ℕ) (t r : ℕ) → Showing g k img there kept t r
+    → (b : ℕ) → b ≡ shardBytes g → shardAnswer g (length img) t r (length kept) b ≡ Done
+unfolding shardAnswer partOf
+fetch-goes g k img there kept t r h b hb =
+    simp (
+      h .image,
+      lt-ltb t (stripesOf g) (h .stripe),
+      le-leb 1 (g .c) (fits-image g img (h .image) .0 .some),
+      le-leb (0 + g .c) (g .c) (omega arith),
+      lt-ltb r (g .n) (h .shard),
+      eq-eqb (length kept) (g .n * shardBytes g) (h .keeps),
+      eq-eqb b (shardBytes g) hb,
     )
 
 -- so what a read that is not refused needs is there

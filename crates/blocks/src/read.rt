@@ -7,16 +7,18 @@ use crate::slots::slots_there;
 use disk::geometry::Geometry;
 use disk::limits::MOST_N;
 use disk::limits::SECTOR;
+use disk::mask::has;
 use disk::refusal::Outcome;
 use label::fields::Label;
 use stages::state::Kind;
 use stages::state::State;
+use strips::seen::fetch_shard;
 use strips::shown::shown;
 ghost use mathlib.Core.Path.{_≡_};
-ghost use Prim.Native.Nat.{_<_};
+ghost use Prim.Native.Nat.{_*_};
 ghost use lib.ListN.{length};
 ghost use Rattle.disk.specs.Limits.{sectorBytes};
-ghost use Rattle.strips.specs.Seen.{shardBytes, shardShown};
+ghost use Rattle.strips.specs.Seen.{shardBytes};
 ghost use Rattle.blocks.specs.Read.{isWriting, laidBy, laidOver, blockShown, shownOf, Shows, Showing, readAnswer, afterRead};
 
 // The stage of a write at which its strips are being written: its log is flushed.
@@ -64,8 +66,8 @@ pub(crate) fn laid_over(s: State, t: usize) -> u64
     laid(kind, cursor.stage, marks.redo, marks.stripe, t)
 }
 
-// Sector j of shard r of stripe t as it is shown.
-fn show_sector(
+// Shard r of stripe t as it is shown, sector by sector, with room for a sector of every shard.
+fn show_sectors(
     image: &[u8],
     g: Geometry,
     k: usize,
@@ -74,15 +76,52 @@ fn show_sector(
     kept: &[u8],
     t: usize,
     r: usize,
-    j: usize,
-    part: &mut [u8],
+    room: &mut [u8],
+    bytes: &mut [u8],
 )
-    requires { ⌜ Showing g k (now image) there (now kept) t r × (j < g .c) × (length (now part) ≡ sectorBytes) ⌝ }
-    ensures { λ _. ⌜ now (part .exit) ≡ shardShown g k (now (image .entry)) there over (now (kept .entry)) t j 1 r ⌝ }
+    requires { ⌜ Showing g k (now image) there (now kept) t r × (length (now room) ≡ g .n * sectorBytes) × (length (now bytes) ≡ shardBytes g) ⌝ }
+    ensures { λ _. ⌜ now (bytes .exit) ≡ blockShown g k (now (image .entry)) there over (now (kept .entry)) t r ⌝ }
+{
+    let mut j = 0;
+    while j < g.c {
+        let at = j * SECTOR;
+        let e = at + SECTOR;
+        shown(
+            image,
+            g,
+            k,
+            there,
+            over,
+            kept,
+            t,
+            r,
+            j,
+            1,
+            room,
+            &mut bytes[at..e],
+        );
+        j += 1;
+    }
+}
+
+// Shard r of stripe t, whose slot is not there, as it is shown: rebuilt.
+fn show_lost(
+    image: &[u8],
+    g: Geometry,
+    k: usize,
+    there: u64,
+    over: u64,
+    kept: &[u8],
+    t: usize,
+    r: usize,
+    bytes: &mut [u8],
+)
+    requires { ⌜ Showing g k (now image) there (now kept) t r × (length (now bytes) ≡ shardBytes g) ⌝ }
+    ensures { λ _. ⌜ now (bytes .exit) ≡ blockShown g k (now (image .entry)) there over (now (kept .entry)) t r ⌝ }
 {
     let mut room = [0u8; MOST_N * SECTOR];
     let wide = g.n * SECTOR;
-    shown(
+    show_sectors(
         image,
         g,
         k,
@@ -91,14 +130,12 @@ fn show_sector(
         kept,
         t,
         r,
-        j,
-        1,
         &mut room[..wide],
-        part,
+        bytes,
     );
 }
 
-// Shard r of stripe t as it is shown, sector by sector.
+// Shard r of stripe t as it is shown: where its slot is there, its bytes as they lie.
 fn show_block(
     image: &[u8],
     g: Geometry,
@@ -113,13 +150,11 @@ fn show_block(
     requires { ⌜ Showing g k (now image) there (now kept) t r × (length (now bytes) ≡ shardBytes g) ⌝ }
     ensures { λ _. ⌜ now (bytes .exit) ≡ blockShown g k (now (image .entry)) there over (now (kept .entry)) t r ⌝ }
 {
-    let mut j = 0;
-    while j < g.c {
-        let at = j * SECTOR;
-        let e = at + SECTOR;
-        show_sector(image, g, k, there, over, kept, t, r, j, &mut bytes[at..e]);
-        j += 1;
+    if has(there, (r + t) % g.n) {
+        fetch_shard(image, g, t, there, over, kept, r, bytes);
+        return;
     }
+    show_lost(image, g, k, there, over, kept, t, r, bytes);
 }
 
 // The first refusal that applies to a read.

@@ -17,7 +17,7 @@ use Rattle.disk.specs.declared.refusal.Refusal.{Refusal}
 use Rattle.disk.specs.declared.refusal.Refusal.the-variants.{BadImage, TooFew, BadBlock, BadBuffer}
 use Rattle.disk.specs.declared.refusal.Outcome.{Outcome}
 use Rattle.disk.specs.declared.refusal.Outcome.the-variants.{Done, Refused}
-use Rattle.strips.specs.Seen.{shardBytes, lostOf, rowSeen, shardShown}
+use Rattle.strips.specs.Seen.{shardBytes, lostOf, shardSeen, rowSeen, shardShown}
 
 -- there is a stripe t, and its strips have the sectors first .. first + count, of which there is one at least
 unfoldable pub partOf : Geometry → ℕ → ℕ → ℕ → Bool
@@ -36,6 +36,19 @@ fetchAnswer g len t first count a b =
 abbrev pub afterFetch : Outcome → Geometry → List ℕ → ℕ → ℕ → List ℕ → ℕ → ℕ → ℕ → List ℕ → List ℕ
 afterFetch Done g img there over kept t first count to = rowSeen g img there over kept t first count
 afterFetch (Refused why) g img there over kept t first count to = to
+
+-- fetch of shard r alone, all its sectors: kept has a bytes, and there is room for b
+unfoldable pub shardAnswer : Geometry → ℕ → ℕ → ℕ → ℕ → ℕ → Outcome
+shardAnswer g len t r a b =
+    cond (fitsImage g len)
+    (cond (partOf g t 0 (g .c) && ltb r (g .n))
+    (cond (eqb a (g .n * shardBytes g) && eqb b (shardBytes g)) Done (Refused BadBuffer))
+    (Refused BadBlock))
+    (Refused BadImage)
+
+abbrev pub afterShard : Outcome → Geometry → List ℕ → ℕ → ℕ → List ℕ → ℕ → ℕ → List ℕ → List ℕ
+afterShard Done g img there over kept t r to = shardSeen g img there over kept t 0 (g .c) r
+afterShard (Refused why) g img there over kept t r to = to
 
 -- at most as many shards are lost as there is parity
 unfoldable pub fewLost : ℕ → ℕ → ℕ → ℕ → Bool
@@ -107,6 +120,20 @@ fetch-done g img kept t first count b e =
     let q = gate (partOf g t first count) _ BadBlock (p .1) in
     let s = gate (x && y) Done BadBuffer (q .1) in
     (part-is g img kept t first count (p .0) (q .0) (eqb-true _ _ (and-left x y (s .0))), eqb-true _ _ (and-right x y (s .0)))
+
+pub shard-done : (g : Geometry) (img kept : List ℕ) (t r b : ℕ) → shardAnswer g (length img) t r (length kept) b ≡ Done
+    → Part g img kept t 0 (g .c) × (r < g .n) × (b ≡ shardBytes g)
+unfolding shardAnswer
+shard-done g img kept t r b e =
+    let x : Bool = eqb (length kept) (g .n * shardBytes g) in
+    let y : Bool = eqb b (shardBytes g) in
+    let p = gate (fitsImage g (length img)) _ BadImage e in
+    let q = gate (partOf g t 0 (g .c) && ltb r (g .n)) _ BadBlock (p .1) in
+    let s = gate (x && y) Done BadBuffer (q .1) in (
+      part-is g img kept t 0 (g .c) (p .0) (and-left (partOf g t 0 (g .c)) (ltb r (g .n)) (q .0)) (eqb-true _ _ (and-left x y (s .0))),
+      ltb-true r (g .n) (and-right (partOf g t 0 (g .c)) (ltb r (g .n)) (q .0)),
+      eqb-true _ _ (and-right x y (s .0)),
+    )
 
 pub shown-done : (g : Geometry) (k : ℕ) (img kept : List ℕ) (t r first count there b e : ℕ) → shownAnswer g k (length img) t r first count there (length kept) b e ≡ Done
     → Part g img kept t first count × Splits (g .n) k × (fewLost (g .n) k t there ≡ true) × (r < g .n) × (b ≡ g .n * (count * sectorBytes)) × (e ≡ count * sectorBytes)

@@ -17,7 +17,7 @@ ghost use Rattle.disk.specs.Limits.{sectorBytes};
 ghost use Rattle.disk.specs.Geometry.{inRange};
 ghost use Rattle.disk.specs.Image.{place};
 ghost use Rattle.strips.specs.Seen.{shardSeen, rowSeen};
-ghost use Rattle.strips.specs.Answers.{partOf, fetchAnswer, afterFetch, Part};
+ghost use Rattle.strips.specs.Answers.{partOf, fetchAnswer, afterFetch, shardAnswer, afterShard, Part};
 
 // Copies the bytes of some sectors, as many as the part has room for, from sector s of slot d on, with `per` sectors to a slot.
 fn copy_sectors(from: &[u8], per: usize, d: usize, s: usize, part: &mut [u8])
@@ -176,6 +176,51 @@ pub fn fetch(
         Outcome::Refused(why) => Outcome::Refused(why),
         Outcome::Done => {
             gather(image, g, t, first, count, there, over, kept, to);
+            Outcome::Done
+        }
+    }
+}
+
+// The first refusal that applies to a fetch of one shard.
+fn shard_answer(g: Geometry, len: usize, t: usize, r: usize, kept: usize, room: usize) -> Outcome
+    ensures { λ x. ⌜ x ≡ shardAnswer g len t r kept room ⌝ }
+{
+    if !fits_image(g, len) {
+        return Outcome::Refused(Refusal::BadImage);
+    }
+    if !has_part(g, t, 0, g.c) {
+        return Outcome::Refused(Refusal::BadBlock);
+    }
+    if g.n <= r {
+        return Outcome::Refused(Refusal::BadBlock);
+    }
+    if kept != g.n * (g.c * SECTOR) {
+        return Outcome::Refused(Refusal::BadBuffer);
+    }
+    if room != g.c * SECTOR {
+        return Outcome::Refused(Refusal::BadBuffer);
+    }
+    Outcome::Done
+}
+
+// Fetches shard r of stripe t alone, all its sectors, in the same way. A refusal changes nothing.
+pub fn fetch_shard(
+    image: &[u8],
+    g: Geometry,
+    t: usize,
+    there: u64,
+    over: u64,
+    kept: &[u8],
+    r: usize,
+    to: &mut [u8],
+) -> Outcome
+    ensures { λ x. ⌜ (x ≡ shardAnswer g (length (now (image .entry))) t r (length (now (kept .entry))) (length (now (to .entry)))) × (now (to .exit) ≡ afterShard x g (now (image .entry)) there over (now (kept .entry)) t r (now (to .entry))) ⌝ }
+{
+    let answer = shard_answer(g, image.len(), t, r, kept.len(), to.len());
+    match answer {
+        Outcome::Refused(why) => Outcome::Refused(why),
+        Outcome::Done => {
+            take_shard(image, g, t, 0, g.c, there, over, kept, r, to);
             Outcome::Done
         }
     }
