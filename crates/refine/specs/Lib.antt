@@ -42,6 +42,7 @@ pub mod Strips
 pub mod Sees
 pub mod WriteAsked
 pub mod Mends
+pub mod RepairAsked
 pub mod Hosts
 pub mod Since
 pub mod Reads
