@@ -212,6 +212,13 @@ module _ (z : Shelf) (img : List ℕ) (disks : Disks z img) (i : State) (own : o
   unfolding Bytes
   finds = let y = mended-is z t img (allSlots n) (strips-of (size z) (no-sets n) (records z) (any-code z) f t) lies (none-lost n t (some-slots z)) r half half-bytes here in (y .0, y .1)
 
+  pub repair-finds : (r : ℕ) × (finding (size z) (no-sets n) (labels z) (records z) (any-code z) stamps (any-sectors z) f t ≡ accused r) × (r < n)
+  repair-finds = (r, finds .0, finds .1)
+
+  -- with no slot out, and every strip of the stripe believed
+  pub repair-whole : (t < stripesOf (geometry z)) × ((d : ℕ) → d < n → inMask (l .out) d ≡ false) × ((d : ℕ) → d < n → Label.believed (size z) (labelOf z l) d t ≡ true)
+  repair-whole = (in-T, (λ d h. none-missing z i own t whole d h .0), all-believe z i own t whole)
+
   -- it accuses the same slot, and mends its strip to the same
   mends : (D ≡ slotOf n t r) × ((j : ℕ) → j < z .c → sector (z .c) half r j ≡ W .new D j .bytes)
   unfolding Bytes

@@ -3,26 +3,29 @@
 -- Done ends the rot of the strip that was mended. Assumes nothing.
 use mathlib.Core.Path.{_≡_, refl, sym, ap, subst, _∙_}
 use mathlib.Core.Logic.{_⊎_, inl, inr, ⊎-elim}
-use mathlib.Core.Bool.{Bool, true, false, cond}
+use mathlib.Core.Bool.{Bool, true, false, cond, not, _&&_}
 use mathlib.Core.List.{List, [], _∷_}
 use Prim.Native.Nat.{ℕ, _-_, _<_}
 use native.Mathlib.Omega.{arith}
-use lib.Dec.{ltb}
+use lib.Dec.{eqb, ltb}
+use borrow.Author.Tests.{eq-eqb}
+use Rattle.disk.specs.Geometry.{stripesOf, slotOf, slot-lt}
 use Rattle.disk.specs.Mask.{inMask}
 use Rattle.disk.specs.declared.refusal.Outcome.the-variants as outcome
+use Rattle.label.specs.declared.fields.Label as bytes
 use Rattle.protocol.specs.World.{Image, World, Action, put, flush}
-use Rattle.protocol.specs.Log.{Write}
-use Rattle.protocol.specs.Label.{belief}
-use Rattle.protocol.specs.Host.{Host}
+use Rattle.protocol.specs.Log.{Write, Belief}
+use Rattle.protocol.specs.Label.{believed, belief}
+use Rattle.protocol.specs.Host.{Host, accused, accused-slot, repairOf}
 use Rattle.protocol.specs.Program as program
-use Rattle.protocol.specs.Program.{Memory, nothing, idle, doing, creating, starting, logging, storing, labelling, Input, Reply, accepted, refused, did, safe, done, block, found, repair, step, beyond, asked-repair, asked-store}
+use Rattle.protocol.specs.Program.{Memory, nothing, idle, doing, creating, starting, logging, storing, labelling, Input, Reply, accepted, refused, did, safe, done, block, found, repair, step, beyond, mask, finding, asked-repair}
 use Rattle.protocol.specs.Machine.{effect, View, sure}
 use Rattle.protocol.specs.Even.{program-by}
 use Rattle.protocol.specs.Pairs.{no-sets}
-use Rattle.protocol.specs.Veil.{Rot, mended}
-use Rattle.protocol.specs.Rot.{Rotten, rot-after, Follows, Allowed, rot-host}
+use Rattle.protocol.specs.Veil.{Rot, mended, mended-less, mended-gone}
+use Rattle.protocol.specs.Rot.{Rotten, rot-after, Follows, accused-rotten, Allowed, rot-host}
 use Rattle.codecs.specs.Sector.{Sector, Bytes}
-use Rattle.codecs.specs.Shelf.{Shelf, slots, size}
+use Rattle.codecs.specs.Shelf.{Shelf, slots, geometry, size, some-slots}
 use Rattle.codecs.specs.Labels.{labelOf, labels, ours}
 use Rattle.codecs.specs.Records.{records}
 use Rattle.codecs.specs.Media.{stamps}
@@ -33,19 +36,18 @@ use Rattle.shards.specs.Even.{any-code, any-sectors, same-program}
 use Rattle.shelf.specs.Act.{Move}
 use Rattle.shelf.specs.Step.{finished, stepMove}
 use Rattle.requests.specs.declared.begun.Begun.{Begun}
-use Rattle.blocks.specs.Repair.{Repairs}
+use Rattle.blocks.specs.Repair.{Repairs, repair-accuses}
 use Rattle.stages.specs.Limits.{mostStages}
 use Rattle.stages.specs.declared.state.State.{State}
 use Rattle.stages.specs.declared.state.Kind.{Kind}
-use Rattle.stages.specs.declared.state.Answer.{Answer}
 use Rattle.stages.specs.declared.state.Answer.the-variants as answer
 use Rattle.refine.specs.Disks.{Disks, curOf, seenOf}
 use Rattle.refine.specs.ToDo.{leftOf, toDo}
-use Rattle.refine.specs.Steps.{Fair}
+use Rattle.refine.specs.Steps.{Fair, Does, step-does}
 use Rattle.refine.specs.Tied.{ownOf, ownBefore, writeMemory, memoryBy, memoryWith, Same, programOf}
 use Rattle.refine.specs.WriteList.{Writes}
-use Rattle.refine.specs.Writes.{OfWrite, TiedWrite, write-tied}
-use Rattle.refine.specs.RepairAsked.{repair-asked, repair-goes, repair-accepted}
+use Rattle.refine.specs.Writes.{OfWrite, write-tied}
+use Rattle.refine.specs.RepairAsked.{repair-asked, repair-finds, repair-whole, repair-goes, repair-accepted}
 
 -- no two of these replies are the same
 not-safe : (a : Action Sector) → did a ≡ safe → ⊥
@@ -63,6 +65,22 @@ put-not-done d to e = let z : _≡_ {A = ℕ} 0 1 = cc in omega arith
 
 flush-not-done : (d : ℕ) → answer.Flush d ≡ answer.Done → ⊥
 flush-not-done d e = let z : _≡_ {A = ℕ} 0 1 = cc in omega arith
+
+-- the code's steps with one work area, up to the one that answers Done
+pub data Stepping (work : List ℕ) : State → List ℕ → State → List ℕ → Type 0 where
+  last-step : {s : State} {img : List ℕ} → stepMove s work img .stepped .answer ≡ answer.Done → Stepping work s img (stepMove s work img .stepped .state) (stepMove s work img .image)
+  then-on : {s s' : State} {img img' : List ℕ} → (stepMove s work img .stepped .answer ≡ answer.Done → ⊥) → Stepping work (stepMove s work img .stepped .state) (stepMove s work img .image) s' img' → Stepping work s img s' img'
+
+-- a step ends the request, or keeps the label
+step-ways : (z : Shelf) (s : State) (work img : List ℕ) → Fair z s work img
+    → (stepMove s work img ≡ finished s img) ⊎ ((stepMove s work img .stepped .answer ≡ answer.Done → ⊥) × (stepMove s work img .stepped .state .now ≡ s .now))
+step-ways z s work img fair = by (toDo z s work img) (step-does z work img s fair)
+  where
+    by : (l : List (Action Sector)) → Does z work img s (stepMove s work img) l
+        → (stepMove s work img ≡ finished s img) ⊎ ((stepMove s work img .stepped .answer ≡ answer.Done → ⊥) × (stepMove s work img .stepped .state .now ≡ s .now))
+    by [] d = inl d
+    by (put k v ∷ l) d = inr ((λ c. put-not-done _ _ (sym (ap (λ (x : Move). x .stepped .answer) (d .is)) ∙ c)), ap (λ (x : Move). x .stepped .state .now) (d .is) ∙ ap (λ (x : State). x .now) (d .kept))
+    by (flush e ∷ l) d = inr ((λ c. flush-not-done e (sym (ap (λ (x : Move). x .stepped .answer) (d .is)) ∙ c)), ap (λ (x : Move). x .stepped .state .now) (d .is) ∙ ap (λ (x : State). x .now) (d .kept))
 
 module _ (z : Shelf) (more : z .m < z .k) where
   -- THE PROTOCOL'S INVARIANT while strips rot, at this shelf's sectors
@@ -227,3 +245,103 @@ module _ (z : Shelf) (more : z .m < z .k) where
           let B = at-first (T .before) inv (T .first) in
           by-reply (T .before) (B .0) (T .reply) (T .of-write) (T .answers) (T .steps) (T .acts w reads)
           (follows rot w (T .before) (sure v) (B .1) step (allowed (T .before) (w .cur)) (later, T .reply) (ap (λ (g : Image Sector). programOf z (T .before) g step) reads ∙ T .steps))
+
+  -- ---- it ends
+
+  -- at rest again: what the disks hold, with these strips rotten and this list
+  pub record Mended (rot : Rot) (s : State) (img : List ℕ) (v : Host Sector) : Type 1 where
+    pub world : World Sector
+    pub reads : world .cur ≡ curOf z img
+    pub holds : RottenIn rot world (idle (ownOf z s (s .now))) (sure v)
+
+  -- THE STEPS OF A REPAIR, up to Done
+  pub repair-rot-ends : (wr : Write Sector) (work : List ℕ) {s s' : State} {img img' : List ℕ} → Stepping work s img s' img' → Writes z s work wr → Fair z s work img
+      → (rot : Rot) (w : World Sector) → w .cur ≡ curOf z img → (v : Host Sector) → RottenIn rot w (memoryWith z wr s work img) (sure v)
+      → Mended (mended rot (belief (size z) (labelOf z (s .now))) (wr .stripe) (wr .changes)) s' img' v
+  repair-rot-ends wr work (last-step {s = s} {img = img} e) h fair rot w reads v inv = by (R .holds)
+    where
+      R : RepairStep wr s work img h rot w v
+      R = repair-rot-step wr s work img h rot w reads v fair inv
+
+      rests : memoryWith z wr (stepMove s work img .stepped .state) work (stepMove s work img .image) ≡ idle (ownOf z (stepMove s work img .stepped .state) (stepMove s work img .stepped .state .now))
+      rests =
+          ⊎-elim
+          (λ (q : stepMove s work img ≡ finished s img). ap (λ (x : Move). memoryWith z wr (x .stepped .state) work (x .image)) q ∙ sym (ap (λ (x : Move). idle (ownOf z (x .stepped .state) (x .stepped .state .now))) q))
+          (λ q. absurd (q .0 e)) (step-ways z s work img fair)
+
+      by : ((stepMove s work img .stepped .answer ≡ answer.Done) × RottenIn (rot-out wr s work img h rot) (effect w (R .reply)) (later wr s work img h) (sure v))
+          ⊎ ((stepMove s work img .stepped .answer ≡ answer.Done → ⊥) × RottenIn rot (effect w (R .reply)) (later wr s work img h) (sure v))
+          → Mended (rot-out wr s work img h rot) (stepMove s work img .stepped .state) (stepMove s work img .image) v
+      by (inl q) = record { world = effect w (R .reply); reads = R .reads; holds = subst (λ (x : Memory Sector). RottenIn (rot-out wr s work img h rot) (effect w (R .reply)) x (sure v)) rests (q .1) }
+      by (inr q) = absurd (q .0 e)
+  repair-rot-ends wr work (then-on {s = s} {s' = s'} {img = img} {img' = img'} n r) h fair rot w reads v inv =
+      by (R .holds) (write-tied z wr s work img h fair .goes-on) (step-ways z s work img fair) (λ g q. repair-rot-ends wr work r (g .1) (g .0) rot (effect w (R .reply)) (R .reads) v q)
+    where
+      R : RepairStep wr s work img h rot w v
+      R = repair-rot-step wr s work img h rot w reads v fair inv
+
+      by : ((stepMove s work img .stepped .answer ≡ answer.Done) × RottenIn (rot-out wr s work img h rot) (effect w (R .reply)) (later wr s work img h) (sure v))
+          ⊎ ((stepMove s work img .stepped .answer ≡ answer.Done → ⊥) × RottenIn rot (effect w (R .reply)) (later wr s work img h) (sure v))
+          → (Fair z (stepMove s work img .stepped .state) work (stepMove s work img .image) × Writes z (stepMove s work img .stepped .state) work wr) ⊎ (stepMove s work img ≡ finished s img)
+          → (stepMove s work img ≡ finished s img) ⊎ ((stepMove s work img .stepped .answer ≡ answer.Done → ⊥) × (stepMove s work img .stepped .state .now ≡ s .now))
+          → (Fair z (stepMove s work img .stepped .state) work (stepMove s work img .image) × Writes z (stepMove s work img .stepped .state) work wr → RottenIn rot (effect w (R .reply)) (later wr s work img h) (sure v)
+          → Mended (mended rot (belief (size z) (labelOf z (stepMove s work img .stepped .state .now))) (wr .stripe) (wr .changes)) s' img' v)
+          → Mended (rot-out wr s work img h rot) s' img' v
+      by (inl q) g k on = absurd (n (q .0))
+      by (inr q) (inr g) k on = absurd (n (ap (λ (x : Move). x .stepped .answer) g))
+      by (inr q) (inl g) (inl k) on = absurd (n (ap (λ (x : Move). x .stepped .answer) k))
+      by (inr q) (inl g) (inr k) on = subst (λ (l : bytes.Label). Mended (mended rot (belief (size z) (labelOf z l)) (wr .stripe) (wr .changes)) s' img' v) (k .1) (on g (q .1))
+
+  -- A REPAIR FROM REST TO REST: the list is as it was, nothing of its stripe is rotten any more, and nothing else has rotted
+  pub repair-mends : (img : List ℕ) (disks : Disks z img) (i : State) (own : ours z (i .now) ≡ true) (t : ℕ) (work : List ℕ) (b : Begun) (after : List ℕ) (small : Bytes after)
+      (r : Repairs i t img work b after) (ok : b .outcome ≡ outcome.Done) {s' : State} {img' : List ℕ} → Stepping after (b .state) img s' img'
+      → (rot : Rot) (w : World Sector) → w .cur ≡ curOf z img → (v : Host Sector) → RottenIn rot w (idle (ownOf z i (i .now))) (sure v)
+      → (rot' : Rot) × Mended rot' s' img' v × ((d : ℕ) → rot' d t ≡ false) × ((d u : ℕ) → rot' d u ≡ true → rot d u ≡ true)
+  unfolding repairOf belief mask seenOf
+  repair-mends img disks i own t work b after small r ok {s'} {img'} steps rot w reads v h = (gone, ended, clean, λ d u. mended-less rot B t (W .changes) d u)
+    where
+      f : Image Sector
+      f = seenOf z (beyond (slots z) (inMask (i .absent))) img
+
+      W : Write Sector
+      W = repair-asked z f t
+
+      B : Belief
+      B = belief (size z) (labelOf z (i .now))
+
+      gone : Rot
+      gone = mended rot B t (W .changes)
+
+      ended : Mended gone s' img' v
+      ended =
+          let g = repair-goes z img disks i own t work b after small r ok in
+          subst (λ (l : bytes.Label). Mended (mended rot (belief (size z) (labelOf z l)) t (W .changes)) s' img' v) (ap (λ (x : State). x .now) (repair-accuses i t img work b after r ok .2))
+          (repair-rot-ends W after steps (g .1) (g .0) rot w reads v (repair-rot-begins img disks i own t work b after small r ok rot w reads v h))
+
+      accuses : (q : ℕ) × (finding (size z) (no-sets (slots z)) (labels z) (records z) (any-code z) stamps (any-sectors z) f t ≡ accused q) × (q < slots z)
+      accuses = repair-finds z img disks i own t work b after small r ok
+
+      D : ℕ
+      D = slotOf (slots z) t (accuses .0)
+
+      whole : (t < stripesOf (geometry z)) × ((d : ℕ) → d < slots z → inMask (i .now .out) d ≡ false) × ((d : ℕ) → d < slots z → believed (size z) (labelOf z (i .now)) d t ≡ true)
+      whole = repair-whole z img disks i own t work b after small r ok
+
+      -- the accusation is right
+      rotten-there : rot D t ≡ true
+      rotten-there =
+          accused-rotten (size z) (quorum z more) (labels z) (records z) (code z more) stamps (sectors z more) rot w (ownOf z i (i .now)) v h (whole .1) t (whole .0) (accuses .0)
+          (ap (λ (g : Image Sector). finding (size z) (quorum z more) (labels z) (records z) (code z more) stamps (sectors z more) (mask (size z) (quorum z more) (labels z) (records z) (code z more) stamps (sectors z more) (beyond (slots z) (inMask (i .absent))) g) t) reads
+          ∙ accuses .1)
+
+      written : W .changes D ≡ true
+      written = eq-eqb D _ (sym (ap (accused-slot (size z) (no-sets (slots z)) (records z) (any-code z) t) (accuses .1)))
+
+      clean : (d : ℕ) → gone d t ≡ false
+      clean d = by (rot d t) refl
+        where
+          by : (a : Bool) → rot d t ≡ a → gone d t ≡ false
+          by true q =
+              subst (λ (x : ℕ). gone x t ≡ false) (sym (h .one d D t q rotten-there))
+              (mended-gone rot B t (W .changes) D (whole .2 D (slot-lt (slots z) t (some-slots z) (accuses .0))) written)
+          by false q = ap (λ (x : Bool). x && not (eqb t t && (B .believe d t && W .changes d))) q
