@@ -1,6 +1,6 @@
 -- A REPAIR WHILE STRIPS ROT, for k > m: what the protocol promises then (`rot-promise`) it promises of the code's repair. At rest, with at
--- most one strip of a stripe rotten: an accepted repair leaves the host's list as it is, so does each of its steps, and the step that answers
--- Done ends the rot of the strip that was mended. Assumes nothing.
+-- most one strip of a stripe rotten: an accepted repair leaves the host's list as it is, so does each of its steps, and when one answers Done,
+-- as it does in the end, nothing of the stripe is rotten any more. Meanwhile nothing else rots here. Assumes nothing.
 use mathlib.Core.Path.{_≡_, refl, sym, ap, subst, _∙_}
 use mathlib.Core.Logic.{_⊎_, inl, inr, ⊎-elim}
 use mathlib.Core.Bool.{Bool, true, false, cond, not, _&&_}
@@ -70,6 +70,26 @@ flush-not-done d e = let z : _≡_ {A = ℕ} 0 1 = cc in omega arith
 pub data Stepping (work : List ℕ) : State → List ℕ → State → List ℕ → Type 0 where
   last-step : {s : State} {img : List ℕ} → stepMove s work img .stepped .answer ≡ answer.Done → Stepping work s img (stepMove s work img .stepped .state) (stepMove s work img .image)
   then-on : {s s' : State} {img img' : List ℕ} → (stepMove s work img .stepped .answer ≡ answer.Done → ⊥) → Stepping work (stepMove s work img .stepped .state) (stepMove s work img .image) s' img' → Stepping work s img s' img'
+
+-- THERE ARE SUCH STEPS: a request that can be carried out comes to Done. l: what is left of it to do
+pub comes-to-done : (z : Shelf) (work : List ℕ) (l : List (Action Sector)) (s : State) (img : List ℕ) → Fair z s work img → toDo z s work img ≡ l → (s' : State) × (img' : List ℕ) × Stepping work s img s' img'
+comes-to-done z work [] s img fair e =
+    let d = subst (Does z work img s (stepMove s work img)) e (step-does z work img s fair) in
+    (stepMove s work img .stepped .state, stepMove s work img .image, last-step (ap (λ (x : Move). x .stepped .answer) d))
+comes-to-done z work (put k v ∷ l) s img fair e =
+    let d = subst (Does z work img s (stepMove s work img)) e (step-does z work img s fair) in
+    let r = comes-to-done z work l (d .state) _ (d .fair) (d .rest) in (
+      r .0,
+      r .1,
+      then-on (λ c. put-not-done _ _ (sym (ap (λ (x : Move). x .stepped .answer) (d .is)) ∙ c)) (subst (λ (x : Move). Stepping work (x .stepped .state) (x .image) (r .0) (r .1)) (sym (d .is)) (r .2)),
+    )
+comes-to-done z work (flush c ∷ l) s img fair e =
+    let d = subst (Does z work img s (stepMove s work img)) e (step-does z work img s fair) in
+    let r = comes-to-done z work l (d .state) img (d .fair) (d .rest) in (
+      r .0,
+      r .1,
+      then-on (λ q. flush-not-done c (sym (ap (λ (x : Move). x .stepped .answer) (d .is)) ∙ q)) (subst (λ (x : Move). Stepping work (x .stepped .state) (x .image) (r .0) (r .1)) (sym (d .is)) (r .2)),
+    )
 
 -- a step ends the request, or keeps the label
 step-ways : (z : Shelf) (s : State) (work img : List ℕ) → Fair z s work img
