@@ -111,7 +111,7 @@ module _ (z : Shelf) (img : List ℕ) (i : State) (t : ℕ) where
       (first (record { why = BAD_BLOCK; holds = not inside } ∷ record { why = BUSY; holds = false } ∷ record { why = NOT_NOW; holds = not all || not left } ∷ [])) (not blamed))
       (asked-repair (size z) (no-sets (slots z)) (labels z) (records z) (any-code z) stamps (any-sectors z) (ownOf z i (i .now)) seen t) accepted
 
-  pub program-replies : programOf z (idle (ownOf z i (i .now))) (curOf z img) (repair t)
+  program-replies : programOf z (idle (ownOf z i (i .now))) (curOf z img) (repair t)
       ≡ replies (ltb t (stripesOf (geometry z))) in-order stamp-left (blames (finding (size z) (no-sets (slots z)) (labels z) (records z) (any-code z) stamps (any-sectors z) seen t))
   unfolding program-by seenOf mask
   program-replies = refl
