@@ -42,6 +42,8 @@ pub mod Strips
 pub mod Sees
 pub mod WriteAsked
 pub mod Mends
+pub mod RepairAsked
+pub mod RepairRot
 pub mod Hosts
 pub mod Since
 pub mod Reads

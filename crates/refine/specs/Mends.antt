@@ -3,7 +3,7 @@
 -- Assumes nothing.
 use mathlib.Core.Path.{_≡_, refl, sym, ap, subst, _∙_}
 use mathlib.Core.Logic.{inl}
-use mathlib.Core.Bool.{Bool, true, false, _&&_, _||_}
+use mathlib.Core.Bool.{Bool, true, false, _&&_, _||_, false≢true}
 use mathlib.Core.List.{List}
 use Prim.Native.Nat.{ℕ, _+_, _-_, _*_, _<_}
 use native.Mathlib.Omega.{arith}
@@ -36,7 +36,7 @@ use Rattle.stripes.specs.Slice.{shardBytes}
 use Rattle.stripes.specs.Same.{verdictOf}
 use Rattle.strips.specs.Whole.{stripeSeen}
 use Rattle.views.specs.Seen.{Lying}
-use Rattle.views.specs.Whole.{parity-many, mend-finds}
+use Rattle.views.specs.Whole.{mend-finds}
 use Rattle.requests.specs.Begun.{begun, first}
 use Rattle.requests.specs.Ready.{isIdle, readyOf}
 use Rattle.requests.specs.declared.begun.Begun.{Begun}
@@ -70,12 +70,12 @@ may-whole s img t e =
       none-out = and-right (stampLeft (s .count)) (noneMissing l (s .absent)) (r .makes-sense);
     }
 
-neither : (a b : Bool) → (a || b) ≡ false → a ≡ false
-neither true b e = e
-neither false b e = refl
+neither : (a b : Bool) → (a || b) ≡ false → (a ≡ false) × (b ≡ false)
+neither true b e = absurd (false≢true (sym e))
+neither false b e = (refl, e)
 
--- then no slot is out
-in-all : (l : bytes.Label) (absent : ℕ) → noneMissing l absent ≡ true → (d : ℕ) → d < l .k + l .m → inMask (l .out) d ≡ false
+-- then no slot is out, nor absent
+in-all : (l : bytes.Label) (absent : ℕ) → noneMissing l absent ≡ true → (d : ℕ) → d < l .k + l .m → (inMask (l .out) d ≡ false) × (inMask absent d ≡ false)
 unfolding noneMissing missing missingAt
 in-all l absent e d h =
     neither (inMask (l .out) d) (inMask absent d)
@@ -87,6 +87,33 @@ pub asked-refused : (s : State) (t : ℕ) (img work : List ℕ) (b : Begun) (aft
 asked-refused s t img work b after r why e =
     ap (λ (x : Begun). x .outcome) (r .answers)
     ∙ ap (λ (o : Outcome). begun (first o (mendAnswer (r .found) (s .now) (length work))) s (mended s t (r .found)) .outcome) e
+
+-- ---- in the shelf's numbers
+
+module _ (z : Shelf) (s : State) (own : ours z (s .now) ≡ true) (t : ℕ) (w : Whole s t) where
+  pub stripe-inside : t < stripesOf (geometry z)
+  stripe-inside = subst (λ (x : Geometry). t < stripesOf x) (shelf-geometry z (s .now) own) (w .there-is)
+
+  pub none-missing : (d : ℕ) → d < slots z → (inMask (s .now .out) d ≡ false) × (inMask (s .absent) d ≡ false)
+  none-missing d h =
+      in-all (s .now) (s .absent) (w .none-out) d (subst (λ (n : ℕ). d < n) (sym (ap (λ (x : Geometry). x .n) (shelf-geometry z (s .now) own))) h)
+
+  -- so every strip of the stripe is believed
+  pub all-believe : (d : ℕ) → d < slots z → Label.believed (size z) (labelOf z (s .now)) d t ≡ true
+  all-believe d h = Label.believe-is (size z) (labelOf z (s .now)) d t h stripe-inside (inl (none-missing d h .0))
+
+-- what the code says of the stripe, and the stripe mended
+pub repaired-here : (z : Shelf) (l : bytes.Label) → ours z l ≡ true → (img : List ℕ) (t : ℕ) (found : Verdict) (stripe : List ℕ) → RepairedOf l img t found stripe
+    → Repaired (z .k) (slots z - z .k) (shardBytes z) found (stripeSeen (geometry z) img (allSlots (slots z)) t) stripe
+repaired-here z l own img t found stripe r =
+    let same = same-says (fieldsOf z 0 (noLabel z)) l own in
+    let P : ℕ → ℕ → ℕ → ℕ → Type 0 = λ k m c S. Repaired k m (c * sectorBytes) found (stripeSeen (record { n = k + m; c = c; sectors = S }) img (allSlots (k + m)) t) stripe in
+    let a : P (z .k) (l .m) (l .c) (l .sectors) = subst (λ (k : ℕ). P k (l .m) (l .c) (l .sectors)) (sym (same .same-k)) r in
+    let b : P (z .k) (z .m) (l .c) (l .sectors) = subst (λ (m : ℕ). P (z .k) m (l .c) (l .sectors)) (sym (same .same-m)) a in
+    let c : P (z .k) (z .m) (z .c) (l .sectors) = subst (λ (c : ℕ). P (z .k) (z .m) c (l .sectors)) (sym (same .same-c)) b in
+    let d : P (z .k) (z .m) (z .c) (z .sectors) = subst (P (z .k) (z .m) (z .c)) (sym (same .same-sectors)) c in
+    let many : z .m ≡ slots z - z .k = omega arith in
+    subst (λ (m : ℕ). Repaired (z .k) m (shardBytes z) found (stripeSeen (geometry z) img (allSlots (slots z)) t) stripe) many d
 
 -- ---- the verdict
 
@@ -103,37 +130,18 @@ module _ (z : Shelf) (img : List ℕ) (disks : Disks z img) (s : State) (own : o
   g d j = curOf z img (strip d t j)
 
   module _ (w : Whole s t) where
-    in-T : t < stripesOf (geometry z)
-    in-T = subst (λ (x : Geometry). t < stripesOf x) (shelf-geometry z l own) (w .there-is)
-
-    believes : (d : ℕ) → d < slots z → Label.believed (size z) (labelOf z l) d t ≡ true
-    believes d h =
-        Label.believe-is (size z) (labelOf z l) d t h in-T
-        (inl (in-all l (s .absent) (w .none-out) d (subst (λ (n : ℕ). d < n) (sym (ap (λ (x : Geometry). x .n) (shelf-geometry z l own))) h)))
-
     -- the code finds nothing
     sound : any-code z .scrub t g ≡ all-sound
     unfolding g
-    sound = any-code z .scrub-sound t (v t) g (λ d j h c. list d j (believes d h) c)
+    sound = any-code z .scrub-sound t (v t) g (λ d j h c. list d j (all-believe z s own t w d h) c)
 
     lies : Lying z t img (allSlots (slots z)) g
     unfolding sectorOf g
-    lies d j hd hj e = sym (cur-bytes z img disks (strip d t j) (strip-is-inside z d t j hd in-T hj))
+    lies d j hd hj e = sym (cur-bytes z img disks (strip d t j) (strip-is-inside z d t j hd (stripe-inside z s own t w) hj))
 
     module _ (found : Verdict) (stripe : List ℕ) (r : RepairedOf l img t found stripe) where
-      -- in the shelf's numbers
-      here : Repaired (z .k) (slots z - z .k) (shardBytes z) found (stripeSeen (geometry z) img (allSlots (slots z)) t) stripe
-      here =
-          let same = same-says (fieldsOf z 0 (noLabel z)) l own in
-          let P : ℕ → ℕ → ℕ → ℕ → Type 0 = λ k m c S. Repaired k m (c * sectorBytes) found (stripeSeen (record { n = k + m; c = c; sectors = S }) img (allSlots (k + m)) t) stripe in
-          let a : P (z .k) (l .m) (l .c) (l .sectors) = subst (λ (k : ℕ). P k (l .m) (l .c) (l .sectors)) (sym (same .same-k)) r in
-          let b : P (z .k) (z .m) (l .c) (l .sectors) = subst (λ (m : ℕ). P (z .k) m (l .c) (l .sectors)) (sym (same .same-m)) a in
-          let c : P (z .k) (z .m) (z .c) (l .sectors) = subst (λ (c : ℕ). P (z .k) (z .m) c (l .sectors)) (sym (same .same-c)) b in
-          let d : P (z .k) (z .m) (z .c) (z .sectors) = subst (P (z .k) (z .m) (z .c)) (sym (same .same-sectors)) c in
-          subst (λ (m : ℕ). Repaired (z .k) m (shardBytes z) found (stripeSeen (geometry z) img (allSlots (slots z)) t) stripe) (sym (parity-many z t img (allSlots (slots z)) g lies)) d
-
       pub finds-nothing : found ≡ verdict.Sound
-      finds-nothing = mend-finds z t img (allSlots (slots z)) g lies (none-lost (slots z) t (some-slots z)) found stripe here ∙ ap verdictOf sound
+      finds-nothing = mend-finds z t img (allSlots (slots z)) g lies (none-lost (slots z) t (some-slots z)) found stripe (repaired-here z l own img t found stripe r) ∙ ap verdictOf sound
 
   -- THE REPAIR IS REFUSED
   pub mend-refused : (work : List ℕ) (b : Begun) (after : List ℕ) → Repairs s t img work b after → (why : Refusal) × (b .outcome ≡ Refused why)

@@ -68,11 +68,12 @@ none-of true b c e = absurd (true≢false e)
 none-of false true c e = absurd (true≢false e)
 none-of false false c e = (refl, refl, e)
 
--- a mask has no more slots than with others
-ones-none : ones 0 ≡ 0
+-- no slot is in the empty mask
+pub ones-none : ones 0 ≡ 0
 unfolding ones onesIn
 ones-none = refl
 
+-- a mask has no more slots than with others
 ones-or : (a b : ℕ) → ones a ≤ ones (bitOr a b)
 ones-or =
     bin-ind (λ (n : ℕ). (b : ℕ) → ones n ≤ ones (bitOr n b)) (λ b. omega (arith, ones-none))

@@ -44,9 +44,10 @@ use Rattle.views.specs.Program.{write-prepared, changes-made}
 use Rattle.blocks.specs.Slots.{there, changesAt, changedShards, changedAt, changedSlots}
 use Rattle.blocks.specs.Answers.{work-is, range-of}
 use Rattle.blocks.specs.Read.{Shows, halfOf, shows-block}
-use Rattle.blocks.specs.Write.{mostCount, writeAnswer, changing, Written, write-done}
+use Rattle.blocks.specs.Write.{mostCount, writeAnswer, stampedWith, changing, Written, write-done}
 use Rattle.shelf.specs.Step.{sound}
 use Rattle.stages.specs.declared.state.State.{State}
+use Rattle.stages.specs.declared.state.Marks.{Marks}
 use Rattle.refine.specs.Given.{shelf-geometry}
 use Rattle.refine.specs.Disks.{Disks, curOf, seenOf}
 use Rattle.refine.specs.Keeps.{Works, kept-bytes, keptStrip}
@@ -56,6 +57,14 @@ use Rattle.refine.specs.Tied.{ownOf, memoryWith, programOf}
 use Rattle.refine.specs.WriteList.{Writes}
 use Rattle.refine.specs.Writes.{Asks, write-asked, write-begins, write-fair}
 use Rattle.refine.specs.Sees.{sectorsOf, sectors-strip, seenSlots, there-present, there-believed, there-lying}
+
+-- a write at its beginning is in range
+pub stamped-sound : (z : Shelf) (i : State) → ours z (i .now) ≡ true → fitsOf (i .now) ≡ true → (t : ℕ) → t < stripesOf (geometry z) → (marks : Marks) → sound (stampedWith i marks) ≡ true
+unfolding sound
+stamped-sound z i own fits t h marks =
+    let same = same-says (fieldsOf z 0 (noLabel z)) (i .now) own in
+    let some : 0 < z .sectors = omega (arith, h, stripes-le (geometry z)) in
+    both (fitsOf (i .now)) _ fits (lt-ltb 0 (i .now .sectors) (omega (arith, same .same-sectors, some)))
 
 module _ (z : Shelf) (img : List ℕ) (disks : Disks z img) (i : State) (own : ours z (i .now) ≡ true)
     (dark : (d : ℕ) → d < slots z → inMask (i .absent) d ≡ true → Label.looked (size z) (labelOf z (i .now)) d ≡ true → ⊥)
@@ -222,18 +231,11 @@ module _ (z : Shelf) (img : List ℕ) (disks : Disks z img) (i : State) (own : o
         (sym (mask-below (λ e. inMask th e && inMask parts (shardOf n stripe e)) n d hd)
         ∙ sym (ap₂ (λ (g : Geometry) (m : ℕ). inMask (maskOf (λ e. inMask (there g l (i .absent) stripe) e && inMask parts (shardOf m stripe e)) m) d) refl n-is) ∙ e))
 
-    in-range : sound begun ≡ true
-    unfolding sound
-    in-range = both (fitsOf l) _ (shows .fits) (lt-ltb 0 (l .sectors) (omega (arith, same .same-sectors, some-disk)))
-      where
-        some-disk : 0 < z .sectors
-        some-disk = omega (arith, in-T, stripes-le (geometry z))
-
     -- IT CAN BE CARRIED OUT
     begun-fair : Fair z begun after img
     unfolding changedShards
     begun-fair =
-        write-fair z begun after img in-range own disks refl refl here in-T (subst (λ (m : ℕ). parts < 2 ^ m) n-is (mask-lt (changesAt (l .k) inStripe (h .all)) (l .k + l .m))) (omega (arith, few-writes)) works
+        write-fair z begun after img (stamped-sound z i own (shows .fits) stripe in-T (begun .marks)) own disks refl refl here in-T (subst (λ (m : ℕ). parts < 2 ^ m) n-is (mask-lt (changesAt (l .k) inStripe (h .all)) (l .k + l .m))) (omega (arith, few-writes)) works
 
     -- what is remembered of it is what the protocol's program remembers
     pub write-goes : Fair z s after img × Writes z s after W
