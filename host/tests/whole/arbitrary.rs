@@ -125,7 +125,7 @@ fn arbitrary_bytes() {
     let mut random = Random(0x0a5b_17e5);
     let moments = moments();
     let mut counts = [0; 7];
-    for _ in 0..if long() { 400_000 } else { 12_000 } {
+    for _ in 0..if long() { 4_000_000 } else { 12_000 } {
         let Moment {
             mut image,
             mut state,
