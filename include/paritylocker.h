@@ -115,7 +115,8 @@ uint32_t pl_write(uint64_t block, const uint8_t *data, size_t data_len, uint8_t 
 
 /* Reads a block to data, at once, whatever is missing. 0; PL_NOT_NOW where no shelf is started; PL_BAD_IMAGE; PL_TOO_FEW where more than m
  * slots are missing; PL_BAD_BLOCK; PL_NOT_NOW where create or start-up has not answered; PL_BAD_BUFFER where data is no block, or for the
- * work area. While a write is under way the block is as it was before it until its log is flushed, and as it will be from then on.
+ * work area. While a write is under way the block is as it was before it until the first put of its strips, which follows
+ * the flush of its log, and as it will be from then on.
  * Nothing but data is written. */
 uint32_t pl_read(uint64_t block, uint8_t *data, size_t data_len, const uint8_t *image, size_t image_len, const uint8_t *state,
                  size_t state_len, uint8_t *work, size_t work_len);
@@ -139,7 +140,7 @@ uint32_t pl_repair_stripe(uint64_t stripe, uint8_t *image, size_t image_len, uin
 uint32_t pl_begin(uint32_t slot, uint8_t *image, size_t image_len, uint8_t *state, size_t state_len, uint8_t *work, size_t work_len);
 
 /* Begins to rebuild the next strips of the slot being rebuilt, from the other strips of their stripes: batch of them, where that many
- * are left (0 means 1). The last strip heals the slot. 0; PL_NOT_NOW where no shelf is started; PL_BAD_IMAGE; PL_NO_LABEL; PL_TOO_FEW;
+ * are left (0 means 1). The last strip heals the slot; where all are rebuilt already a flush and the label do. 0; PL_NOT_NOW where no shelf is started; PL_BAD_IMAGE; PL_NO_LABEL; PL_TOO_FEW;
  * PL_BUSY; PL_NOT_NOW where no slot is being rebuilt, or it is absent, or no generation is left; PL_BAD_BUFFER. */
 uint32_t pl_rebuild_on(uint32_t batch, uint8_t *image, size_t image_len, uint8_t *state, size_t state_len, uint8_t *work, size_t work_len);
 

@@ -176,7 +176,7 @@ fn read_answer(
     }
 }
 
-// Block i of stripe t as it is shown on a shelf with this label.
+// A block as it is shown on a shelf with this label.
 fn show_of(
     image: &[u8],
     l: Label,
@@ -208,7 +208,7 @@ fn show_of(
 
 // Reads a block. Refused, in this order: no shelf is started NOT_NOW; another image BAD_IMAGE; more than m slots missing TOO_FEW; no such
 // block BAD_BLOCK; create or start-up has not answered NOT_NOW; data that is no block, or another work area, BAD_BUFFER. While a write is
-// under way the block is as it was before it until its log is flushed, and as it will be from then on.
+// under way the block is as it was before it until the first put of its strips, which follows the flush of its log, and as it will be from then on.
 pub fn read(s: State, block: usize, bytes: &mut [u8], image: &[u8], work: &[u8]) -> Outcome
     ensures { λ r. ⌜ (r ≡ readAnswer (s .now) (s .kind) (s .absent) block (length (now (image .entry))) (length (now (bytes .entry))) (length (now (work .entry)))) × (now (bytes .exit) ≡ afterRead r s block (now (image .entry)) (now (work .entry)) (now (bytes .entry))) ⌝ }
 {

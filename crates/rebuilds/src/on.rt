@@ -1,5 +1,5 @@
 // On: some strips of the slot being rebuilt are computed from the others of their stripes and written, and the label then says so. The
-// last strip heals the slot.
+// last strip heals the slot (where all are rebuilt already, a flush and the label do).
 use crate::begin::only;
 use crate::judge::is_last;
 use crate::judge::is_sized;
@@ -198,7 +198,7 @@ fn on_state(s: State, batch: usize, image: &[u8]) -> State
     }
 }
 
-// Rebuilds the next strips, at most `batch` of them and one at least; none where all are rebuilt already. Refused, in this order: no
+// Begins to rebuild the next strips, at most `batch` of them and one at least; none where all are rebuilt already. Refused, in this order: no
 // shelf is started NOT_NOW; another image BAD_IMAGE; a present disk whose label is not the state's NO_LABEL; more than m slots out or
 // absent TOO_FEW; a request under way BUSY; no slot is being rebuilt, or it is absent, or no generation is left, NOT_NOW; another work
 // area BAD_BUFFER.

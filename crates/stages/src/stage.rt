@@ -117,7 +117,7 @@ fn round_stage(i: usize, slots: u64, l: Label) -> Stage
     Stage::End
 }
 
-// Start-up from its rounds on: the stale slots are prepared and adopt the settled label; then the log.
+// Start-up behind its rounds: the stale slots are prepared and adopt the settled label; then the log.
 fn late_stage(s: State, i: usize) -> Stage
     requires { ⌜ s .now .generation ≤ mostGeneration ⌝ }
     ensures { λ r. ⌜ r ≡ lateStage s i ⌝ }

@@ -24,7 +24,7 @@ pub struct Cursor {
     pub sector: usize,
 }
 
-// What the request under way goes by, each a mask of slots. present: the present ones. Of start-up: parts take part in its
+// What the request under way goes by, each a mask of slots. present: the present ones (none for a write). Of start-up: parts take part in its
 // rounds; late adopt the settled label; prep and zeroed of these are prepared, with zeros; redo are redone from their
 // records of this stripe (forward), or their records are wiped. Of a write: redo are logged and then written, and parts are the
 // shards of this stripe that it changes. Of begin: redo is the slot; parts and then late have a label of another shelf in sector 1
