@@ -24,7 +24,7 @@ use Rattle.stages.specs.declared.state.State.{State}
 use Rattle.requests.specs.Begun.{accepted, begun, first, slotsBut}
 use Rattle.requests.specs.Ready.{isIdle}
 use Rattle.rebuilds.specs.Readied.{foreign, oddFirst, alien, prepared, wiped, getsZeros}
-use Rattle.rebuilds.specs.Begin.{askedBegin, only, begunLabel, beganWith, began, beginOf}
+use Rattle.rebuilds.specs.Begin.{beginAnswer, askedBegin, only, begunLabel, beganWith, began, beginOf}
 use Rattle.rebuilds.specs.On.{askedOn, onAnswer, stripsOn, someContradict, wentOn, onOf, onLabel, onMarks, wentOnWith, on-done, strips-within}
 use Rattle.blind.specs.Alike.{Alike, alike-under, read-alike}
 use Rattle.blind.specs.Shown.{some-same, contradicted-alike}
@@ -69,11 +69,14 @@ module _ (g : Geometry) (absent : ℕ) (x y : List ℕ) (h : Alike g absent x y)
   zeros-alike =
       λ i. not (prepared-alike i) && (ltb 0 (age-alike (sectorFor (l .generation + 1)) i) || eqb (age-alike (sectorFor (l .generation)) i) 0)
 
+-- WHETHER BEGIN IS ACCEPTED, and which refusal it gives, no absent slot's bytes decide, not even its own slot's
+pub begin-answer-blind : (s : State) (d room : ℕ) (x y : List ℕ) → Alike (geometryOf (s .now)) (s .absent) x y → beginAnswer (s .now) (s .kind) (s .absent) x d room ≡ beginAnswer (s .now) (s .kind) (s .absent) y d room
+begin-answer-blind s d room x y h = ap (λ (o : Outcome). first o (askedBegin (s .now) (isIdle (s .kind)) (s .absent) d room)) (ready-alike s x y h)
+
 -- BEGIN answers the same and hands out the same state
 pub begin-blind : (s : State) (d room : ℕ) (x y : List ℕ) → Alike (geometryOf (s .now)) (withoutSlot (s .absent) d) x y → beginOf s d x room ≡ beginOf s d y room
 begin-blind s d room x y h =
-    ap₂ (λ (o : Outcome) (t : State). begun (first o (askedBegin (s .now) (isIdle (s .kind)) (s .absent) d room)) s t)
-    (ready-alike s x y (alike-under g then (s .absent) x y (without-more (s .absent) d) h)) state
+    ap₂ (λ (o : Outcome) (t : State). begun o s t) (begin-answer-blind s d room x y (alike-under g then (s .absent) x y (without-more (s .absent) d) h)) state
   where
     g : Geometry
     g = geometryOf (s .now)

@@ -1,6 +1,6 @@
 -- A REPAIR THAT IS ACCEPTED, at rest, is the protocol's: its program accepts it too, what the state and the work area then describe is
 -- the write of the accused shard, mended, that it makes, and it can be carried out. Whatever the strips hold: nothing is asked of them, nor
--- of the host's list. And one that is refused is refused by the program too, for the same reason, but for what the code alone looks at. In the
+-- of the host's list. And one that is refused is refused by the program too, with the same code for BAD_BLOCK and NOT_NOW, but for what the code alone looks at. In the
 -- words of repair's contract. Assumes nothing.
 use mathlib.Core.Path.{_≡_, refl, sym, ap, ap₂, subst, _∙_}
 use mathlib.Core.Logic.{inl, ⊎-elim}

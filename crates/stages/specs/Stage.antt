@@ -44,7 +44,7 @@ slotsOf End = 0
 unfoldable pub roundStage : ℕ → ℕ → Label → Stage
 roundStage i slots l = cond (eqb i 0) (Give slots 0 l) (cond (eqb i 1) (Flush slots) End)
 
--- start-up from its rounds on: the stale slots are prepared and adopt the settled label; then the log
+-- start-up behind its rounds: the stale slots are prepared and adopt the settled label; then the log
 unfoldable pub lateStage : State → ℕ → Stage
 lateStage s i =
     cond (eqb i 0) (Give (s .marks .prep) (s .marks .zeroed) (again (s .next) (s .now .generation + 1)))
