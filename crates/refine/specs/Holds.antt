@@ -2,15 +2,15 @@
 -- words for it (`Truthful` and `OwnTrue` of its Kept, `Shape`). Assumes nothing.
 use mathlib.Core.Path.{_≡_, refl, sym, ap, ap₂, subst, _∙_}
 use mathlib.Core.Logic.{_⊎_, ⊎-elim, inl, inr}
-use mathlib.Core.Bool.{Bool, true, false, cond, not}
+use mathlib.Core.Bool.{Bool, true, false, cond, not, _&&_}
 use mathlib.Core.List.{List}
 use Prim.Native.Nat.{ℕ, zero, suc, _+_, _≤_, _<_}
 use native.Mathlib.Nat.{mod-eq-of-lt}
 use native.Mathlib.Omega.{arith}
 use lib.ListN.{replicate}
-use borrow.Author.Tests.{ne-eqb, lt-ltb}
+use borrow.Author.Tests.{ne-eqb, lt-ltb, le-ltb}
 use Rattle.disk.specs.Limits.{sectorBytes}
-use Rattle.disk.specs.Geometry.{stripOf, stripesOf}
+use Rattle.disk.specs.Geometry.{stripOf, stripesOf, shardOf}
 use Rattle.disk.specs.Image.{sector}
 use Rattle.disk.specs.Mask.{inMask}
 use Rattle.label.specs.Valid.{decodeOf}
@@ -20,7 +20,7 @@ use Rattle.label.specs.declared.codec.Decoded.{Decoded}
 use Rattle.label.specs.declared.codec.Decoded.the-variants.{Valid, Nothing}
 use Rattle.label.proofs.Fits.{fits-says}
 use Rattle.label.proofs.Counts.{copy-says}
-use Rattle.record.specs.Stamp.{stampAt, StampFits}
+use Rattle.record.specs.Stamp.{stampAt, laterOf, StampFits}
 use Rattle.record.specs.Tail.{tailAt}
 use Rattle.record.specs.Log.{restoreOf}
 use Rattle.record.specs.declared.stamp.Stamp.{Stamp}
@@ -39,8 +39,8 @@ use Rattle.protocol.specs.Kept as Kept
 use Rattle.codecs.specs.Sector.{Sector, zeros}
 use Rattle.codecs.specs.Shelf.{Shelf, slots, geometry, size}
 use Rattle.codecs.specs.Labels.{sectorOf, noLabel, ours, labelOf, meant, decodeLabel, labels}
-use Rattle.codecs.specs.Records.{stampNumber, stampIn, stripeIn, pieceOf, records}
-use Rattle.codecs.specs.Order.{sector-stamp, stamp-one, zero-number}
+use Rattle.codecs.specs.Records.{stampNumber, stampOf, stamp-number, stampIn, stripeIn, changesIn, pieceOf, records}
+use Rattle.codecs.specs.Order.{sector-stamp, number-stamp, zero-number, later-number}
 use Rattle.codecs.specs.Media.{stamps}
 use Rattle.shards.specs.Quorum.{fewOf}
 use Rattle.shards.specs.Even.{any-code}
@@ -48,7 +48,7 @@ use Rattle.refine.specs.Family.{Family, codeIn, sectorsIn}
 use Rattle.refine.specs.Places.{label-inside, log-inside, strip-is-inside}
 use Rattle.refine.specs.Places as places
 use Rattle.refine.specs.Disks.{Disks, image-fits, curOf, cur-bytes, cur-read}
-use Rattle.refine.specs.Redo.{believe-is}
+use Rattle.refine.specs.Redo.{look-is, believe-is}
 use Rattle.refine.specs.Named.{Named, side, copy-ours}
 
 -- ---- STRIPS
@@ -57,23 +57,33 @@ use Rattle.refine.specs.Named.{Named, side, copy-ours}
 abbrev pub Wanted : Shelf → Host Sector → List ℕ → ℕ → ℕ → Type 0
 Wanted z v img d t = (j : ℕ) → j < z .c → sector (z .sectors) img d (stripOf (geometry z) t + j) ≡ any-code z .shard t (v t) d j .bytes
 
--- slot d's log holds strip t of the list v, whole: its record is complete, tells the stripe t, and gives back each sector of the strip
-pub record Logged (z : Shelf) (v : Host Sector) (img : List ℕ) (d t : ℕ) : Type 0 where
-  pub stamp : Stamp
+-- slot d's log holds strip t of the list v, whole: its record is complete with this stamp, tells the stripe t, and gives back each sector of the strip
+pub record Logged (z : Shelf) (v : Host Sector) (stamp : Stamp) (img : List ℕ) (d t : ℕ) : Type 0 where
   pub complete : completeWith (geometry z) img stamp d ≡ true
   pub stripe : tailAt (logAt (geometry z) img d (z .c)) .stripe ≡ t
   pub back : (j : ℕ) → j < z .c → restoreOf (logAt (geometry z) img d j) (logAt (geometry z) img d (z .c)) j ≡ any-code z .shard t (v t) d j .bytes
 
--- it is one of the strips that the write under way changes (of its stripe, in these slots), and the new one is whole in the slot's log
-abbrev pub InLog : Shelf → Host Sector → ℕ → (ℕ → Bool) → List ℕ → ℕ → ℕ → Type 0
-InLog z v stripe changes img d t = (t ≡ stripe) × (changes d ≡ true) × Logged z v img d t
+-- the tail of a record tells this stripe, and the shards of these slots as the changed ones
+abbrev pub Tells : Shelf → ℕ → (ℕ → Bool) → List ℕ → Type 0
+Tells z stripe changes tail = (tailAt tail .stripe ≡ stripe) × ((e : ℕ) → e < slots z → inMask (tailAt tail .shards) (shardOf (slots z) (tailAt tail .stripe) e) ≡ changes e)
 
--- A STRIP IS TRUE, with the host's view p: it is what the list asks for. While a write is under way that is the old list, and from the moment on at which nothing can undo the write the new one; but a
--- strip that the write changes may be half written, once the slot's log holds the new one whole
-abbrev pub StripTrue : Shelf → View Sector → ℕ → (ℕ → Bool) → List ℕ → ℕ → ℕ → Type 0
-StripTrue z (sure v) stripe changes img d t = Wanted z v img d t
-StripTrue z (open-write v v') stripe changes img d t = Wanted z v img d t ⊎ InLog z v' stripe changes img d t
-StripTrue z (kept-write v') stripe changes img d t = Wanted z v' img d t ⊎ InLog z v' stripe changes img d t
+-- THE LAST WRITE, WHOLE IN THE LOG under the label a: the write of this stripe and these slots has its record, complete with this stamp, in every slot that it changes and whose strip a believes; no
+-- log sector of a slot that a looks at has a later stamp; and each tail with this stamp tells this stripe and these slots. So start-up under this label writes the strips from the log, and does not wipe it.
+pub record Carried (z : Shelf) (a : bytes.Label) (stripe : ℕ) (changes : ℕ → Bool) (stamp : Stamp) (img : List ℕ) : Type 0 where
+  pub full : (e : ℕ) → believed (geometry z) a e stripe ≡ true → changes e ≡ true → completeWith (geometry z) img stamp e ≡ true
+  pub last : (e j : ℕ) → looked (geometry z) a e ≡ true → j ≤ z .c → laterOf (stampAt (logAt (geometry z) img e j)) stamp ≡ false
+  pub told : (e : ℕ) → looked (geometry z) a e ≡ true → stampAt (logAt (geometry z) img e (z .c)) ≡ stamp → Tells z stripe changes (logAt (geometry z) img e (z .c))
+
+-- it is one of the strips that the write under way changes (of its stripe, in these slots), the new one is whole in the slot's log, and under the label a that believes it the write is whole in the log and the last one
+abbrev pub InLog : Shelf → bytes.Label → Host Sector → ℕ → (ℕ → Bool) → Stamp → List ℕ → ℕ → ℕ → Type 0
+InLog z a v stripe changes stamp img d t = (t ≡ stripe) × (changes d ≡ true) × Logged z v stamp img d t × Carried z a stripe changes stamp img
+
+-- A STRIP IS TRUE that the label a believes, with the host's view p: it is what the list asks for. While a write is under way that is the old list, and from the moment on at which nothing can undo the write
+-- the new one; but a strip that the write changes may be half written, once the write is whole in the log, as far as a believes it, and nothing later is there: start-up under a then writes the new strip
+abbrev pub StripTrue : Shelf → bytes.Label → View Sector → ℕ → (ℕ → Bool) → Stamp → List ℕ → ℕ → ℕ → Type 0
+StripTrue z a (sure v) stripe changes stamp img d t = Wanted z v img d t
+StripTrue z a (open-write v v') stripe changes stamp img d t = Wanted z v img d t ⊎ InLog z a v' stripe changes stamp img d t
+StripTrue z a (kept-write v') stripe changes stamp img d t = Wanted z v' img d t ⊎ InLog z a v' stripe changes stamp img d t
 
 -- the two lists ask for the same everywhere but in the strips that the write changes
 abbrev pub Elsewhere : Shelf → View Sector → ℕ → (ℕ → Bool) → Type 0
@@ -84,8 +94,8 @@ Elsewhere z (kept-write v') stripe changes = Unit {0}
 -- ---- LABELS
 
 -- every strip that the label believes is true: each one of a slot that it calls healthy, and each one below the mark of the slot that it calls being rebuilt
-abbrev pub Truthful : Shelf → View Sector → ℕ → (ℕ → Bool) → List ℕ → bytes.Label → Type 0
-Truthful z p stripe changes img a = (d t : ℕ) → believed (geometry z) a d t ≡ true → StripTrue z p stripe changes img d t
+abbrev pub Truthful : Shelf → View Sector → ℕ → (ℕ → Bool) → Stamp → List ℕ → bytes.Label → Type 0
+Truthful z p stripe changes stamp img a = (d t : ℕ) → believed (geometry z) a d t ≡ true → StripTrue z a p stripe changes stamp img d t
 
 -- each strip of a slot that is not out is believed
 pub healthy-believed : (z : Shelf) (a : bytes.Label) (d t : ℕ) → d < slots z → t < stripesOf (geometry z) → inMask (a .out) d ≡ false → believed (geometry z) a d t ≡ true
@@ -93,7 +103,7 @@ unfolding believed looked plainlyOut
 healthy-believed z a d t i l e = rw (e, lt-ltb d (slots z) i, lt-ltb t (stripesOf (geometry z)) l)
 
 -- NO LABEL LIES: there is a settled generation, which every disk has but few (at most m); and each label on any disk, of this
--- generation or a newer one, calls few slots out and is true, with one write under way at most, whose stripe and slots these are
+-- generation or a newer one, calls few slots out and is true, with one write under way at most, whose stripe, slots and stamp these are
 pub record NoLies (z : Shelf) (p : View Sector) (img : List ℕ) : Type 0 where
   pub settled : ℕ
   pub out : ℕ → Bool
@@ -102,15 +112,17 @@ pub record NoLies (z : Shelf) (p : View Sector) (img : List ℕ) : Type 0 where
   pub few : (d s : ℕ) (a : bytes.Label) → d < slots z → s < 2 → copyOf (geometry z) img d s ≡ Valid a → settled ≤ a .generation → fewOf z (inMask (a .out)) ≡ true
   pub stripe : ℕ
   pub changes : ℕ → Bool
+  pub stamp : Stamp
   pub elsewhere : Elsewhere z p stripe changes
-  pub right : (d s : ℕ) (a : bytes.Label) → d < slots z → s < 2 → copyOf (geometry z) img d s ≡ Valid a → settled ≤ a .generation → Truthful z p stripe changes img a
+  pub right : (d s : ℕ) (a : bytes.Label) → d < slots z → s < 2 → copyOf (geometry z) img d s ≡ Valid a → settled ≤ a .generation → Truthful z p stripe changes stamp img a
 
 -- A LABEL THAT A STATE HOLDS IS TRUE, whatever a cut leaves of the disks
 pub record HeldTrue (z : Shelf) (p : View Sector) (w : World Sector) (a : bytes.Label) : Type 0 where
   pub stripe : ℕ
   pub changes : ℕ → Bool
+  pub stamp : Stamp
   pub elsewhere : Elsewhere z p stripe changes
-  pub right : (left : List ℕ) → Disks z left → Possible w (curOf z left) → Truthful z p stripe changes left a
+  pub right : (left : List ℕ) → Disks z left → Possible w (curOf z left) → Truthful z p stripe changes stamp left a
 
 -- THE SHAPE OF A LABEL (document 02, C6): where one of the two sectors is a valid copy, each is zeros or a valid copy, and two copies follow each other. (A disk without a valid copy may hold anything.)
 pub record Follows (z : Shelf) (img : List ℕ) (d : ℕ) : Type 0 where
@@ -127,42 +139,81 @@ module _ (z : Shelf) (F : Family z) where
   elsewhere-of (kept-write v') x h = tt
 
   module _ (img : List ℕ) (disks : Disks z img) where
+    -- a log sector, and its stamp
+    log-there : (d j : ℕ) → d < slots z → j ≤ z .c → curOf z img (log d j) .bytes ≡ logAt (geometry z) img d j
+    unfolding places.sectorOf logAt
+    log-there d j below l = cur-read z img disks (log d j) (log-inside z d j below l)
+
+    log-fits : (d j : ℕ) → d < slots z → j ≤ z .c → StampFits (stampAt (logAt (geometry z) img d j))
+    log-fits d j below l = subst (λ (b : List ℕ). StampFits (stampAt b)) (log-there d j below l) (sector-stamp (curOf z img (log d j)))
+
+    log-stamp : (d j u : ℕ) → d < slots z → j ≤ z .c → stampIn (curOf z img (log d j)) ≡ u → stampAt (logAt (geometry z) img d j) ≡ stampOf u
+    unfolding stampIn
+    log-stamp d j u below l q =
+        sym (number-stamp (stampAt (logAt (geometry z) img d j)) (log-fits d j below l)) ∙ ap stampOf (ap (λ (b : List ℕ). stampNumber (stampAt b)) (sym (log-there d j below l)) ∙ q)
+
+    log-complete : (d u : ℕ) → d < slots z → 0 < u → Complete (records z) (curOf z img) d u → completeWith (geometry z) img (stampOf u) d ≡ true
+    unfolding Complete
+    log-complete d u below some h =
+        stamps-complete (geometry z) img d (image-fits z img disks) below (stampOf u) (zero-number (stampOf u) ∙ ne-eqb (stampNumber (stampOf u)) 0 (λ e. omega (arith, e, stamp-number u, some)))
+        (λ j l. log-stamp d j u below l (h j l))
+
     module _ (d t : ℕ) (below : d < slots z) where
       wanted-of : (v : Host Sector) → t < stripesOf (geometry z) → Kept.Wanted (size z) (F .sets) (labels z) (records z) (codeIn z F) stamps (sectorsIn z F) v (curOf z img) d t → Wanted z v img d t
       unfolding places.sectorOf table
       wanted-of v l h j c = sym (cur-bytes z img disks (strip d t j) (strip-is-inside z d t j below l c)) ∙ ap (λ (x : Sector). x .bytes) (h j c)
 
-      logged-of : (v : Host Sector) → Kept.Logged (size z) (F .sets) (labels z) (records z) (codeIn z F) stamps (sectorsIn z F) v (curOf z img) d t → Logged z v img d t
-      unfolding places.sectorOf table stampIn stripeIn pieceOf Complete logAt
-      logged-of v h =
-          let there : (j : ℕ) → j ≤ z .c → curOf z img (log d j) .bytes ≡ logAt (geometry z) img d j = λ j l. cur-read z img disks (log d j) (log-inside z d j below l) in
-          let number : (j : ℕ) → j ≤ z .c → stampNumber (stampAt (logAt (geometry z) img d j)) ≡ h .stamp = λ j l. ap (λ (b : List ℕ). stampNumber (stampAt b)) (sym (there j l)) ∙ h .complete j l in
-          let fits : (j : ℕ) → j ≤ z .c → StampFits (stampAt (logAt (geometry z) img d j)) = λ j l. subst (λ (b : List ℕ). StampFits (stampAt b)) (there j l) (sector-stamp (curOf z img (log d j))) in
-          let tail = there (z .c) (omega arith) in
-          let one = number (z .c) (omega arith) in
+      logged-of : (v : Host Sector) (u : ℕ) → 0 < u → Kept.Logged (size z) (F .sets) (labels z) (records z) (codeIn z F) stamps (sectorsIn z F) v u (curOf z img) d t → Logged z v (stampOf u) img d t
+      unfolding places.sectorOf table stripeIn pieceOf
+      logged-of v u some h =
+          let tail = log-there d (z .c) below (omega arith) in
           record {
-            stamp = stampAt (logAt (geometry z) img d (z .c));
-            complete =
-                stamps-complete (geometry z) img d (image-fits z img disks) below (stampAt (logAt (geometry z) img d (z .c))) (zero-number (stampAt (logAt (geometry z) img d (z .c))) ∙ ne-eqb (stampNumber (stampAt (logAt (geometry z) img d (z .c)))) 0 (λ e. omega (arith, e, one, h .some)))
-                (λ j l. stamp-one (stampAt (logAt (geometry z) img d j)) (stampAt (logAt (geometry z) img d (z .c))) (fits j l) (fits (z .c) (omega arith)) (number j l ∙ sym one));
+            complete = log-complete d u below some (h .complete);
             stripe = ap (λ (b : List ℕ). tailAt b .stripe) (sym tail) ∙ h .stripe;
             back = λ j c.
-                ap₂ (λ (x y : List ℕ). restoreOf x y j) (sym (there j (omega arith))) (sym tail) ∙ ap (restoreOf (curOf z img (log d j) .bytes) (curOf z img (log d (z .c)) .bytes)) (sym (mod-eq-of-lt c))
+                ap₂ (λ (x y : List ℕ). restoreOf x y j) (sym (log-there d j below (omega arith))) (sym tail) ∙ ap (restoreOf (curOf z img (log d j) .bytes) (curOf z img (log d (z .c)) .bytes)) (sym (mod-eq-of-lt c))
                 ∙ ap (λ (x : Sector). x .bytes) (h .back j c);
           }
 
-      true-of : (p : View Sector) (x : Write Sector) → t < stripesOf (geometry z) → Kept.StripTrue (size z) (F .sets) (labels z) (records z) (codeIn z F) stamps (sectorsIn z F) p x (curOf z img) d t
-          → StripTrue z p (x .stripe) (x .changes) img d t
-      true-of (sure v) x l h = wanted-of v l h
-      true-of (open-write v v') x l h = ⊎-elim (λ y. inl (wanted-of v l y)) (λ y. inr (y .0, y .1, logged-of v' (y .2))) h
-      true-of (kept-write v') x l h = ⊎-elim (λ y. inl (wanted-of v' l y)) (λ y. inr (y .0, y .1, logged-of v' (y .2))) h
+      -- the write is whole, of which slot d has a record
+      carried-of : (a : bytes.Label) (x : Write Sector) (u : ℕ) → Complete (records z) (curOf z img) d u → Kept.Carried (size z) (F .sets) (labels z) (records z) (codeIn z F) stamps (sectorsIn z F) (labelOf z a) x u (curOf z img)
+          → Carried z a (x .stripe) (x .changes) (stampOf u) img
+      unfolding Complete stampIn stripeIn changesIn
+      carried-of a x u own h =
+          record {
+            full = λ e b c. log-complete e u (looked-below (geometry z) a e (believed-looked (geometry z) a e (x .stripe) b)) (h .some) (h .full e (believe-is z a e (x .stripe) ∙ b) c);
+            last = λ e j i l.
+                let k = looked-below (geometry z) a e i in
+                let s = stampAt (logAt (geometry z) img e j) in
+                later-number s (stampOf u) (log-fits e j k l) (subst StampFits (log-stamp d (z .c) u below (omega arith) (own (z .c) (omega arith))) (log-fits d (z .c) below (omega arith)))
+                ∙ le-ltb (stampNumber (stampOf u)) (stampNumber s) (omega (arith, stamp-number u, ap (λ (b : List ℕ). stampNumber (stampAt b)) (log-there e j k l), h .last e j (look-is z a e ∙ i) l));
+            told = λ e i q.
+                let k = looked-below (geometry z) a e i in
+                let tail = log-there e (z .c) k (omega arith) in
+                let y = h .told e (look-is z a e ∙ i) (ap (λ (b : List ℕ). stampNumber (stampAt b)) tail ∙ ap stampNumber q ∙ stamp-number u) in
+                let b = curOf z img (log e (z .c)) .bytes in
+                subst (Tells z (x .stripe) (x .changes)) tail
+                (y .0, λ r m. ap (λ (t : Bool). t && inMask (tailAt b .shards) (shardOf (slots z) (tailAt b .stripe) r)) (sym (lt-ltb r (slots z) m)) ∙ y .1 r);
+          }
+
+      in-log-of : (a : bytes.Label) (v : Host Sector) (x : Write Sector) (u : ℕ) → Kept.InLog (size z) (F .sets) (labels z) (records z) (codeIn z F) stamps (sectorsIn z F) (labelOf z a) v x u (curOf z img) d t
+          → InLog z a v (x .stripe) (x .changes) (stampOf u) img d t
+      in-log-of a v x u y = (y .0, y .1, logged-of v u (y .3 .some) (y .2), carried-of a x u (y .2 .complete) (y .3))
+
+      true-of : (a : bytes.Label) (p : View Sector) (x : Write Sector) (u : ℕ) → t < stripesOf (geometry z)
+          → Kept.StripTrue (size z) (F .sets) (labels z) (records z) (codeIn z F) stamps (sectorsIn z F) (labelOf z a) p x u (curOf z img) d t → StripTrue z a p (x .stripe) (x .changes) (stampOf u) img d t
+      true-of a (sure v) x u l h = wanted-of v l h
+      true-of a (open-write v v') x u l h = ⊎-elim (λ y. inl (wanted-of v l y)) (λ y. inr (in-log-of a v' x u y)) h
+      true-of a (kept-write v') x u l h = ⊎-elim (λ y. inl (wanted-of v' l y)) (λ y. inr (in-log-of a v' x u y)) h
 
     -- a label that believes what is true
-    believes : (p : View Sector) (x : Write Sector) (l : Label) (a : bytes.Label) → l ≡ labelOf z a
-        → ((d t : ℕ) → Label.believed (size z) l d t ≡ true → Kept.StripTrue (size z) (F .sets) (labels z) (records z) (codeIn z F) stamps (sectorsIn z F) p x (curOf z img) d t) → Truthful z p (x .stripe) (x .changes) img a
-    believes p x l a e h d t b =
-        true-of d t (looked-below (geometry z) a d (believed-looked (geometry z) a d t b)) p x (believed-below (geometry z) a d t b)
-        (h d t (ap (λ (y : Label). Label.believed (size z) y d t) e ∙ believe-is z a d t ∙ b))
+    believes : (p : View Sector) (x : Write Sector) (u : ℕ) (l : Label) (a : bytes.Label) → l ≡ labelOf z a
+        → ((d t : ℕ) → Label.believed (size z) l d t ≡ true → Kept.StripTrue (size z) (F .sets) (labels z) (records z) (codeIn z F) stamps (sectorsIn z F) l p x u (curOf z img) d t)
+        → Truthful z p (x .stripe) (x .changes) (stampOf u) img a
+    believes p x u l a e h d t b =
+        true-of d t (looked-below (geometry z) a d (believed-looked (geometry z) a d t b)) a p x u (believed-below (geometry z) a d t b)
+        (subst (λ (y : Label). (d t : ℕ) → Label.believed (size z) y d t ≡ true → Kept.StripTrue (size z) (F .sets) (labels z) (records z) (codeIn z F) stamps (sectorsIn z F) y p x u (curOf z img) d t) e h
+        d t (believe-is z a d t ∙ b))
 
     -- a copy of a label
     pub copy-meant : (d : ℕ) (b : Bool) → d < slots z → copy (labels z) (curOf z img) d b ≡ meant z (copyOf (geometry z) img d (sectorOf b))
@@ -200,8 +251,9 @@ module _ (z : Shelf) (F : Family z) where
                 subst (λ (x : ℕ → Bool). fewOf z x ≡ true) (ap (λ (y : Label). y .out) (copy-label d s a i l e)) (F .few (copy (labels z) (curOf z img) d (side s l .0) .out) (h .few d (side s l .0) i (omega (arith, born d s a e, age d s a i l e)) (omega (arith, g, age d s a i l e))));
             stripe = h .written .stripe;
             changes = h .written .changes;
+            stamp = stampOf (h .stamp);
             elsewhere = elsewhere-of p (h .written) (h .between);
-            right = λ d s a i l e g. believes p (h .written) (copy (labels z) (curOf z img) d (side s l .0)) a (copy-label d s a i l e) (h .right d (side s l .0) i (omega (arith, born d s a e, age d s a i l e)) (omega (arith, g, age d s a i l e)));
+            right = λ d s a i l e g. believes p (h .written) (h .stamp) (copy (labels z) (curOf z img) d (side s l .0)) a (copy-label d s a i l e) (h .right d (side s l .0) i (omega (arith, born d s a e, age d s a i l e)) (omega (arith, g, age d s a i l e)));
           }
         where
           age : (d s : ℕ) (a : bytes.Label) → d < slots z → (l : s < 2) → copyOf (geometry z) img d s ≡ Valid a → copy (labels z) (curOf z img) d (side s l .0) .generation ≡ a .generation
@@ -250,6 +302,7 @@ module _ (z : Shelf) (F : Family z) where
       record {
         stripe = h .written .stripe;
         changes = h .written .changes;
+        stamp = stampOf (h .stamp);
         elsewhere = elsewhere-of p (h .written) (h .between);
-        right = λ left here possible. believes left here p (h .written) (o .now) a e (h .right (curOf z left) possible);
+        right = λ left here possible. believes left here p (h .written) (h .stamp) (o .now) a e (h .right (curOf z left) possible);
       }
