@@ -57,12 +57,14 @@ module _ {X : Type 0} (z : Size) (W : Quorum (z .n)) (C : LabelCodec X (z .n)) (
     pub back : (j : ℕ) → j < K .c → K .piece (f (log d (K .c))) (f (log d j)) j ≡ table z W K E v t d j
 
   -- under the label l the write x, with the stamp u, is WHOLE IN THE LOG AND THE LAST ONE THERE: every slot whose strip l believes and x changes has its record complete with u; no log sector of a
-  -- slot that l looks at has a greater stamp; and each tail with the stamp u tells x, its stripe and its slots. So a start-up under l carries x forward (`carried-forward`).
+  -- slot that l looks at has a greater stamp; each tail with the stamp u is the one of x, which tells its stripe and its slots; and u is no stamp of an epoch after l. So a start-up under l carries x
+  -- forward (`carried-forward`).
   pub record Carried (l : Label) (x : Write X) (u : ℕ) (f : Image X) : Type 0 where
     pub some : 0 < u
     pub full : (e : ℕ) → believed z l e (x .stripe) ≡ true → x .changes e ≡ true → Complete K f e u
     pub last : (e j : ℕ) → looked z l e ≡ true → j ≤ K .c → K .stamp (f (log e j)) ≤ u
-    pub told : (e : ℕ) → looked z l e ≡ true → K .stamp (f (log e (K .c))) ≡ u → (K .stripeOf (f (log e (K .c))) ≡ x .stripe) × ((a : ℕ) → K .changesOf (f (log e (K .c))) a ≡ x .changes a)
+    pub told : (e : ℕ) → looked z l e ≡ true → K .stamp (f (log e (K .c))) ≡ u → (f (log e (K .c)) ≡ K .sector u x e (K .c)) × (x .changes e ≡ true) × K .Fits u x
+    pub early : u < S .base (suc (l .generation))
 
   -- then what start-up does with the log under l is to write strips from it: of that stripe, in those slots
   pub carried-forward : (l : Label) (x : Write X) (u : ℕ) (f : Image X) → Carried l x u f → (d : ℕ) → believed z l d (x .stripe) ≡ true → x .changes d ≡ true
@@ -81,7 +83,9 @@ module _ {X : Type 0} (z : Size) (W : Quorum (z .n)) (C : LabelCodec X (z .n)) (
       by (suc κ) e =
           let y = key-seen K B (λ y. x) f (lead K B f) κ e in
           let top : suc κ ≡ u = omega (arith, least, e, y .1, h .last (lead K B f) (K .c) (y .0) (omega arith)) in
-          let t = h .told (lead K B f) (y .0) (y .1 ∙ top) in
+          let r = h .told (lead K B f) (y .0) (y .1 ∙ top) in
+          let t : (K .stripeOf (tail K B f) ≡ x .stripe) × ((i : ℕ) → K .changesOf (tail K B f) i ≡ x .changes i) =
+          (ap (K .stripeOf) (r .0) ∙ K .stripe-tail u x (lead K B f) (r .2), λ i. ap (λ (y : X). K .changesOf y i) (r .0) ∙ K .changes-tail u x (lead K B f) i (r .2)) in
           let all : whole K B f ≡ true =
           every-all (completeB K B f (key K B f (lead K B f))) (involved B (K .stripeOf (tail K B f)) (K .changesOf (tail K B f)))
           (λ i m.
@@ -107,25 +111,23 @@ module _ {X : Type 0} (z : Size) (W : Quorum (z .n)) (C : LabelCodec X (z .n)) (
   Between (kept-write v') x = (v : Host X) × Wrote (z .n) (K .c) x (table z W K E v) (table z W K E v')
 
   -- what is known of a write that will survive, under a label
-  new-carried : (l : Label) (history : ℕ → Write X) (u : ℕ) (v' : Host X) → 0 < u → (f : Image X) → New K (belief z l) history u (table z W K E v') f → Carried l (history u) u f
+  new-carried : (l : Label) (history : ℕ → Write X) (u : ℕ) (v' : Host X) → 0 < u → u < S .base (suc (l .generation)) → (f : Image X) → New K (belief z l) history u (table z W K E v') f → Carried l (history u) u f
   unfolding belief
-  new-carried l history zero v' pos f n = absurd (omega arith)
-  new-carried l history (suc τ) v' pos f n =
+  new-carried l history zero v' pos early f n = absurd (omega arith)
+  new-carried l history (suc τ) v' pos early f n =
       record {
         some = pos;
         full = n .full;
         last = n .logs .old;
-        told = λ e i q. let r = n .logs .real e (K .c) τ i (omega arith) q in (
-          ap (K .stripeOf) (r .0) ∙ K .stripe-tail (suc τ) (history (suc τ)) e (r .2),
-          λ a. ap (λ (y : X). K .changesOf y a) (r .0) ∙ K .changes-tail (suc τ) (history (suc τ)) e a (r .2),
-        );
+        told = λ e i q. n .logs .real e (K .c) τ i (omega arith) q;
+        early = early;
       }
 
-  new-true : (l : Label) (history : ℕ → Write X) (u : ℕ) (v v' : Host X) → 0 < u → Wrote (z .n) (K .c) (history u) (table z W K E v) (table z W K E v') → (f : Image X) → New K (belief z l) history u (table z W K E v') f
+  new-true : (l : Label) (history : ℕ → Write X) (u : ℕ) (v v' : Host X) → 0 < u → u < S .base (suc (l .generation)) → Wrote (z .n) (K .c) (history u) (table z W K E v) (table z W K E v') → (f : Image X) → New K (belief z l) history u (table z W K E v') f
       → (e t : ℕ) → believed z l e t ≡ true → (((t ≡ history u .stripe) × (history u .changes e ≡ true) → ⊥) × Wanted v' f e t) ⊎ InLog l v' (history u) u f e t
   unfolding Complete belief
-  new-true l history zero v v' pos wr f n e t a = absurd (omega arith)
-  new-true l history (suc τ) v v' pos wr f n e t a = by (ℕ-discrete t (history (suc τ) .stripe)) (history (suc τ) .changes e) refl
+  new-true l history zero v v' pos early wr f n e t a = absurd (omega arith)
+  new-true l history (suc τ) v v' pos early wr f n e t a = by (ℕ-discrete t (history (suc τ) .stripe)) (history (suc τ) .changes e) refl
     where
       other : ((t ≡ history (suc τ) .stripe) × (history (suc τ) .changes e ≡ true) → ⊥) → (((t ≡ history (suc τ) .stripe) × (history (suc τ) .changes e ≡ true) → ⊥) × Wanted v' f e t) ⊎ InLog l v' (history (suc τ)) (suc τ) f e t
       other r = inl (r, λ j c. n .strips e t j a c r)
@@ -147,18 +149,18 @@ module _ {X : Type 0} (z : Size) (W : Quorum (z .n)) (C : LabelCodec X (z .n)) (
       by : Dec (t ≡ history (suc τ) .stripe) → (b : Bool) → history (suc τ) .changes e ≡ b → (((t ≡ history (suc τ) .stripe) × (history (suc τ) .changes e ≡ true) → ⊥) × Wanted v' f e t) ⊎ InLog l v' (history (suc τ)) (suc τ) f e t
       by (no q) b r = other (λ y. q (y .0))
       by (yes q) false r = other (λ y. false≢true (sym r ∙ y .1))
-      by (yes q) true r = inr (q, r, whole q r, new-carried l history (suc τ) v' pos f n)
+      by (yes q) true r = inr (q, r, whole q r, new-carried l history (suc τ) v' pos early f n)
 
   -- what is known under a label is true of what it believes
-  under-true : (g : Ghost X) (p : View X) → Pends z W C K E S R g p → (l : Label) (f : Image X) → Under z W C K E S R g p (belief z l) f → (e t : ℕ) → believed z l e t ≡ true → StripTrue l p (g .history (g .u)) (g .u) f e t
+  under-true : (g : Ghost X) (p : View X) → Pends z W C K E S R g p → (l : Label) → g .u < S .base (suc (l .generation)) → (f : Image X) → Under z W C K E S R g p (belief z l) f → (e t : ℕ) → believed z l e t ≡ true → StripTrue l p (g .history (g .u)) (g .u) f e t
   unfolding Quiet Mid belief
-  under-true g (sure v) h l f u e t a = λ j c. u .strips e t j a c
-  under-true g (open-write v v') h l f u e t a =
+  under-true g (sure v) h l early f u e t a = λ j c. u .strips e t j a c
+  under-true g (open-write v v') h l early f u e t a =
       ⊎-elim (λ (o : Old K (belief z l) (g .history) (g .u) (g .u) (table z W K E v) f). inl (λ j c. o .strips e t j a c))
       (λ (n : New K (belief z l) (g .history) (g .u) (table z W K E v') f).
       ⊎-elim (λ y. inl (λ j c. y .1 j c ∙ sym (h .wrote .same t e j (belief z l .look-n e (belief z l .believe-look e t a)) (y .0)))) inr
-      (new-true l (g .history) (g .u) v v' (h .pos) (h .wrote) f n e t a)) u
-  under-true g (kept-write v') h l f n e t a = ⊎-elim (λ y. inl (y .1)) inr (new-true l (g .history) (g .u) (h .0) v' (h .1 .pos) (h .1 .wrote) f n e t a)
+      (new-true l (g .history) (g .u) v v' (h .pos) early (h .wrote) f n e t a)) u
+  under-true g (kept-write v') h l early f n e t a = ⊎-elim (λ y. inl (y .1)) inr (new-true l (g .history) (g .u) (h .0) v' (h .1 .pos) early (h .1 .wrote) f n e t a)
 
   pending-between : (g : Ghost X) (p : View X) → Pends z W C K E S R g p → Between p (g .history (g .u))
   pending-between g (sure v) h = tt
@@ -178,9 +180,9 @@ module _ {X : Type 0} (z : Size) (W : Quorum (z .n)) (C : LabelCodec X (z .n)) (
     pub between : Between p written
     pub right : (d : ℕ) (b : Bool) → d < z .n → 0 < copy C f d b .generation → q ≤ copy C f d b .generation → (e t : ℕ) → believed z (copy C f d b) e t ≡ true → StripTrue (copy C f d b) p written stamp f e t
 
-  left-truthful : (g : Ghost X) (p : View X) → Pends z W C K E S R g p → (f : Image X) → Left z W C K E S R g p f → Truthful p f
+  left-truthful : (g : Ghost X) (p : View X) → g .u < S .base (suc (g .base .generation)) → Pends z W C K E S R g p → (f : Image X) → Left z W C K E S R g p f → Truthful p f
   unfolding Framed
-  left-truthful g p pends f h =
+  left-truthful g p early pends f h =
       record {
         q = h .Q .generation;
         out = h .Q .out;
@@ -192,13 +194,14 @@ module _ {X : Type 0} (z : Size) (W : Quorum (z .n)) (C : LabelCodec X (z .n)) (
         between = pending-between g p pends;
         right = λ d b i o q.
             let l = copy C f d b in
+            let since : g .base .generation ≤ h .Q .generation = ⊎-elim (λ r. omega (arith, ap (λ (y : Label). y .generation) r)) (λ r. omega arith) (h .since) in
             let same : Agrees (belief z l) f f = record { on-log = λ e j x. refl; on-strip = λ e t j x. refl } in
-            under-true g p pends l f
+            under-true g p pends l (omega (arith, early, S .grows (suc (g .base .generation)) (suc (l .generation)) (omega (arith, q, since)))) f
             (⊎-elim (λ n. under-framed z W C K E S R g p (belief z (h .Q)) (belief z l) n f f same (h .under-Q)) (λ n. under-framed z W C K E S R g p (belief z (h .N)) (belief z l) (n .1) f f same (h .under-N)) (h .labels .fine d b i o q .narrow));
       }
 
   pub truthful : (p : View X) (w : World X) → Off z W C K E S R p w → Always w (Truthful p)
-  truthful p w h = always-map (Left z W C K E S R (h .ghost) p) (Truthful p) w (λ f x. left-truthful (h .ghost) p (h .pends) f x) (h .left)
+  truthful p w h = always-map (Left z W C K E S R (h .ghost) p) (Truthful p) w (λ f x. left-truthful (h .ghost) p (h .early) (h .pends) f x) (h .left)
 
   -- while no write is under way: it believes only sectors that are what the list wants
   pub record Honest (v : Host X) (f : Image X) : Type 0 where
@@ -238,14 +241,14 @@ module _ {X : Type 0} (z : Size) (W : Quorum (z .n)) (C : LabelCodec X (z .n)) (
             (λ f q e t a j c. q e t j a c) (sound v w o h);
       }
 
-  own-by : (p : View X) (w : World X) (l : List (Action X)) (o : Own) (g : Ghost X) → Pends z W C K E S R g p → (P : Image X → Type 0) → During w l P
+  own-by : (p : View X) (w : World X) (l : List (Action X)) (o : Own) (g : Ghost X) → g .u < S .base (suc (g .base .generation)) → g .base ≡ o .now → Pends z W C K E S R g p → (P : Image X → Type 0) → During w l P
       → ((f : Image X) → P f → Under z W C K E S R g p (belief z (o .now)) f) → OwnTrue p w o
-  own-by p w l o g pends P d is =
+  own-by p w l o g early based pends P d is =
       record {
         written = g .history (g .u);
         stamp = g .u;
         between = pending-between g p pends;
-        right = always-map P (λ f. (e t : ℕ) → believed z (o .now) e t ≡ true → StripTrue (o .now) p (g .history (g .u)) (g .u) f e t) w (λ f q. under-true g p pends (o .now) f (is f q)) (during-start P w l d);
+        right = always-map P (λ f. (e t : ℕ) → believed z (o .now) e t ≡ true → StripTrue (o .now) p (g .history (g .u)) (g .u) f e t) w (λ f q. under-true g p pends (o .now) (subst (λ (y : Label). g .u < S .base (suc (y .generation))) based early) f (is f q)) (during-start P w l d);
       }
 
   pub own-true : (k : Kind X) (p : View X) (w : World X) (l : List (Action X)) (o o' : Own) → FromRest k → Busy z W C K E S R k p w l o o' → OwnTrue p w o
@@ -254,12 +257,12 @@ module _ {X : Type 0} (z : Size) (W : Quorum (z .n)) (C : LabelCodec X (z .n)) (
   own-true starting p w l o o' from h = absurd from
   own-true (logging x) (sure v) w l o o' from h = absurd (h .reads)
   own-true (logging x) (open-write v v') w l o o' from h =
-      own-by (open-write v v') w l o (h .ghost) (h .pends) (Old K (belief z (o .now)) (h .ghost .history) (h .ghost .u) (h .ghost .u) (table z W K E v)) (h .reads .1) (λ f q. inl q)
+      own-by (open-write v v') w l o (h .ghost) (h .early) (h .based) (h .pends) (Old K (belief z (o .now)) (h .ghost .history) (h .ghost .u) (h .ghost .u) (table z W K E v)) (h .reads .1) (λ f q. inl q)
   own-true (logging x) (kept-write v') w l o o' from h = absurd (h .reads)
   own-true (storing x) (sure v) w l o o' from h = absurd (h .reads)
   own-true (storing x) (open-write v v') w l o o' from h = absurd (h .reads)
-  own-true (storing x) (kept-write v') w l o o' from h = own-by (kept-write v') w l o (h .ghost) (h .pends) (New K (belief z (o .now)) (h .ghost .history) (h .ghost .u) (table z W K E v')) (h .reads .2) (λ f q. q)
-  own-true labelling (sure v) w l o o' from h = own-by (sure v) w l o (h .ghost) (h .pends) (Quiet K (belief z (o .now)) (h .ghost .history) (h .ghost .u) (table z W K E v)) (h .reads .1) (λ f q. q)
+  own-true (storing x) (kept-write v') w l o o' from h = own-by (kept-write v') w l o (h .ghost) (h .early) (h .based) (h .pends) (New K (belief z (o .now)) (h .ghost .history) (h .ghost .u) (table z W K E v')) (h .reads .2) (λ f q. q)
+  own-true labelling (sure v) w l o o' from h = own-by (sure v) w l o (h .ghost) (h .early) (h .based) (h .pends) (Quiet K (belief z (o .now)) (h .ghost .history) (h .ghost .u) (table z W K E v)) (h .reads .1) (λ f q. q)
   own-true labelling (open-write v v') w l o o' from h = absurd (h .reads)
   own-true labelling (kept-write v') w l o o' from h = absurd (h .reads)
 
