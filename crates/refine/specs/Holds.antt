@@ -71,7 +71,8 @@ pub record Logged (z : Shelf) (v : Host Sector) (stamp : Stamp) (img : List ℕ)
   pub back : (j : ℕ) → j < z .c → restoreOf (logAt (geometry z) img d j) (logAt (geometry z) img d (z .c)) j ≡ any-code z .shard t (v t) d j .bytes
 
 -- THE LAST WRITE, WHOLE IN THE LOG under the label a: the write of this stripe and these slots has its record, complete with this stamp, in every slot that it changes and whose strip a believes; no
--- log sector of a slot that a looks at has a later stamp; and so, what start-up decides about the log under this label is to go forward with that stripe: to write the strips of just these slots from it
+-- log sector of a slot that a looks at has a later stamp; and so, what start-up decides about the log under this label (`redoOf`) is to go
+-- forward with that stripe: to write from it the strips of just these slots, as far as they are believed
 pub record Carried (z : Shelf) (a : bytes.Label) (stripe : ℕ) (changes : ℕ → Bool) (stamp : Stamp) (img : List ℕ) : Type 0 where
   pub full : (e : ℕ) → believed (geometry z) a e stripe ≡ true → changes e ≡ true → completeWith (geometry z) img stamp e ≡ true
   pub last : (e j : ℕ) → looked (geometry z) a e ≡ true → j ≤ z .c → laterOf (stampAt (logAt (geometry z) img e j)) stamp ≡ false
@@ -79,7 +80,8 @@ pub record Carried (z : Shelf) (a : bytes.Label) (stripe : ℕ) (changes : ℕ �
   pub forward : redoOf (geometry z) img a ≡ redo.Forward stripe mask
   pub those : (e : ℕ) → e < slots z → inMask mask e ≡ (believed (geometry z) a e stripe && changes e)
 
--- it is one of the strips that the write under way changes (of its stripe, in these slots), the new one is whole in the slot's log, and under the label a that believes it the write is whole in the log and the last one
+-- it is one of the strips that the write under way changes (of its stripe, in these slots), the new one is whole in the slot's log, and under the label a that believes it the write is whole in the log and
+-- the last one there
 abbrev pub InLog : Shelf → bytes.Label → Host Sector → ℕ → (ℕ → Bool) → Stamp → List ℕ → ℕ → ℕ → Type 0
 InLog z a v stripe changes stamp img d t = (t ≡ stripe) × (changes d ≡ true) × Logged z v stamp img d t × Carried z a stripe changes stamp img
 
@@ -159,6 +161,7 @@ module _ (z : Shelf) (img : List ℕ) (disks : Disks z img) (a : bytes.Label) (s
       let key : keyOf (geometry z) img a d ≡ stamp = key-is (geometry z) img a d (λ l n. told d l here .0) ∙ ap (λ (b : Bool). cond b (stampAt (logAt (geometry z) img d (z .c))) noStamp) seen ∙ here in
       ap (λ (x : Stamp). laterOf x (keyOf (geometry z) img a top)) (sym key) ∙ leader-top (keyOf (geometry z) img a) (slots z) d below
 
+  -- so the leader has just this stamp, its tail tells the write, and each believed slot of the write is complete
   carries : Carried z a stripe changes stamp img
   unfolding keyOf redoOf settled involved tailAt zeroStamp
   carries = by (tailFound (geometry z) img a top) refl
@@ -204,6 +207,10 @@ module _ (z : Shelf) (img : List ℕ) (disks : Disks z img) (a : bytes.Label) (s
 
 -- ---- FROM THE PROTOCOL'S WORDS
 
+-- a stamp of the protocol's is not that of zeros
+number-some : (u : ℕ) → 0 < u → zeroStamp (stampOf u) ≡ false
+number-some u some = zero-number (stampOf u) ∙ ne-eqb (stampNumber (stampOf u)) 0 (λ e. omega (arith, e, stamp-number u, some))
+
 module _ (z : Shelf) (F : Family z) where
   elsewhere-of : (p : View Sector) (x : Write Sector) → Kept.Between (size z) (F .sets) (labels z) (records z) (codeIn z F) stamps (sectorsIn z F) p x → Elsewhere z p (x .stripe) (x .changes)
   unfolding table
@@ -224,9 +231,6 @@ module _ (z : Shelf) (F : Family z) where
     unfolding stampIn
     log-stamp d j u below l q =
         sym (number-stamp (stampAt (logAt (geometry z) img d j)) (log-fits d j below l)) ∙ ap stampOf (ap (λ (b : List ℕ). stampNumber (stampAt b)) (sym (log-there d j below l)) ∙ q)
-
-    number-some : (u : ℕ) → 0 < u → zeroStamp (stampOf u) ≡ false
-    number-some u some = zero-number (stampOf u) ∙ ne-eqb (stampNumber (stampOf u)) 0 (λ e. omega (arith, e, stamp-number u, some))
 
     log-complete : (d u : ℕ) → d < slots z → 0 < u → Complete (records z) (curOf z img) d u → completeWith (geometry z) img (stampOf u) d ≡ true
     unfolding Complete
