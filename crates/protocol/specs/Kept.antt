@@ -1,26 +1,27 @@
 -- WHAT FOLLOWS from the promise: the whole history of a shelf from zeros on; what every sector holds; what labels may say; which slots are touched.
 use Prim.Native.Nat.{ℕ, zero, suc, _≤_, _<_}
 use mathlib.Core.Path.{_≡_, refl, sym, ap, ap₂, subst, _∙_}
-use mathlib.Core.Bool.{Bool, true, false, not, false≢true}
+use mathlib.Core.Bool.{Bool, true, false, cond, not, false≢true}
 use mathlib.Core.Logic.{_⊎_, ⊎-elim, inl, inr}
 use mathlib.Core.List.{List, [], _∷_, _++_}
 use native.Mathlib.Omega.{arith}
 use native.Mathlib.Decide.{ℕ-discrete}
+use borrow.Author.Tests.{ne-eqb}
 use Rattle.protocol.specs.World.{Place, label, log, strip, slot, Image, World, Action, put, flush, Sane, Always, During, always-map, during-start}
 use Rattle.protocol.specs.Batch.{Each, each-append, each-batch}
-use Rattle.protocol.specs.Slots.{keep, of-rows}
-use Rattle.protocol.specs.Log.{Write, RecordCodec, Belief, Wrote, Complete, Old, New, Quiet}
-use Rattle.protocol.specs.Write.{Mid}
-use Rattle.protocol.specs.Redo.{redo}
-use Rattle.protocol.specs.Label.{Label, again, Size, believed, belief, Quorum, LabelCodec, copy, Aged, there, round, round-batch, prep, prepared, of-prep, prep-batch}
-use Rattle.protocol.specs.Startup.{L, M, late, level-to, again-to, last-to, rounds}
+use Rattle.protocol.specs.Slots.{keep, of-rows, every-all}
+use Rattle.protocol.specs.Log.{Write, RecordCodec, Belief, Wrote, Complete, Old, New, Quiet, Agrees}
+use Rattle.protocol.specs.Write.{Mid, involved, of-involved}
+use Rattle.protocol.specs.Redo.{key, lead, tail, completeB, whole, forward, kill, redo, key-top, key-seen, completeB-is}
+use Rattle.protocol.specs.Label.{Label, again, Size, looked, believed, belief, Quorum, LabelCodec, copy, Aged, there, round, round-batch, prep, prepared, of-prep, prep-batch}
+use Rattle.protocol.specs.Startup.{Framed, L, M, late, level-to, again-to, last-to, rounds}
 use Rattle.protocol.specs.Decide.{in-turn, settled, startup, Rest}
 use Rattle.protocol.specs.Spare.{Spares}
 use Rattle.protocol.specs.Host.{Host, Code, table}
 use Rattle.protocol.specs.Program.{Stamps, Medium, Verdict, clear, because, Own, Kind, creating, starting, logging, storing, labelling, Memory, nothing, idle, doing, Input, create, start, read-block, write, take-out, begin, rebuild-on, scrub-stripe, repair, step, Reply, accepted, refused, did, safe, done, block, found, scrubbed, beyond, mask, asked-start, may-start, may, may-repair, may-create, answer, one-step, meanwhile, choose, program}
 use Rattle.protocol.specs.Machine.{Machine, at, Event, Runs, View, sure, open-write, kept-write, Views}
 use Rattle.protocol.specs.Invariant.{Ghost, Under, Left, Pends, Off, Busy, Invariant}
-use Rattle.protocol.specs.Promise.{Zeros, zeros-off, promise}
+use Rattle.protocol.specs.Promise.{Zeros, zeros-off, under-framed, promise}
 
 -- the slot that an action touches
 abbrev pub slot-of : {X : Type 0} → Action X → ℕ
@@ -49,23 +50,59 @@ module _ {X : Type 0} (z : Size) (W : Quorum (z .n)) (C : LabelCodec X (z .n)) (
   abbrev pub Wanted : Host X → Image X → ℕ → ℕ → Type 0
   Wanted v f d t = (j : ℕ) → j < K .c → f (strip d t j) ≡ table z W K E v t d j
 
-  -- slot d's log holds strip t of the list v, whole: all its sectors have one stamp, its tail tells the stripe t, and each sector of the strip comes back from it
-  pub record Logged (v : Host X) (f : Image X) (d t : ℕ) : Type 0 where
-    pub stamp : ℕ
-    pub some : 0 < stamp
-    pub complete : Complete K f d stamp
+  -- slot d's log holds strip t of the list v, whole: all its sectors have the stamp u, its tail tells the stripe t, and each sector of the strip comes back from it
+  pub record Logged (v : Host X) (u : ℕ) (f : Image X) (d t : ℕ) : Type 0 where
+    pub complete : Complete K f d u
     pub stripe : K .stripeOf (f (log d (K .c))) ≡ t
     pub back : (j : ℕ) → j < K .c → K .piece (f (log d (K .c))) (f (log d j)) j ≡ table z W K E v t d j
 
-  -- it is one of the strips that the write x changes, and the new one is in the slot's log
-  abbrev pub InLog : Host X → Write X → Image X → ℕ → ℕ → Type 0
-  InLog v' x f d t = (t ≡ x .stripe) × (x .changes d ≡ true) × Logged v' f d t
+  -- under the label l the write x, with the stamp u, is WHOLE IN THE LOG AND THE LAST ONE THERE: every slot whose strip l believes and x changes has its record complete with u; no log sector of a
+  -- slot that l looks at has a greater stamp; each tail with the stamp u is the one of x, which tells its stripe and its slots; and u is no stamp of an epoch after l. So a start-up under l carries x
+  -- forward (`carried-forward`).
+  pub record Carried (l : Label) (x : Write X) (u : ℕ) (f : Image X) : Type 0 where
+    pub some : 0 < u
+    pub full : (e : ℕ) → believed z l e (x .stripe) ≡ true → x .changes e ≡ true → Complete K f e u
+    pub last : (e j : ℕ) → looked z l e ≡ true → j ≤ K .c → K .stamp (f (log e j)) ≤ u
+    pub told : (e : ℕ) → looked z l e ≡ true → K .stamp (f (log e (K .c))) ≡ u → (f (log e (K .c)) ≡ K .sector u x e (K .c)) × (x .changes e ≡ true) × K .Fits u x
+    pub early : u < S .base (suc (l .generation))
 
-  -- with the view p, and x the write under way: what the list wants (the old one until the write is safe, then the new one); but a strip that the write changes may hold anything once the slot's log holds the new one whole
-  abbrev pub StripTrue : View X → Write X → Image X → ℕ → ℕ → Type 0
-  StripTrue (sure v) x f d t = Wanted v f d t
-  StripTrue (open-write v v') x f d t = Wanted v f d t ⊎ InLog v' x f d t
-  StripTrue (kept-write v') x f d t = Wanted v' f d t ⊎ InLog v' x f d t
+  -- then what start-up does with the log under l is to write strips from it: of that stripe, in those slots
+  pub carried-forward : (l : Label) (x : Write X) (u : ℕ) (f : Image X) → Carried l x u f → (d : ℕ) → believed z l d (x .stripe) ≡ true → x .changes d ≡ true
+      → (redo K (belief z l) f ≡ forward K (belief z l) f) × (K .stripeOf (tail K (belief z l) f) ≡ x .stripe) × ((a : ℕ) → K .changesOf (tail K (belief z l) f) a ≡ x .changes a)
+  unfolding belief Complete redo whole
+  carried-forward l x u f h d a c = by (key K B f (lead K B f)) refl
+    where
+      B : Belief
+      B = belief z l
+
+      least : u ≤ key K B f (lead K B f)
+      least = omega (arith, h .full d a c (K .c) (omega arith), key-top K B (λ y. x) f d (B .believe-look d (x .stripe) a))
+
+      by : (κ : ℕ) → key K B f (lead K B f) ≡ κ → (redo K B f ≡ forward K B f) × (K .stripeOf (tail K B f) ≡ x .stripe) × ((a : ℕ) → K .changesOf (tail K B f) a ≡ x .changes a)
+      by zero e = absurd (omega (arith, h .some, least, e))
+      by (suc κ) e =
+          let y = key-seen K B (λ y. x) f (lead K B f) κ e in
+          let top : suc κ ≡ u = omega (arith, least, e, y .1, h .last (lead K B f) (K .c) (y .0) (omega arith)) in
+          let r = h .told (lead K B f) (y .0) (y .1 ∙ top) in
+          let t : (K .stripeOf (tail K B f) ≡ x .stripe) × ((i : ℕ) → K .changesOf (tail K B f) i ≡ x .changes i) =
+          (ap (K .stripeOf) (r .0) ∙ K .stripe-tail u x (lead K B f) (r .2), λ i. ap (λ (y : X). K .changesOf y i) (r .0) ∙ K .changes-tail u x (lead K B f) i (r .2)) in
+          let all : whole K B f ≡ true =
+          every-all (completeB K B f (key K B f (lead K B f))) (involved B (K .stripeOf (tail K B f)) (K .changesOf (tail K B f)))
+          (λ i m.
+          let n = of-involved B (K .stripeOf (tail K B f)) (K .changesOf (tail K B f)) i m in
+          completeB-is K B (λ y. x) f (key K B f (lead K B f)) i (subst (Complete K f i) (sym (e ∙ top)) (h .full i (subst (λ (s : ℕ). believed z l i s ≡ true) (t .0) (n .0)) (sym (t .1 i) ∙ n .1)))) in
+          (ap₂ (λ (n b : Bool). cond n [] (cond b (forward K B f) (kill K B f))) (ne-eqb (key K B f (lead K B f)) 0 (λ q. omega (arith, q, e))) all, t .0, t .1)
+
+  -- it is one of the strips that the write x changes, the new one is in the slot's log, and under the label l that believes the strip x is whole there and the last one
+  abbrev pub InLog : Label → Host X → Write X → ℕ → Image X → ℕ → ℕ → Type 0
+  InLog l v' x u f d t = (t ≡ x .stripe) × (x .changes d ≡ true) × Logged v' u f d t × Carried l x u f
+
+  -- with the view p, x the write under way and u its stamp: what the list wants (the old one until the write is safe, then the new one); but a strip that the write changes may hold anything
+  -- once the write is whole in the log, with the last stamp there, as far as the label l believes it: then a start-up under l writes the new strip from it
+  abbrev pub StripTrue : Label → View X → Write X → ℕ → Image X → ℕ → ℕ → Type 0
+  StripTrue l (sure v) x u f d t = Wanted v f d t
+  StripTrue l (open-write v v') x u f d t = Wanted v f d t ⊎ InLog l v' x u f d t
+  StripTrue l (kept-write v') x u f d t = Wanted v' f d t ⊎ InLog l v' x u f d t
 
   -- x is the write under way: it turns the one list into the other, and no strip but those that it changes is another by the new list
   abbrev pub Between : View X → Write X → Type 0
@@ -73,24 +110,35 @@ module _ {X : Type 0} (z : Size) (W : Quorum (z .n)) (C : LabelCodec X (z .n)) (
   Between (open-write v v') x = Wrote (z .n) (K .c) x (table z W K E v) (table z W K E v')
   Between (kept-write v') x = (v : Host X) × Wrote (z .n) (K .c) x (table z W K E v) (table z W K E v')
 
-  new-true : (B : Belief) (history : ℕ → Write X) (u : ℕ) (v v' : Host X) → 0 < u → Wrote (z .n) (K .c) (history u) (table z W K E v) (table z W K E v') → (f : Image X) → New K B history u (table z W K E v') f
-      → (e t : ℕ) → B .believe e t ≡ true → (((t ≡ history u .stripe) × (history u .changes e ≡ true) → ⊥) × Wanted v' f e t) ⊎ InLog v' (history u) f e t
-  unfolding Complete
-  new-true B history zero v v' pos wr f n e t a = absurd (omega arith)
-  new-true B history (suc τ) v v' pos wr f n e t a = by (ℕ-discrete t (history (suc τ) .stripe)) (history (suc τ) .changes e) refl
+  -- what is known of a write that will survive, under a label
+  new-carried : (l : Label) (history : ℕ → Write X) (u : ℕ) (v' : Host X) → 0 < u → u < S .base (suc (l .generation)) → (f : Image X) → New K (belief z l) history u (table z W K E v') f → Carried l (history u) u f
+  unfolding belief
+  new-carried l history zero v' pos early f n = absurd (omega arith)
+  new-carried l history (suc τ) v' pos early f n =
+      record {
+        some = pos;
+        full = n .full;
+        last = n .logs .old;
+        told = λ e i q. n .logs .real e (K .c) τ i (omega arith) q;
+        early = early;
+      }
+
+  new-true : (l : Label) (history : ℕ → Write X) (u : ℕ) (v v' : Host X) → 0 < u → u < S .base (suc (l .generation)) → Wrote (z .n) (K .c) (history u) (table z W K E v) (table z W K E v') → (f : Image X) → New K (belief z l) history u (table z W K E v') f
+      → (e t : ℕ) → believed z l e t ≡ true → (((t ≡ history u .stripe) × (history u .changes e ≡ true) → ⊥) × Wanted v' f e t) ⊎ InLog l v' (history u) u f e t
+  unfolding Complete belief
+  new-true l history zero v v' pos early wr f n e t a = absurd (omega arith)
+  new-true l history (suc τ) v v' pos early wr f n e t a = by (ℕ-discrete t (history (suc τ) .stripe)) (history (suc τ) .changes e) refl
     where
-      other : ((t ≡ history (suc τ) .stripe) × (history (suc τ) .changes e ≡ true) → ⊥) → (((t ≡ history (suc τ) .stripe) × (history (suc τ) .changes e ≡ true) → ⊥) × Wanted v' f e t) ⊎ InLog v' (history (suc τ)) f e t
+      other : ((t ≡ history (suc τ) .stripe) × (history (suc τ) .changes e ≡ true) → ⊥) → (((t ≡ history (suc τ) .stripe) × (history (suc τ) .changes e ≡ true) → ⊥) × Wanted v' f e t) ⊎ InLog l v' (history (suc τ)) (suc τ) f e t
       other r = inl (r, λ j c. n .strips e t j a c r)
 
-      whole : t ≡ history (suc τ) .stripe → history (suc τ) .changes e ≡ true → Logged v' f e t
+      whole : t ≡ history (suc τ) .stripe → history (suc τ) .changes e ≡ true → Logged v' (suc τ) f e t
       whole q r =
-          let full : (j : ℕ) → j ≤ K .c → K .stamp (f (log e j)) ≡ suc τ = n .full e (subst (λ (x : ℕ). B .believe e x ≡ true) q a) r in
+          let full : (j : ℕ) → j ≤ K .c → K .stamp (f (log e j)) ≡ suc τ = n .full e (subst (λ (x : ℕ). believed z l e x ≡ true) q a) r in
           let real : (j : ℕ) → j ≤ K .c → (f (log e j) ≡ K .sector (suc τ) (history (suc τ)) e j) × (history (suc τ) .changes e ≡ true) × K .Fits (suc τ) (history (suc τ)) =
-          λ j l. n .logs .real e j τ (B .believe-look e t a) l (full j l) in
+          λ j i. n .logs .real e j τ (belief z l .believe-look e t a) i (full j i) in
           let tail = real (K .c) (omega arith) in
           record {
-            stamp = suc τ;
-            some = pos;
             complete = full;
             stripe = ap (K .stripeOf) (tail .0) ∙ K .stripe-tail (suc τ) (history (suc τ)) e (tail .2) ∙ sym q;
             back = λ j c.
@@ -98,21 +146,21 @@ module _ {X : Type 0} (z : Size) (W : Quorum (z .n)) (C : LabelCodec X (z .n)) (
                 ∙ ap (λ (x : ℕ). table z W K E v' x e j) (sym q);
           }
 
-      by : Dec (t ≡ history (suc τ) .stripe) → (b : Bool) → history (suc τ) .changes e ≡ b → (((t ≡ history (suc τ) .stripe) × (history (suc τ) .changes e ≡ true) → ⊥) × Wanted v' f e t) ⊎ InLog v' (history (suc τ)) f e t
+      by : Dec (t ≡ history (suc τ) .stripe) → (b : Bool) → history (suc τ) .changes e ≡ b → (((t ≡ history (suc τ) .stripe) × (history (suc τ) .changes e ≡ true) → ⊥) × Wanted v' f e t) ⊎ InLog l v' (history (suc τ)) (suc τ) f e t
       by (no q) b r = other (λ y. q (y .0))
       by (yes q) false r = other (λ y. false≢true (sym r ∙ y .1))
-      by (yes q) true r = inr (q, r, whole q r)
+      by (yes q) true r = inr (q, r, whole q r, new-carried l history (suc τ) v' pos early f n)
 
   -- what is known under a label is true of what it believes
-  under-true : (g : Ghost X) (p : View X) → Pends z W C K E S R g p → (l : Label) (f : Image X) → Under z W C K E S R g p (belief z l) f → (e t : ℕ) → believed z l e t ≡ true → StripTrue p (g .history (g .u)) f e t
+  under-true : (g : Ghost X) (p : View X) → Pends z W C K E S R g p → (l : Label) → g .u < S .base (suc (l .generation)) → (f : Image X) → Under z W C K E S R g p (belief z l) f → (e t : ℕ) → believed z l e t ≡ true → StripTrue l p (g .history (g .u)) (g .u) f e t
   unfolding Quiet Mid belief
-  under-true g (sure v) h l f u e t a = λ j c. u .strips e t j a c
-  under-true g (open-write v v') h l f u e t a =
+  under-true g (sure v) h l early f u e t a = λ j c. u .strips e t j a c
+  under-true g (open-write v v') h l early f u e t a =
       ⊎-elim (λ (o : Old K (belief z l) (g .history) (g .u) (g .u) (table z W K E v) f). inl (λ j c. o .strips e t j a c))
       (λ (n : New K (belief z l) (g .history) (g .u) (table z W K E v') f).
       ⊎-elim (λ y. inl (λ j c. y .1 j c ∙ sym (h .wrote .same t e j (belief z l .look-n e (belief z l .believe-look e t a)) (y .0)))) inr
-      (new-true (belief z l) (g .history) (g .u) v v' (h .pos) (h .wrote) f n e t a)) u
-  under-true g (kept-write v') h l f n e t a = ⊎-elim (λ y. inl (y .1)) inr (new-true (belief z l) (g .history) (g .u) (h .0) v' (h .1 .pos) (h .1 .wrote) f n e t a)
+      (new-true l (g .history) (g .u) v v' (h .pos) early (h .wrote) f n e t a)) u
+  under-true g (kept-write v') h l early f n e t a = ⊎-elim (λ y. inl (y .1)) inr (new-true l (g .history) (g .u) (h .0) v' (h .1 .pos) early (h .1 .wrote) f n e t a)
 
   pending-between : (g : Ghost X) (p : View X) → Pends z W C K E S R g p → Between p (g .history (g .u))
   pending-between g (sure v) h = tt
@@ -120,7 +168,7 @@ module _ {X : Type 0} (z : Size) (W : Quorum (z .n)) (C : LabelCodec X (z .n)) (
   pending-between g (kept-write v') h = (h .0, h .1 .wrote)
 
   -- NO LABEL LIES, at any moment. Of whatever a cut leaves there is a settled generation q, which every disk has that is not called out by it; and of each label of generation q
-  -- or newer, on any disk, present or not, few slots are called out, and each strip that it believes (of healthy slots, and below the mark) is true, with one write under way at most.
+  -- or newer, on any disk, present or not, few slots are called out, and each strip that it believes (of healthy slots, and below the mark) is true, with one write under way at most, and one stamp.
   pub record Truthful (p : View X) (f : Image X) : Type 0 where
     pub q : ℕ
     pub out : ℕ → Bool
@@ -128,12 +176,13 @@ module _ {X : Type 0} (z : Size) (W : Quorum (z .n)) (C : LabelCodec X (z .n)) (
     pub everyone : (d : ℕ) → d < z .n → out d ≡ false → Aged C f d q
     pub few : (d : ℕ) (b : Bool) → d < z .n → 0 < copy C f d b .generation → q ≤ copy C f d b .generation → W .few (copy C f d b .out) ≡ true
     pub written : Write X
+    pub stamp : ℕ
     pub between : Between p written
-    pub right : (d : ℕ) (b : Bool) → d < z .n → 0 < copy C f d b .generation → q ≤ copy C f d b .generation → (e t : ℕ) → believed z (copy C f d b) e t ≡ true → StripTrue p written f e t
+    pub right : (d : ℕ) (b : Bool) → d < z .n → 0 < copy C f d b .generation → q ≤ copy C f d b .generation → (e t : ℕ) → believed z (copy C f d b) e t ≡ true → StripTrue (copy C f d b) p written stamp f e t
 
-  left-truthful : (g : Ghost X) (p : View X) → Pends z W C K E S R g p → (f : Image X) → Left z W C K E S R g p f → Truthful p f
-  unfolding belief
-  left-truthful g p pends f h =
+  left-truthful : (g : Ghost X) (p : View X) → g .u < S .base (suc (g .base .generation)) → Pends z W C K E S R g p → (f : Image X) → Left z W C K E S R g p f → Truthful p f
+  unfolding Framed
+  left-truthful g p early pends f h =
       record {
         q = h .Q .generation;
         out = h .Q .out;
@@ -141,14 +190,18 @@ module _ {X : Type 0} (z : Size) (W : Quorum (z .n)) (C : LabelCodec X (z .n)) (
         everyone = h .labels .low;
         few = λ d b i p q. h .labels .fine d b i p q .few-out;
         written = g .history (g .u);
+        stamp = g .u;
         between = pending-between g p pends;
-        right = λ d b i o q e t a.
-            let l = belief z (copy C f d b) .believe-look e t a in
-            ⊎-elim (λ n. under-true g p pends (h .Q) f (h .under-Q) e t (sym (n .believe-in e t l) ∙ a)) (λ n. under-true g p pends (h .N) f (h .under-N) e t (sym (n .1 .believe-in e t l) ∙ a)) (h .labels .fine d b i o q .narrow);
+        right = λ d b i o q.
+            let l = copy C f d b in
+            let since : g .base .generation ≤ h .Q .generation = ⊎-elim (λ r. omega (arith, ap (λ (y : Label). y .generation) r)) (λ r. omega arith) (h .since) in
+            let same : Agrees (belief z l) f f = record { on-log = λ e j x. refl; on-strip = λ e t j x. refl } in
+            under-true g p pends l (omega (arith, early, S .grows (suc (g .base .generation)) (suc (l .generation)) (omega (arith, q, since)))) f
+            (⊎-elim (λ n. under-framed z W C K E S R g p (belief z (h .Q)) (belief z l) n f f same (h .under-Q)) (λ n. under-framed z W C K E S R g p (belief z (h .N)) (belief z l) (n .1) f f same (h .under-N)) (h .labels .fine d b i o q .narrow));
       }
 
   pub truthful : (p : View X) (w : World X) → Off z W C K E S R p w → Always w (Truthful p)
-  truthful p w h = always-map (Left z W C K E S R (h .ghost) p) (Truthful p) w (λ f x. left-truthful (h .ghost) p (h .pends) f x) (h .left)
+  truthful p w h = always-map (Left z W C K E S R (h .ghost) p) (Truthful p) w (λ f x. left-truthful (h .ghost) p (h .early) (h .pends) f x) (h .left)
 
   -- while no write is under way: it believes only sectors that are what the list wants
   pub record Honest (v : Host X) (f : Image X) : Type 0 where
@@ -174,25 +227,28 @@ module _ {X : Type 0} (z : Size) (W : Quorum (z .n)) (C : LabelCodec X (z .n)) (
 
   pub record OwnTrue (p : View X) (w : World X) (o : Own) : Type 0 where
     pub written : Write X
+    pub stamp : ℕ
     pub between : Between p written
-    pub right : Always w (λ f. (e t : ℕ) → believed z (o .now) e t ≡ true → StripTrue p written f e t)
+    pub right : Always w (λ f. (e t : ℕ) → believed z (o .now) e t ≡ true → StripTrue (o .now) p written stamp f e t)
 
   pub own-rests : (v : Host X) (w : World X) (o : Own) → Invariant z W C K E S R (at w (idle o)) (sure v) → OwnTrue (sure v) w o
   own-rests v w o h =
       record {
         written = h .1 .history 0;
+        stamp = 0;
         between = tt;
         right = always-map (λ f. (d t j : ℕ) → believed z (o .now) d t ≡ true → j < K .c → f (strip d t j) ≡ table z W K E v t d j) (λ f. (e t : ℕ) → believed z (o .now) e t ≡ true → Wanted v f e t) w
             (λ f q e t a j c. q e t j a c) (sound v w o h);
       }
 
-  own-by : (p : View X) (w : World X) (l : List (Action X)) (o : Own) (g : Ghost X) → Pends z W C K E S R g p → (P : Image X → Type 0) → During w l P
+  own-by : (p : View X) (w : World X) (l : List (Action X)) (o : Own) (g : Ghost X) → g .u < S .base (suc (g .base .generation)) → g .base ≡ o .now → Pends z W C K E S R g p → (P : Image X → Type 0) → During w l P
       → ((f : Image X) → P f → Under z W C K E S R g p (belief z (o .now)) f) → OwnTrue p w o
-  own-by p w l o g pends P d is =
+  own-by p w l o g early based pends P d is =
       record {
         written = g .history (g .u);
+        stamp = g .u;
         between = pending-between g p pends;
-        right = always-map P (λ f. (e t : ℕ) → believed z (o .now) e t ≡ true → StripTrue p (g .history (g .u)) f e t) w (λ f q. under-true g p pends (o .now) f (is f q)) (during-start P w l d);
+        right = always-map P (λ f. (e t : ℕ) → believed z (o .now) e t ≡ true → StripTrue (o .now) p (g .history (g .u)) (g .u) f e t) w (λ f q. under-true g p pends (o .now) (subst (λ (y : Label). g .u < S .base (suc (y .generation))) based early) f (is f q)) (during-start P w l d);
       }
 
   pub own-true : (k : Kind X) (p : View X) (w : World X) (l : List (Action X)) (o o' : Own) → FromRest k → Busy z W C K E S R k p w l o o' → OwnTrue p w o
@@ -201,12 +257,12 @@ module _ {X : Type 0} (z : Size) (W : Quorum (z .n)) (C : LabelCodec X (z .n)) (
   own-true starting p w l o o' from h = absurd from
   own-true (logging x) (sure v) w l o o' from h = absurd (h .reads)
   own-true (logging x) (open-write v v') w l o o' from h =
-      own-by (open-write v v') w l o (h .ghost) (h .pends) (Old K (belief z (o .now)) (h .ghost .history) (h .ghost .u) (h .ghost .u) (table z W K E v)) (h .reads .1) (λ f q. inl q)
+      own-by (open-write v v') w l o (h .ghost) (h .early) (h .based) (h .pends) (Old K (belief z (o .now)) (h .ghost .history) (h .ghost .u) (h .ghost .u) (table z W K E v)) (h .reads .1) (λ f q. inl q)
   own-true (logging x) (kept-write v') w l o o' from h = absurd (h .reads)
   own-true (storing x) (sure v) w l o o' from h = absurd (h .reads)
   own-true (storing x) (open-write v v') w l o o' from h = absurd (h .reads)
-  own-true (storing x) (kept-write v') w l o o' from h = own-by (kept-write v') w l o (h .ghost) (h .pends) (New K (belief z (o .now)) (h .ghost .history) (h .ghost .u) (table z W K E v')) (h .reads .2) (λ f q. q)
-  own-true labelling (sure v) w l o o' from h = own-by (sure v) w l o (h .ghost) (h .pends) (Quiet K (belief z (o .now)) (h .ghost .history) (h .ghost .u) (table z W K E v)) (h .reads .1) (λ f q. q)
+  own-true (storing x) (kept-write v') w l o o' from h = own-by (kept-write v') w l o (h .ghost) (h .early) (h .based) (h .pends) (New K (belief z (o .now)) (h .ghost .history) (h .ghost .u) (table z W K E v')) (h .reads .2) (λ f q. q)
+  own-true labelling (sure v) w l o o' from h = own-by (sure v) w l o (h .ghost) (h .early) (h .based) (h .pends) (Quiet K (belief z (o .now)) (h .ghost .history) (h .ghost .u) (table z W K E v)) (h .reads .1) (λ f q. q)
   own-true labelling (open-write v v') w l o o' from h = absurd (h .reads)
   own-true labelling (kept-write v') w l o o' from h = absurd (h .reads)
 

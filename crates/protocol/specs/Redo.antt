@@ -91,7 +91,7 @@ module _ {X : Type 0} (K : RecordCodec X) (B : Belief) (history : ℕ → Write 
   unfolding completeB Complete
   completeB-of τ d h j g = eqb-true _ _ (every-of (λ i. eqb (K .stamp (f0 (log d i))) τ) (compared-sectors K) h j (compared-in K j (omega arith)))
 
-  completeB-is : (τ d : ℕ) → Complete K f0 d τ → completeB K B f0 τ d ≡ true
+  pub completeB-is : (τ d : ℕ) → Complete K f0 d τ → completeB K B f0 τ d ≡ true
   unfolding completeB Complete
   completeB-is τ d h = every-all (λ i. eqb (K .stamp (f0 (log d i))) τ) (compared-sectors K) (λ j m. eq-eqb _ _ (h j (compared-of K j m)))
 

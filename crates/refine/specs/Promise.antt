@@ -122,10 +122,10 @@ module _ (z : Shelf) (first : List ℕ) (disks : Disks z first) (blank : allZero
     honest-labels = bound-honest z (tie .0) (fresh z first disks blank) (tie .1) w img h (tie .3)
 
     -- so no slot is called healthy before each of its strips is: whatever a cut leaves, of a slot that such a label does not call out each strip is what the list asks for, or it is one that the write
-    -- under way changes, and the slot's log holds the new one whole
+    -- under way changes, and the log holds the write whole, as the last one, as far as that label believes it (`Carried`): start-up under it writes the new strip
     pub healthy-labels : (left : List ℕ) (here : Disks z left) (possible : Possible w (curOf z left)) (d s : ℕ) (a : bytes.Label) → d < slots z → s < 2 → copyOf (geometry z) left d s ≡ Valid a
         → honest-labels left here possible .settled ≤ a .generation → (e t : ℕ) → e < slots z → t < stripesOf (geometry z) → inMask (a .out) e ≡ false
-        → StripTrue z view (honest-labels left here possible .stripe) (honest-labels left here possible .changes) left e t
+        → StripTrue z a view (honest-labels left here possible .stripe) (honest-labels left here possible .changes) (honest-labels left here possible .stamp) left e t
     healthy-labels left here possible d s a i l c g e t j u o = honest-labels left here possible .right d s a i l c g e t (healthy-believed z a e t j u o)
 
     -- NO DISK NAMES ANOTHER SHELF
