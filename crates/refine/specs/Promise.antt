@@ -75,7 +75,7 @@ module _ (z : Shelf) (first : List ℕ) (disks : Disks z first) (blank : allZero
       pairs-since z first disks blank c (λ s t i j. quorum z more .meet s t (chain-passed z (fresh z first disks blank) c n s i) (chain-passed z (fresh z first disks blank) c n t j))
 
   -- the tie holds at every moment before
-  along : {b : Time} (c : ComesTo b) → AnyTwoSince c → Along z (fresh z first disks blank) c
+  pub along : {b : Time} (c : ComesTo b) → AnyTwoSince c → Along z (fresh z first disks blank) c
   along stays two = let y = bound-since z first disks blank stays two in (y .0, y .1, y .3)
   along (goes-on c x) two = (along c (two .0), let y = bound-since z first disks blank (goes-on c x) two in (y .0, y .1, y .3))
 
