@@ -1,6 +1,6 @@
 -- EVERY BLOCK CAN BE READ. Along every chain of calls from an image of zeros on, whatever was cut, taken out or exchanged on it, a read at rest of any block of the shelf, with a block's buffer and the chain's
--- work area, is answered Done: at most m slots are out or absent, and the state's label is in range. With Serves: at rest every block reads as its entry of the host's list. What is asked is what Promise asks.
--- Assumes nothing.
+-- work area, is answered Done: at most m slots are out or absent, and the state's label is in range. With Serves: at rest every block reads as its entry of the host's list. And a write of
+-- any block is accepted where each present disk holds the state's label. What is asked is what Promise asks. Assumes nothing.
 use mathlib.Core.Path.{_≡_, refl, sym, ap, ap₂, subst, _∙_}
 use mathlib.Core.Logic.{⊎-elim, inl, inr}
 use mathlib.Core.Bool.{Bool, true, false, cond, not, _&&_, _||_, false≢true}
@@ -17,11 +17,12 @@ use Rattle.disk.specs.Tests.{both, and-right}
 use Rattle.disk.specs.Geometry.{blocksOf}
 use Rattle.disk.specs.Image.{fitsImage}
 use Rattle.disk.specs.declared.geometry.Geometry.{Geometry}
-use Rattle.disk.specs.declared.refusal.Refusal.the-variants.{BadImage, TooFew, BadBlock, Busy, NotNow, BadBuffer}
+use Rattle.disk.specs.declared.refusal.Refusal.the-variants.{BadImage, NoLabel, TooFew, BadBlock, Busy, NotNow, BadBuffer}
 use Rattle.disk.specs.declared.refusal.Outcome.{Outcome}
 use Rattle.disk.specs.declared.refusal.Outcome.the-variants.{Done, Refused}
 use Rattle.label.specs.Bytes.{allZero}
 use Rattle.label.specs.Fields.{geometryOf, fitsOf, noSlot}
+use Rattle.label.specs.Newest.{allOf}
 use Rattle.label.proofs.Fits.{fits-says}
 use Rattle.label.proofs.Counts.{same-says}
 use Rattle.label.specs.declared.fields.Label as bytes
@@ -50,14 +51,14 @@ use Rattle.requests.specs.Create.{createAnswer, created}
 use Rattle.requests.specs.Start.{started, bySurvey, startOf}
 use Rattle.requests.specs.Step.{otherWork, stepWith, sound-fits, step-short, step-goes}
 use Rattle.requests.specs.TakeOut.{plainlyOut, nextLabel, outed, takeAnswer, tookOut}
-use Rattle.requests.specs.Ready.{isNothing, isIdle, hasShelf}
+use Rattle.requests.specs.Ready.{isNothing, isIdle, hasShelf, holding, readyOf}
 use Rattle.requests.specs.declared.begun.Begun.{Begun}
 use Rattle.rebuilds.specs.Begin.{beginAnswer, began}
 use Rattle.rebuilds.specs.On.{firstStage, atLeastOne, lastBatch, onLabel, onAnswer, wentOn}
 use Rattle.blocks.specs.Slots.{missingAt, missing, tooFew}
 use Rattle.blocks.specs.Answers.{serves, lookAnswer, answered, sizes, blockAnswer}
 use Rattle.blocks.specs.Read.{readAnswer, afterRead}
-use Rattle.blocks.specs.Write.{writeAnswer, AfterWrite}
+use Rattle.blocks.specs.Write.{mostCount, stampLeft, writeAnswer, AfterWrite}
 use Rattle.refine.specs.Family.{Family}
 use Rattle.refine.specs.Disks.{Disks, image-fits}
 use Rattle.refine.specs.Given.{shelf-geometry}
@@ -246,6 +247,21 @@ module _ (z : Shelf) (l : bytes.Label) (own : ours z l ≡ true) (fit : fitsOf l
         let look : lookAnswer l kind (length img) ≡ Done = λ i. cond (not (isNothing (e i)) && fit i) (cond (fits i) Done (Refused BadImage)) (Refused NotNow) in
         ap₂ first look (block-goes true (serves kind) refl (ap serves e))
 
+    -- and is written at rest, where the present disks hold the label
+    write-goes : (kind : Kind) → kind ≡ Idle → (count : ℕ) → count < mostCount → (img : List ℕ) → Disks z img
+        → writeAnswer l kind absent count img b (length buf) (length work) ≡ cond (allOf (holding (geometry z) img absent l) (slots z)) Done (Refused NoLabel)
+    unfolding readyOf hasShelf stampLeft
+    write-goes kind e count small img disks =
+        let fits : fitsImage (geometryOf l) (length img) ≡ true = ap (λ (g : Geometry). fitsImage g (length img)) (shelf-geometry z l own) ∙ image-fits z img disks in
+        let ready : readyOf l kind absent img ≡ cond (allOf (holding (geometry z) img absent l) (slots z)) Done (Refused NoLabel) = λ i.
+        cond (not (isNothing (e i)) && fit i)
+        (cond (fits i) (cond (isIdle (e i)) (cond (allOf (holding (shelf-geometry z l own i) img absent l) (n-is i)) Done (Refused NoLabel)) Done) (Refused BadImage)) (Refused NotNow) in
+        ap₂ first ready (block-goes (isIdle kind) (stampLeft count) (ap isIdle e) (lt-ltb count mostCount small)) ∙ by (allOf (holding (geometry z) img absent l) (slots z))
+      where
+        by : (x : Bool) → first (cond x Done (Refused NoLabel)) Done ≡ cond x Done (Refused NoLabel)
+        by true = refl
+        by false = refl
+
 -- the views at the end of a chain
 served-now : {z : Shelf} {a b : Time} (c : HostChain z a b) (p q : View Sector) → Served c p q → ReadsAs z b q
 served-now stays p q s = s .1
@@ -289,3 +305,11 @@ module _ (z : Shelf) (first : List ℕ) (disks : Disks z first) (blank : allZero
             r .1,
             ap (λ (o : Outcome). afterRead o s b img work buf) reads-answered ∙ shown ∙ ap (λ (p : View Sector). stripBytes (list-of p (b / z .k) (b % z .k)) (z .c)) (r .1),
           )
+
+      -- A WRITE OF EVERY BLOCK IS ACCEPTED at rest, as long as a stamp is left, if every present disk holds the state's label with its own slot; if one does not, it is refused for that
+      pub writes-answered : s .count < mostCount
+          → writeAnswer (s .now) (s .kind) (s .absent) (s .count) img b (length buf) (length work) ≡ cond (allOf (holding (geometry z) img (s .absent) (s .now)) (slots z)) Done (Refused NoLabel)
+      writes-answered small =
+          let y = bound-since z first disks blank chain two in
+          write-goes z (s .now) (rest-ours (y .0) (y .1) (y .3)) (labels-in-range .0) (s .absent) rests-enough b buf work inner whole (room-kept z first disks blank chain two) (s .kind) rests (s .count) small img
+          (loose z (y .0) (fresh z first disks blank) (y .1) w img (has s work) (y .3) .disks)
