@@ -1,45 +1,60 @@
 -- WHAT CHAINS WITH EXCHANGED DISKS KEEP beside the host's view: no disk names another shelf, and every label has its shape, whatever a cut leaves; a step can be followed; a start-up under way is carried
--- out by its steps; and which start-ups are refused. Assumes nothing.
+-- out by its steps; which start-ups are refused; and at rest every strip that the state's label believes is what the host's list asks for, so a rebuild that answers Done has healed its slot. Assumes nothing.
 use mathlib.Core.Path.{_≡_, refl, sym, ap, subst, _∙_}
 use mathlib.Core.Logic.{⊎-elim, inl, inr}
-use mathlib.Core.Bool.{Bool, true, false, true≢false}
+use mathlib.Core.Bool.{Bool, true, false, true≢false, false≢true}
 use mathlib.Core.List.{List, []}
-use Prim.Native.Nat.{ℕ, _<_}
+use Prim.Native.Nat.{ℕ, _+_, _<_}
 use native.Mathlib.Omega.{arith}
+use lib.Dec.{ltb}
 use lib.ListN.{length}
+use borrow.Author.Tests.{ltb-true}
 use Rattle.disk.specs.Mask.{inMask}
+use Rattle.disk.specs.Tests.{and-left, and-right}
+use Rattle.disk.specs.Geometry.{stripesOf, stripOf, strip-inside}
 use Rattle.disk.specs.declared.refusal.Refusal.the-variants.{NoLabel}
+use Rattle.label.specs.Fields.{noSlot}
+use Rattle.label.specs.Bytes.{allZero}
 use Rattle.label.specs.Newest.{copyOf}
 use Rattle.label.specs.declared.fields.Label as bytes
 use Rattle.label.specs.declared.codec.Decoded.the-variants.{Valid}
 use Rattle.rounds.specs.declared.plan.Survey.{Survey}
+use Rattle.redo.specs.Decide.{looked, believed}
 use Rattle.protocol.specs.World.{World, put, flush, act, after, Possible, Sane}
-use Rattle.protocol.specs.Machine.{Machine, View}
+use Rattle.protocol.specs.Host.{Host}
+use Rattle.protocol.specs.Machine.{Machine, View, sure}
 use Rattle.codecs.specs.Sector.{Sector}
-use Rattle.codecs.specs.Shelf.{Shelf, slots, geometry}
+use Rattle.codecs.specs.Shelf.{Shelf, slots, geometry, limits}
 use Rattle.codecs.specs.Labels.{ours}
 use Rattle.shelf.specs.Act.{Move}
-use Rattle.shelf.specs.Step.{stepMove}
+use Rattle.shelf.specs.Step.{finished, stepMove}
 use Rattle.stages.specs.declared.state.State.{State}
-use Rattle.stages.specs.declared.state.Kind.the-variants.{Idle}
+use Rattle.stages.specs.declared.state.Kind.the-variants.{Idle, Filling}
 use Rattle.stages.specs.declared.state.Answer.{Answer}
 use Rattle.stages.specs.declared.state.Answer.the-variants as answer
+use Rattle.stages.specs.State.{rested}
 use Rattle.requests.specs.Begun.{workBytes, refused}
 use Rattle.requests.specs.Start.{bySurvey, startOf}
 use Rattle.requests.specs.Step.{otherWork, stepWith, step-short, step-goes}
+use Rattle.requests.specs.Ready.{isIdle}
 use Rattle.blind.specs.Start.{start-blind}
 use Rattle.refine.specs.Family.{Family}
 use Rattle.refine.specs.Disks.{Disks, curOf}
 use Rattle.refine.specs.ToDo.{toDo}
-use Rattle.refine.specs.Tied.{fair-work, step-tied}
-use Rattle.refine.specs.Ends.{EndsAfter, request-ends}
-use Rattle.refine.specs.Chain.{Heard, off, step-rests, heard-by}
-use Rattle.refine.specs.Holds.{Follows}
+use Rattle.refine.specs.Steps.{Fair}
+use Rattle.refine.specs.Tied.{plain, fair-work, step-tied}
+use Rattle.refine.specs.Ends.{EndsAfter, request-ends, done-ends}
+use Rattle.refine.specs.Chain.{Heard, blocks, fresh, off, step-rests, heard-by}
+use Rattle.refine.specs.Holds.{Wanted, Follows, healthy-believed}
 use Rattle.refine.specs.Lags.{not-valid, unlabelled, few-low, follows-alike}
-use Rattle.refine.specs.Hosts.{Held, none, has, at}
-use Rattle.refine.specs.HostHolds.{bound-labels, bound-shaped, bound-followed}
-use Rattle.refine.specs.Exchanges.{Blanked}
-use Rattle.refine.specs.Late.{same-length, Starts, Pulled, Late, StandsAt, late-cut, late-own, fair, plainly}
+use Rattle.refine.specs.Hosts.{Held, none, has, Time, at, steps, HostChain, Bound}
+use Rattle.refine.specs.HostHolds.{bound-labels, bound-shaped, bound-followed, write-carried-out, begin-carried-out, rebuild-carried-out}
+use Rattle.refine.specs.HostTrue.{bound-rests-true, bound-heals}
+use Rattle.refine.specs.Since.{AnyTwoSince, since}
+use Rattle.refine.specs.Serves.{Served}
+use Rattle.refine.specs.Exchanges.{Blanked, calls, ExchangeChain, goes-on, AnyTwoThen, AllServed}
+use Rattle.refine.specs.Late.{same-length, Starts, Pulled, Late, StandsAt, told-left, told-disks, told-alike, told-possible, late-cut, late-own, fair, plainly}
+use Rattle.refine.specs.Replaced.{any-exchanged-stands}
 
 -- what can be followed in one world can be in another
 heard-any : (z : Shelf) (w w0 : World Sector) (a : Answer) (img : List ℕ) (v : World Sector) → Heard z w0 a img v → (w' : World Sector) × Heard z w a img w'
@@ -108,3 +123,89 @@ module _ (z : Shelf) (F : Family z) (first : Machine Sector) (p : View Sector) (
     -- A START-UP UNDER WAY, while disks that were exchanged are not told of yet, IS CARRIED OUT by its steps: some actions, and then it is done; none of them is refused
     pub late-carried-out : (t : Late z F first p w img (has s work)) → Starts z (t .away) s → length work ≡ workBytes (slots z) (z .c) → (n : ℕ) × EndsAfter n work s img
     late-carried-out t up fits = (length (toDo z s work img), request-ends z work fits s img (fair-work z [] work s img (plainly z F first p w img s work t up) (fair z F first p w img s work t up)))
+
+    -- ---- AT REST
+
+    -- THE VIEW IS A LIST, and every strip that the state's label believes is what it asks for, whatever a cut leaves. (A disk that was pulled at rest lies in a slot that is out: the label believes no strip of it.)
+    pub stands-rests-true : s .kind ≡ Idle → StandsAt z F first p (at w img (has s work))
+        → (v : Host Sector) × (p ≡ sure v) × ((left : List ℕ) → Disks z left → Possible w (curOf z left) → (d t : ℕ) → believed (geometry z) (s .now) d t ≡ true → Wanted z v left d t)
+    unfolding Possible believed looked
+    stands-rests-true e (inl y) =
+        let r = bound-rests-true z F first p (y .0) img s work e (y .2) in
+        (r .0, r .1, λ left here possible d t b. r .2 left here (λ k. y .1 .fewer k (curOf z left k) refl (possible k)) d t b)
+    stands-rests-true e (inr y) =
+        let r = bound-rests-true z F first p (y .w0) (y .img0) s work e (inl (y .tie)) in (
+          r .0,
+          r .1,
+          λ left here possible d t b j l.
+              told-alike z F first p w img (has s work) y left here possible d (stripOf (geometry z) t + j) (there d t b) (low d t b j l) (stays-here d t b)
+              ∙ r .2 (told-left z F first p w img (has s work) y left here possible) (told-disks z F first p w img (has s work) y left here possible) (told-possible z F first p w img (has s work) y left here possible) d t b j l,
+        )
+      where
+        lost : Pulled z (y .away) s
+        lost = ⊎-elim (λ (up : Starts z (y .away) s). absurd (false≢true (ap isIdle (sym (up .0) ∙ e)))) (λ (q : Pulled z (y .away) s). q) (y .waits)
+
+        there : (d t : ℕ) → believed (geometry z) (s .now) d t ≡ true → d < slots z
+        there d t b = ltb-true d (slots z) (and-left (ltb d (slots z)) _ (and-left (looked (geometry z) (s .now) d) _ b))
+
+        low : (d t : ℕ) → believed (geometry z) (s .now) d t ≡ true → (j : ℕ) → j < z .c → stripOf (geometry z) t + j < z .sectors
+        low d t b j l = omega (arith, strip-inside (geometry z) (limits z .0) t (ltb-true t (stripesOf (geometry z)) (and-left (ltb t (stripesOf (geometry z))) _ (and-right (looked (geometry z) (s .now) d) _ b))))
+
+        stays-here : (d t : ℕ) → believed (geometry z) (s .now) d t ≡ true → y .away d ≡ false
+        stays-here d t b = by (y .away d) refl
+          where
+            by : (x : Bool) → y .away d ≡ x → x ≡ false
+            by true q = absurd (true≢false (sym (and-left (looked (geometry z) (s .now) d) _ b) ∙ lost .out d q))
+            by false q = refl
+
+    -- A REBUILD THAT ANSWERS DONE comes to rest, and where no slot is being rebuilt any more, the slot that was is not out
+    pub stands-healed : s .kind ≡ Filling → stepWith s img work .stepped .answer ≡ answer.Done → s .next .rebuilding ≡ noSlot → StandsAt z F first p (at w img (has s work))
+        → (stepWith s img work ≡ finished s img) × (s .now .rebuilding < slots z) × (inMask (s .next .out) (s .now .rebuilding) ≡ false)
+    stands-healed k done healed (inl y) =
+        let h = bound-heals z F first p (y .0) img s work k (y .2) healed in
+        let n = ends (y .2) in
+        (done-ends (n .0) work s img (n .1) done, h .0, h .1)
+      where
+        ends : Bound z F first p (y .0) img (has s work) → (n : ℕ) × EndsAfter n work s img
+        ends (inl t) = absurd (true≢false (sym (⊎-elim (λ (f : Fair z s [] img × (plain (s .kind) ≡ true)). f .1) (λ (q : (s .kind ≡ Idle) × (ours z (s .now) ≡ true)). ap plain (q .0)) (t .order .1)) ∙ ap plain k))
+        ends (inr (inl t)) = write-carried-out z F first p (y .0) img s work t
+        ends (inr (inr (inl t))) = begin-carried-out z F first p (y .0) img s work t
+        ends (inr (inr (inr t))) = rebuild-carried-out z F first p (y .0) img s work t
+    stands-healed k done healed (inr y) =
+        absurd (true≢false (⊎-elim (λ (up : Starts z (y .away) s). ap plain (sym (up .0) ∙ k)) (λ (q : Pulled z (y .away) s). ap plain (sym (q .rests) ∙ k)) (y .waits)))
+
+-- ---- FROM ZEROS ON: any chain of calls, and then any chain in which disks are exchanged while no program runs too
+
+module _ (z : Shelf) (first : List ℕ) (disks : Disks z first) (blank : allZero first ≡ true) {a : Time} (c : HostChain z (at (after (curOf z first)) first none) a) (two : AnyTwoSince c) {w : World Sector} {img : List ℕ} {s : State} {work : List ℕ}
+    (r : ExchangeChain z a (at w img (has s work))) where
+  -- AT REST the view is a list, which every read shows, and every strip that the state's label believes is what it asks for, whatever a cut leaves
+  pub exchanged-rests-true : AnyTwoThen (since c) r → s .kind ≡ Idle
+      → (p : View Sector) × (v : Host Sector) × Served c (sure blocks) p × AllServed r p (sure v)
+      × ((left : List ℕ) → Disks z left → Possible w (curOf z left) → (d t : ℕ) → believed (geometry z) (s .now) d t ≡ true → Wanted z v left d t)
+  exchanged-rests-true then e =
+      let y = any-exchanged-stands z first disks blank c r two then in
+      let x = stands-rests-true z (y .0) (fresh z first disks blank) (y .2) w img s work e (y .5) in
+      (y .1, x .0, y .3, subst (λ (q : View Sector). AllServed r (y .1) q) (x .1) (y .4), x .2)
+
+-- SO NO ANSWER CALLS A SLOT HEALTHY BEFORE EACH OF ITS STRIPS IS: where the step of a rebuild answers Done and no slot is being rebuilt any more, the slot that was is not out any more, and each of its strips is
+-- what the list asks for, whatever a cut leaves
+module _ (z : Shelf) (first : List ℕ) (disks : Disks z first) (blank : allZero first ≡ true) {a : Time} (c : HostChain z (at (after (curOf z first)) first none) a) (two : AnyTwoSince c) {w : World Sector} {img : List ℕ} {s : State} {work : List ℕ}
+    (r : ExchangeChain z a (at w img (has s work))) (w' : World Sector) (heard : Heard z w (stepWith s img work .stepped .answer) (stepWith s img work .image) w') where
+  pub exchanged-healthy : AnyTwoThen (since c) (goes-on r (calls (steps heard) tt)) → s .kind ≡ Filling → stepWith s img work .stepped .answer ≡ answer.Done → s .next .rebuilding ≡ noSlot
+      → (p : View Sector) × (v : Host Sector) × Served c (sure blocks) p × AllServed (goes-on r (calls (steps heard) tt)) p (sure v)
+      × (s .now .rebuilding < slots z) × (inMask (s .next .out) (s .now .rebuilding) ≡ false)
+      × ((left : List ℕ) → Disks z left → Possible w' (curOf z left) → (t : ℕ) → t < stripesOf (geometry z) → Wanted z v left (s .now .rebuilding) t)
+  exchanged-healthy then k done healed =
+      let y = any-exchanged-stands z first disks blank c r two (then .0) in
+      let h = stands-healed z (y .0) (fresh z first disks blank) (y .2) w img s work k done healed (y .5) in
+      let is : stepWith s img work .stepped .state ≡ rested s = ap (λ (m : Move). m .stepped .state) (h .0) in
+      let x = exchanged-rests-true z first disks blank c two (goes-on r (calls (steps heard) tt)) then (ap (λ (q : State). q .kind) is) in (
+        x .0,
+        x .1,
+        x .2,
+        x .3,
+        h .1,
+        h .2,
+        λ left here possible t l. x .4 left here possible (s .now .rebuilding) t
+            (ap (λ (q : State). believed (geometry z) (q .now) (s .now .rebuilding) t) is ∙ healthy-believed z (s .next) (s .now .rebuilding) t (h .1) l (h .2)),
+      )

@@ -284,7 +284,7 @@ module _ (z : Shelf) (first : Machine Sector) where
   along-in F stays ok p t = (F, p, t)
   along-in F (goes-on c x) ok p t = (along-in F c (λ s m. ok s (Memᴰ·append-right (sets-call x) m)) p t, let y = chain-bound z F first (goes-on c x) ok p t in (F, y .0, y .2))
 
-  along-end : {a b : Time} (c : HostChain z a b) → Along c → SomeBound b
+  pub along-end : {a b : Time} (c : HostChain z a b) → Along c → SomeBound b
   along-end stays t = t
   along-end (goes-on c x) t = t .1
 

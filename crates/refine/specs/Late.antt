@@ -275,49 +275,56 @@ module _ (z : Shelf) (F : Family z) (first : Machine Sector) where
   -- ---- A CUT: each old disk is told to hold what is read of it
 
   module _ (p : View Sector) (w : World Sector) (img : List ℕ) (h : Held) (t : Late p w img h) where
-    pub late-cut : (left : List ℕ) → Disks z left → Possible w (curOf z left) → Late p (after (curOf z left)) left none
-    unfolding Possible after Sane
-    late-cut left d possible = record { away = t .away; w0 = after (curOf z left0); img0 = left0; behind = behind; tie = cut-kept z F first p (t .w0) (t .img0) (handOf z h) left0 d0 there (t .tie); waits = tt }
-      where
-        left0 : List ℕ
-        left0 = slotsFrom z (t .away) (t .img0) left (slots z)
+    module _ (left : List ℕ) (d : Disks z left) (possible : Possible w (curOf z left)) where
+      -- what it leaves, with the old disks still there
+      unfoldable pub told-left : List ℕ
+      told-left = slotsFrom z (t .away) (t .img0) left (slots z)
 
-        d0 : Disks z left0
-        d0 = slots-disks z (t .away) (t .img0) left (t .tie .disks) d (slots z) (omega arith)
+      pub told-disks : Disks z told-left
+      unfolding told-left
+      told-disks = slots-disks z (t .away) (t .img0) left (t .tie .disks) d (slots z) (omega arith)
 
-        out : (e u : ℕ) → e < slots z → u < z .sectors → t .away e ≡ false → sector (z .sectors) left e u ≡ sector (z .sectors) left0 e u
-        out e u i l a = sym (slots-other z (t .away) (t .img0) left (t .tie .disks) d (slots z) (omega arith) e u i l a)
+      pub told-alike : (e u : ℕ) → e < slots z → u < z .sectors → t .away e ≡ false → sector (z .sectors) left e u ≡ sector (z .sectors) told-left e u
+      unfolding told-left
+      told-alike e u i l a = sym (slots-other z (t .away) (t .img0) left (t .tie .disks) d (slots z) (omega arith) e u i l a)
 
-        cur-out : (k : Place) → t .away (slot k) ≡ false → curOf z left k ≡ curOf z left0 k
-        cur-out k a = cur-alike z left left0 d d0 k (λ u i l. out (slot k) u i l a)
+      cur-out : (k : Place) → t .away (slot k) ≡ false → curOf z left k ≡ curOf z told-left k
+      cur-out k a = cur-alike z left told-left d told-disks k (λ u i l. told-alike (slot k) u i l a)
 
-        cur-in : (k : Place) → t .away (slot k) ≡ true → curOf z left0 k ≡ t .w0 .cur k
-        cur-in k a = cur-alike z left0 (t .img0) d0 (t .tie .disks) k (λ u i l. slots-here z (t .away) (t .img0) left (t .tie .disks) d (slots z) (omega arith) (slot k) u i l a) ∙ sym (ap (λ (f : Image Sector). f k) (t .tie .reads))
+      cur-in : (k : Place) → t .away (slot k) ≡ true → curOf z told-left k ≡ t .w0 .cur k
+      unfolding told-left
+      cur-in k a = cur-alike z told-left (t .img0) told-disks (t .tie .disks) k (λ u i l. slots-here z (t .away) (t .img0) left (t .tie .disks) d (slots z) (omega arith) (slot k) u i l a) ∙ sym (ap (λ (f : Image Sector). f k) (t .tie .reads))
 
-        there : Possible (t .w0) (curOf z left0)
-        there k = by (t .away (slot k)) refl
-          where
-            by : (b : Bool) → t .away (slot k) ≡ b → t .w0 .may k (curOf z left0 k)
-            by true a = subst (t .w0 .may k) (sym (cur-in k a)) (off z F first p (t .tie .reached) .keeps .sane k)
-            by false a = subst (t .w0 .may k) (cur-out k a) (t .behind .lags .fewer k (curOf z left k) a (possible k))
+      pub told-possible : Possible (t .w0) (curOf z told-left)
+      unfolding Possible Sane
+      told-possible k = by (t .away (slot k)) refl
+        where
+          by : (b : Bool) → t .away (slot k) ≡ b → t .w0 .may k (curOf z told-left k)
+          by true a = subst (t .w0 .may k) (sym (cur-in k a)) (off z F first p (t .tie .reached) .keeps .sane k)
+          by false a = subst (t .w0 .may k) (cur-out k a) (t .behind .lags .fewer k (curOf z left k) a (possible k))
 
-        bare : (e o : ℕ) → t .away e ≡ true → o < 2 → copyOf (geometry z) left e o ≡ Nothing
-        bare e o a l =
-            let b = side o l in
-            let k : Place = label e (b .0) in
-            let same : curOf z left k ≡ curOf z img k = t .behind .lags .certain k (curOf z left k) a (possible k) ∙ ap (λ (f : Image Sector). f k) (t .behind .reads) in
-            subst (λ (x : ℕ). copyOf (geometry z) left e x ≡ Nothing) (b .1) (label-alike z left img d (t .behind .disks) e (b .0) (t .behind .inner e a) same ∙ ap (copyOf (geometry z) img e) (b .1) ∙ t .behind .blank e o a l)
+      pub late-cut : Late p (after (curOf z left)) left none
+      unfolding Possible after
+      late-cut =
+          record { away = t .away; w0 = after (curOf z told-left); img0 = told-left; behind = behind; tie = cut-kept z F first p (t .w0) (t .img0) (handOf z h) told-left told-disks told-possible (t .tie); waits = tt }
+        where
+          bare : (e o : ℕ) → t .away e ≡ true → o < 2 → copyOf (geometry z) left e o ≡ Nothing
+          bare e o a l =
+              let b = side o l in
+              let k : Place = label e (b .0) in
+              let same : curOf z left k ≡ curOf z img k = t .behind .lags .certain k (curOf z left k) a (possible k) ∙ ap (λ (f : Image Sector). f k) (t .behind .reads) in
+              subst (λ (x : ℕ). copyOf (geometry z) left e x ≡ Nothing) (b .1) (label-alike z left img d (t .behind .disks) e (b .0) (t .behind .inner e a) same ∙ ap (copyOf (geometry z) img e) (b .1) ∙ t .behind .blank e o a l)
 
-        behind : Behind z (t .away) (after (curOf z left)) left (after (curOf z left0)) left0
-        behind =
-            record {
-              inner = t .behind .inner;
-              lags = record { reads = cur-out; fewer = λ k v a m. m ∙ cur-out k a; certain = λ k v a m. m };
-              disks = d;
-              reads = refl;
-              alike = out;
-              blank = bare;
-            }
+          behind : Behind z (t .away) (after (curOf z left)) left (after (curOf z told-left)) told-left
+          behind =
+              record {
+                inner = t .behind .inner;
+                lags = record { reads = cur-out; fewer = λ k v a m. m ∙ cur-out k a; certain = λ k v a m. m };
+                disks = d;
+                reads = refl;
+                alike = told-alike;
+                blank = bare;
+              }
 
     -- ---- A START-UP
 

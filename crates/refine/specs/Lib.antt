@@ -51,6 +51,7 @@ pub mod HostHolds
 pub mod HostTrue
 pub mod Serves
 pub mod Promise
+pub mod Answered
 pub mod Exchanges
 pub mod Late
 pub mod Replaced

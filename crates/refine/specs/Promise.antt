@@ -75,7 +75,7 @@ module _ (z : Shelf) (first : List ℕ) (disks : Disks z first) (blank : allZero
       pairs-since z first disks blank c (λ s t i j. quorum z more .meet s t (chain-passed z (fresh z first disks blank) c n s i) (chain-passed z (fresh z first disks blank) c n t j))
 
   -- the tie holds at every moment before
-  along : {b : Time} (c : ComesTo b) → AnyTwoSince c → Along z (fresh z first disks blank) c
+  pub along : {b : Time} (c : ComesTo b) → AnyTwoSince c → Along z (fresh z first disks blank) c
   along stays two = let y = bound-since z first disks blank stays two in (y .0, y .1, y .3)
   along (goes-on c x) two = (along c (two .0), let y = bound-since z first disks blank (goes-on c x) two in (y .0, y .1, y .3))
 
@@ -175,17 +175,13 @@ module _ (z : Shelf) (first : List ℕ) (disks : Disks z first) (blank : allZero
     pub carried-out : (s .kind ≡ Idle → ⊥) → (n : ℕ) × EndsAfter n work s img
     carried-out busy = let t = tie chain two in bound-carried-out z (t .0) (fresh z first disks blank) (t .1) w img s work room-kept busy (t .3)
 
-    -- so the steps lead to rest, under the label that the request was to settle; they leave no further set out, and ask for nothing more
-    pub comes-to-rest : (s .kind ≡ Idle → ⊥) → (w' : World Sector) × (left : List ℕ) × (c : ComesTo (at w' left (has (rested s) work))) × (sets c ≡ sets chain) × AnyTwoSince c
+    -- so the steps lead to rest, under the label that the request was to settle: the chain goes on by them; they leave no further set out, and ask for nothing more
+    pub comes-to-rest : (s .kind ≡ Idle → ⊥)
+        → (w' : World Sector) × (left : List ℕ) × (q : HostChain z (at w img (has s work)) (at w' left (has (rested s) work))) × (sets q ≡ []) × AnyTwoSince (chained-on chain q)
     comes-to-rest busy =
         let t = tie chain two in
-        let r = bound-comes-to-rest z (t .0) (fresh z first disks blank) (t .1) w img s work room-kept busy (t .3) in (
-          r .0,
-          r .1,
-          chained-on chain (r .2),
-          sets-on chain (r .2) ∙ ap (λ (l : List (ℕ → Bool)). l ++ sets chain) (r .3),
-          more chain two (r .2) (λ a m. List·Memᴰ·not-nil (subst (λ (l : List (ℕ → Bool)). List·Memᴰ a l) (r .3) m)),
-        )
+        let r = bound-comes-to-rest z (t .0) (fresh z first disks blank) (t .1) w img s work room-kept busy (t .3) in
+        (r .0, r .1, r .2, r .3, more chain two (r .2) (λ a m. List·Memᴰ·not-nil (subst (λ (l : List (ℕ → Bool)). List·Memᴰ a l) (r .3) m)))
 
   -- A STEP THAT ANSWERS DONE: nothing is done with the disks, and the request's label is settled
   module _ {w : World Sector} {img : List ℕ} {s : State} {work : List ℕ} (chain : ComesTo (at w img (has s work))) (two : AnyTwoSince chain) (done : stepWith s img work .stepped .answer ≡ answer.Done) where
@@ -261,4 +257,4 @@ module _ (z : Shelf) where
         subst (λ (h : Held). (c : HostChain z (at (after (curOf z newImage)) newImage none) (at (after (curOf z newImage)) newImage h)) × (sets c ≡ [])) create-goes (goes-on stays (creates s work), refl) in
         let none-out : AnyTwo (slots z) (sets (begun .0)) = λ a b i j. absurd (List·Memᴰ·not-nil (subst (λ (l : List (ℕ → Bool)). List·Memᴰ a l) (begun .1) i)) in
         let y = comes-to-rest z newImage (d .0) (d .1) (begun .0) (pairs-since z newImage (d .0) (d .1) (begun .0) none-out) (λ e. let i : _≡_ {A = ℕ} 0 1 = cc in omega arith) in
-        (y .0, y .1, y .2, y .3 ∙ begun .1)
+        (y .0, y .1, chained-on (begun .0) (y .2), sets-on (begun .0) (y .2) ∙ ap (λ (l : List (ℕ → Bool)). l ++ sets (begun .0)) (y .3) ∙ begun .1)
