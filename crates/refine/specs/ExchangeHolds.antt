@@ -1,19 +1,22 @@
 -- WHAT CHAINS WITH EXCHANGED DISKS KEEP beside the host's view: no disk names another shelf, and every label has its shape, whatever a cut leaves; a step can be followed; a start-up under way is carried
--- out by its steps; which start-ups are refused; and at rest every strip that the state's label believes is what the host's list asks for, so a rebuild that answers Done has healed its slot. Assumes nothing.
+-- out by its steps; which start-ups are refused; and at rest every strip that the state's label believes is what the host's list asks for, so
+-- a rebuild that answers Done has healed its slot, and every block can be read. Assumes nothing.
 use mathlib.Core.Path.{_≡_, refl, sym, ap, subst, _∙_}
 use mathlib.Core.Logic.{⊎-elim, inl, inr}
-use mathlib.Core.Bool.{Bool, true, false, true≢false, false≢true}
+use mathlib.Core.Bool.{Bool, true, false, true≢false, not, false≢true}
 use mathlib.Core.List.{List, []}
-use Prim.Native.Nat.{ℕ, _+_, _<_}
+use Prim.Native.Nat.{ℕ, _+_, _*_, _<_, _/_, _%_}
 use native.Mathlib.Omega.{arith}
-use lib.Dec.{ltb}
+use lib.Dec.{eqb, ltb}
 use lib.ListN.{length}
 use borrow.Author.Tests.{ltb-true}
 use Rattle.disk.specs.Mask.{inMask}
 use Rattle.disk.specs.Tests.{and-left, and-right}
-use Rattle.disk.specs.Geometry.{stripesOf, stripOf, strip-inside}
+use Rattle.disk.specs.Limits.{sectorBytes}
+use Rattle.disk.specs.Geometry.{blocksOf, stripesOf, stripOf, strip-inside}
 use Rattle.disk.specs.declared.refusal.Refusal.the-variants.{NoLabel}
-use Rattle.label.specs.Fields.{noSlot}
+use Rattle.disk.specs.declared.refusal.Outcome.the-variants.{Done}
+use Rattle.label.specs.Fields.{noSlot, fitsOf}
 use Rattle.label.specs.Bytes.{allZero}
 use Rattle.label.specs.Newest.{copyOf}
 use Rattle.label.specs.declared.fields.Label as bytes
@@ -26,6 +29,7 @@ use Rattle.protocol.specs.Machine.{Machine, View, sure}
 use Rattle.codecs.specs.Sector.{Sector}
 use Rattle.codecs.specs.Shelf.{Shelf, slots, geometry, limits}
 use Rattle.codecs.specs.Labels.{ours}
+use Rattle.codecs.specs.Records.{stripBytes}
 use Rattle.shelf.specs.Act.{Move}
 use Rattle.shelf.specs.Step.{finished, stepMove}
 use Rattle.stages.specs.declared.state.State.{State}
@@ -37,6 +41,8 @@ use Rattle.requests.specs.Begun.{workBytes, refused}
 use Rattle.requests.specs.Start.{bySurvey, startOf}
 use Rattle.requests.specs.Step.{otherWork, stepWith, step-short, step-goes}
 use Rattle.requests.specs.Ready.{isIdle}
+use Rattle.requests.specs.TakeOut.{plainlyOut}
+use Rattle.blocks.specs.Read.{readAnswer, afterRead}
 use Rattle.blind.specs.Start.{start-blind}
 use Rattle.refine.specs.Family.{Family}
 use Rattle.refine.specs.Disks.{Disks, curOf}
@@ -47,14 +53,16 @@ use Rattle.refine.specs.Ends.{EndsAfter, request-ends, done-ends}
 use Rattle.refine.specs.Chain.{Heard, blocks, fresh, off, step-rests, heard-by}
 use Rattle.refine.specs.Holds.{Wanted, Follows, healthy-believed}
 use Rattle.refine.specs.Lags.{not-valid, unlabelled, few-low, follows-alike}
-use Rattle.refine.specs.Hosts.{Held, none, has, Time, at, steps, HostChain, Bound}
+use Rattle.refine.specs.Hosts.{Held, none, has, Time, at, steps, HostChain, Bound, loose}
 use Rattle.refine.specs.HostHolds.{bound-labels, bound-shaped, bound-followed, write-carried-out, begin-carried-out, rebuild-carried-out}
-use Rattle.refine.specs.HostTrue.{bound-rests-true, bound-heals}
+use Rattle.refine.specs.HostTrue.{bound-rests-true, bound-absent-out, bound-heals}
 use Rattle.refine.specs.Since.{AnyTwoSince, since}
-use Rattle.refine.specs.Serves.{Served}
-use Rattle.refine.specs.Exchanges.{Blanked, calls, ExchangeChain, goes-on, AnyTwoThen, AllServed}
+use Rattle.refine.specs.Serves.{ReadsAs, Served}
+use Rattle.refine.specs.Promise.{along}
+use Rattle.refine.specs.Answered.{InRangeAt, Fairly, busy-fair, call-fits, chain-fits, rest-ours, enough, read-goes}
+use Rattle.refine.specs.Exchanges.{Blanked, Exchanges, calls, replaced, pulled, swapped-off, ExchangeChain, stays, goes-on, AnyTwoThen, AllServed}
 use Rattle.refine.specs.Late.{same-length, Starts, Pulled, Late, StandsAt, told-left, told-disks, told-alike, told-possible, late-cut, late-own, fair, plainly}
-use Rattle.refine.specs.Replaced.{any-exchanged-stands}
+use Rattle.refine.specs.Replaced.{stands-out, any-exchanged-stands}
 
 -- what can be followed in one world can be in another
 heard-any : (z : Shelf) (w w0 : World Sector) (a : Answer) (img : List ℕ) (v : World Sector) → Heard z w0 a img v → (w' : World Sector) × Heard z w a img w'
@@ -174,7 +182,52 @@ module _ (z : Shelf) (F : Family z) (first : Machine Sector) (p : View Sector) (
     stands-healed k done healed (inr y) =
         absurd (true≢false (⊎-elim (λ (up : Starts z (y .away) s). ap plain (sym (up .0) ∙ k)) (λ (q : Pulled z (y .away) s). ap plain (sym (q .rests) ∙ k)) (y .waits)))
 
+    -- AT MOST m SLOTS ARE OUT OR ABSENT, so a block of the shelf is read, with a label in range and a work area of its size
+    pub stands-read : (e : s .kind ≡ Idle) → StandsAt z F first p (at w img (has s work)) → fitsOf (s .now) ≡ true → (b : ℕ) (buf : List ℕ) → b < blocksOf (geometry z) (z .k) → length buf ≡ z .c * sectorBytes
+        → length work ≡ workBytes (slots z) (z .c) → readAnswer (s .now) (s .kind) (s .absent) b (length img) (length buf) (length work) ≡ Done
+    unfolding plainlyOut
+    stands-read e y fit b buf inner whole room =
+        let few = F .few (inMask (s .now .out)) (stands-out z first F p (at w img (has s work)) y (ap isIdle e)) in
+        let h = told y in
+        read-goes z (s .now) (h .0) fit (s .absent) (enough z (s .now) (h .0) fit (s .absent) few (λ d i a. and-right (not (eqb (s .now .rebuilding) d)) (inMask (s .now .out) d) (h .1 d i a))) b buf work inner whole room (s .kind) e img (h .2)
+      where
+        told : StandsAt z F first p (at w img (has s work)) → (ours z (s .now) ≡ true) × ((d : ℕ) → d < slots z → inMask (s .absent) d ≡ true → plainlyOut (s .now) d ≡ true) × Disks z img
+        told (inl y) = (rest-ours z F first p (y .0) img s work e (y .2), bound-absent-out z F first p (y .0) img s work e (y .2), loose z F first p (y .0) img (has s work) (y .2) .disks)
+        told (inr y) = (rest-ours z F first p (y .w0) (y .img0) s work e (inl (y .tie)), bound-absent-out z F first p (y .w0) (y .img0) s work e (inl (y .tie)), y .behind .disks)
+
+-- ---- THE STATE'S LABELS ARE IN RANGE
+
+module _ (z : Shelf) (first : Machine Sector) where
+  stands-fairly : (F : Family z) (p : View Sector) (t : Time) → StandsAt z F first p t → Fairly z t
+  stands-fairly F p (at w img none) y = (F, p, tt)
+  stands-fairly F p (at w img (has s work)) (inl y) = (F, p, λ busy. busy-fair z first (y .0) img F p s work busy (y .2))
+  stands-fairly F p (at w img (has s work)) (inr y) = (
+    F,
+    p,
+    λ busy. ⊎-elim (λ (up : Starts z (y .away) s). fair-work z [] work s img (plainly z F first p w img s work y up) (fair z F first p w img s work y up))
+        (λ (q : Pulled z (y .away) s). absurd (false≢true (sym busy ∙ ap isIdle (q .rests)))) (y .waits),
+  )
+
+  exchange-fits : {a b : Time} → Exchanges z a b → Fairly z a → Fairly z b → InRangeAt a → InRangeAt b
+  exchange-fits (calls x n) h h' t = call-fits z first x h h' t
+  exchange-fits (replaced d left x) h h' t = tt
+  exchange-fits (pulled d left e l n x) h h' t = t
+  exchange-fits (swapped-off d left then y q x) h h' t = tt
+
+-- the views at the end of a chain
+all-served-now : {z : Shelf} {a b : Time} (c : ExchangeChain z a b) (p q : View Sector) → AllServed c p q → ReadsAs z b q
+all-served-now stays p q s = s .1
+all-served-now (goes-on c x) p q s = s .3
+
 -- ---- FROM ZEROS ON: any chain of calls, and then any chain in which disks are exchanged while no program runs too
+
+module _ (z : Shelf) (first : List ℕ) (disks : Disks z first) (blank : allZero first ≡ true) {a : Time} (c : HostChain z (at (after (curOf z first)) first none) a) (two : AnyTwoSince c) where
+  exchanged-fits : {b : Time} (r : ExchangeChain z a b) → AnyTwoThen (since c) r → InRangeAt b
+  exchanged-fits stays then = chain-fits z (fresh z first disks blank) c (along z first disks blank c two) tt
+  exchanged-fits (goes-on {b = b} {c = e} r x) then =
+      let y = any-exchanged-stands z first disks blank c r two (then .0) in
+      let y' = any-exchanged-stands z first disks blank c (goes-on r x) two then in
+      exchange-fits z (fresh z first disks blank) x (stands-fairly z (fresh z first disks blank) (y .0) (y .2) b (y .5)) (stands-fairly z (fresh z first disks blank) (y' .0) (y' .2) e (y' .5)) (exchanged-fits r (then .0))
 
 module _ (z : Shelf) (first : List ℕ) (disks : Disks z first) (blank : allZero first ≡ true) {a : Time} (c : HostChain z (at (after (curOf z first)) first none) a) (two : AnyTwoSince c) {w : World Sector} {img : List ℕ} {s : State} {work : List ℕ}
     (r : ExchangeChain z a (at w img (has s work))) where
@@ -186,6 +239,23 @@ module _ (z : Shelf) (first : List ℕ) (disks : Disks z first) (blank : allZero
       let y = any-exchanged-stands z first disks blank c r two then in
       let x = stands-rests-true z (y .0) (fresh z first disks blank) (y .2) w img s work e (y .5) in
       (y .1, x .0, y .3, subst (λ (q : View Sector). AllServed r (y .1) q) (x .1) (y .4), x .2)
+
+  -- EVERY BLOCK CAN BE READ at rest, with a work area of its size, and reads as its entry of that list
+  pub exchanged-reads-entry : AnyTwoThen (since c) r → s .kind ≡ Idle → length work ≡ workBytes (slots z) (z .c)
+      → (p : View Sector) × (v : Host Sector) × Served c (sure blocks) p × AllServed r p (sure v)
+      × ((b : ℕ) (buf : List ℕ) → b < blocksOf (geometry z) (z .k) → length buf ≡ z .c * sectorBytes
+      → (readAnswer (s .now) (s .kind) (s .absent) b (length img) (length buf) (length work) ≡ Done) × (afterRead Done s b img work buf ≡ stripBytes (v (b / z .k) (b % z .k)) (z .c)))
+  exchanged-reads-entry then e room =
+      let y = any-exchanged-stands z first disks blank c r two then in
+      let x = exchanged-rests-true then e in (
+        x .0,
+        x .1,
+        x .2,
+        x .3,
+        λ b buf inner whole.
+            let ok = stands-read z (y .0) (fresh z first disks blank) (y .2) w img s work e (y .5) (exchanged-fits z first disks blank c two r then .0) b buf inner whole room in
+            (ok, all-served-now r (x .0) (sure (x .1)) (x .3) b buf ok),
+      )
 
 -- SO NO ANSWER CALLS A SLOT HEALTHY BEFORE EACH OF ITS STRIPS IS: where the step of a rebuild answers Done and no slot is being rebuilt any more, the slot that was is not out any more, and each of its strips is
 -- what the list asks for, whatever a cut leaves

@@ -505,7 +505,7 @@ module _ (z : Shelf) (first : Machine Sector) where
 
   -- ---- IT IS LESS THAN TO ASK IT OF ALL SETS OF THE CHAIN: at rest the label calls out a part of one of them, or nothing
 
-  stands-out : (F : Family z) (p : View Sector) (b : Time) → StandsAt z F first p b → RestsIn z F b
+  pub stands-out : (F : Family z) (p : View Sector) (b : Time) → StandsAt z F first p b → RestsIn z F b
   stands-out F p (at w img none) t = tt
   stands-out F p (at w img (has s work)) (inl t) = rests-out z first F p (at (t .0) img (has s work)) (t .2)
   stands-out F p (at w img (has s work)) (inr t) = λ e. rests-in z first F p (t .w0) (t .img0) s e (t .tie) .1
