@@ -2,48 +2,69 @@
 -- rotten. If sectors of one strip of a stripe then change by themselves, into anything, the host's list is still what it was; and an accepted
 -- repair of the stripe, stepped to Done, ends with that list and with nothing of the stripe rotten. Assumes nothing.
 use mathlib.Core.Path.{_≡_, refl, sym, ap, subst, _∙_, fun-ext}
-use mathlib.Core.Logic.{⊎-elim, _≢_}
-use mathlib.Core.Bool.{Bool, true, false, cond, _&&_, _||_, false≢true}
-use mathlib.Core.List.{List, []}
-use Prim.Native.Nat.{ℕ, _+_, _<_}
+use mathlib.Core.Logic.{_⊎_, ⊎-elim, inl, inr, _≢_}
+use mathlib.Core.Bool.{Bool, true, false, cond, not, _&&_, _||_, false≢true}
+use mathlib.Core.List.{List, [], _∷_}
+use Prim.Native.Nat.{ℕ, _+_, _<_, _/_, _%_}
 use lib.Dec.{eqb, ltb}
+use lib.ListN.{length}
 use borrow.Author.Tests.{eq-eqb, eqb-true, ltb-true, lt-ltb}
-use Rattle.disk.specs.Geometry.{stripesOf, stripOf}
+use Rattle.disk.specs.Geometry.{stripesOf, stripOf, slotOf}
 use Rattle.disk.specs.Image.{sector}
+use Rattle.disk.specs.Mask.{inMask}
 use Rattle.disk.specs.declared.refusal.Outcome.the-variants as outcome
 use Rattle.label.specs.Bytes.{allZero}
-use Rattle.protocol.specs.World.{Place, label, log, strip, slot, Image, World, after, Possible, Sane}
-use Rattle.protocol.specs.Host.{Host, table}
-use Rattle.protocol.specs.Program.{Own, Memory, idle}
+use Rattle.label.proofs.Counts.{same-says}
+use Rattle.redo.specs.Decide.{believed}
+use Rattle.redo.specs.Laws.{looked-below, believed-looked, believed-below}
+use Rattle.protocol.specs.World.{Place, label, log, strip, slot, Image, World, after, Possible, Sane, Always}
+use Rattle.protocol.specs.Log.{Write}
+use Rattle.protocol.specs.Host.{Host, table, read}
+use Rattle.protocol.specs.Program.{BAD_BLOCK, first, Own, Memory, idle, read-block, block, beyond, mask, answer}
+use Rattle.protocol.specs.Even.{program-by}
+use Rattle.protocol.specs.Kept as Kept
+use Rattle.protocol.specs.Pairs.{no-sets}
 use Rattle.protocol.specs.Machine.{Machine, View, sure, open-write, kept-write}
 use Rattle.protocol.specs.Machine as machine
 use Rattle.protocol.specs.Invariant.{Ready}
-use Rattle.protocol.specs.Veil.{Rot, rotten, spread, two, Decayed}
-use Rattle.protocol.specs.Rot.{RotRuns, stays, decays, rot-promise, rot-ready}
+use Rattle.protocol.specs.Veil.{Rot, rotten, spread, two, cleaned, cleaned-agrees, cleaned-possible, Decayed}
+use Rattle.protocol.specs.Rot.{Fine, Follows, stays, decays, rot-promise, rot-ready}
 use Rattle.codecs.specs.Sector.{Sector, Bytes, sector-path}
 use Rattle.codecs.specs.Shelf.{Shelf, slots, geometry, size}
-use Rattle.codecs.specs.Labels.{labels, ours}
-use Rattle.codecs.specs.Records.{records}
+use Rattle.codecs.specs.Labels.{fieldsOf, noLabel, labelOf, labels, ours}
+use Rattle.codecs.specs.Records.{records, stripBytes}
 use Rattle.codecs.specs.Media.{stamps, medium}
 use Rattle.shards.specs.Quorum.{quorum}
 use Rattle.shards.specs.Code.{code}
 use Rattle.shards.specs.Promise.{sectors}
-use Rattle.shards.specs.Even.{any-sectors}
+use Rattle.shards.specs.Even.{any-code, any-sectors}
 use Rattle.requests.specs.Ready.{isIdle}
 use Rattle.requests.specs.declared.begun.Begun.{Begun}
+use Rattle.shelf.specs.Act.{Move}
+use Rattle.shelf.specs.Step.{finished, stepMove}
+use Rattle.blocks.specs.Read.{laidBy, shownOf, readAnswer, afterRead, Shows, read-done}
 use Rattle.blocks.specs.Repair.{Repairs}
 use Rattle.stages.specs.declared.state.State.{State}
+use Rattle.stages.specs.declared.state.Kind.{Kind}
 use Rattle.stages.specs.declared.state.Kind.the-variants.{Idle}
 use Rattle.refine.specs.Family.{Family, every-few, KeepsIn}
 use Rattle.refine.specs.Places.{sectorOf, inside, strip-is-inside, slot-below, sector-below, place-one}
-use Rattle.refine.specs.Disks.{Disks, curOf, cur-bytes, cur-outside}
+use Rattle.refine.specs.Disks.{Disks, curOf, seenOf, cur-bytes, cur-outside}
+use Rattle.refine.specs.Rounds.{beyond-below}
+use Rattle.refine.specs.Redo.{believe-is}
+use Rattle.refine.specs.ToDo.{toDo}
 use Rattle.refine.specs.Steps.{Fair}
-use Rattle.refine.specs.Tied.{ownOf, plain}
+use Rattle.refine.specs.Tied.{ownOf, plain, programOf}
+use Rattle.refine.specs.WriteList.{Writes, strip-same}
+use Rattle.refine.specs.Writes.{write-tied}
+use Rattle.refine.specs.Holds.{Wanted}
+use Rattle.refine.specs.RepairAsked.{repair-asked, repair-goes}
 use Rattle.refine.specs.Chain.{Tie, rests, blocks, fresh}
 use Rattle.refine.specs.Chain as chain
 use Rattle.refine.specs.Hosts.{none, has, at, HostChain, Bound, not-rest}
+use Rattle.refine.specs.Reads.{shown-read, may-read}
 use Rattle.refine.specs.Serves.{Served, served-bound}
-use Rattle.refine.specs.RepairRot.{RottenIn, Stepping, Mended, repair-mends}
+use Rattle.refine.specs.RepairRot.{RottenIn, follows, step-ways, Stepping, last-step, then-on, comes-to-done, repair-mends}
 
 -- ---- A STRIP ROTS
 
@@ -132,12 +153,24 @@ module _ (z : Shelf) (d t : ℕ) where
         by k true e = (λ q. refl, λ q. absurd (false≢true (sym q)))
         by k false e = (λ q. absurd (false≢true q), λ q. sane k)
 
+-- where the steps of a write end: the image is the shelf's, the state is at rest, and its label is the one that was to be settled
+stepping-rests : (z : Shelf) (wr : Write Sector) (work : List ℕ) {s s' : State} {img img' : List ℕ} → Stepping work s img s' img' → Writes z s work wr → Fair z s work img → Disks z img' × (s' .kind ≡ Idle) × (s' .now ≡ s .next)
+stepping-rests z wr work (last-step {s = s} {img = img} e) h fair =
+    ⊎-elim (λ (q : stepMove s work img ≡ finished s img). (subst (λ (x : Move). Disks z (x .image)) (sym q) (fair .disks), ap (λ (x : Move). x .stepped .state .kind) q, ap (λ (x : Move). x .stepped .state .now) q)) (λ q. absurd (q .0 e))
+    (step-ways z s work img fair)
+stepping-rests z wr work (then-on {s = s} {s' = s'} {img = img} {img' = img'} n r) h fair =
+    let T = write-tied z wr s work img h fair in
+    ⊎-elim
+    (λ (g : Fair z (stepMove s work img .stepped .state) work (stepMove s work img .image) × Writes z (stepMove s work img .stepped .state) work wr). let y = stepping-rests z wr work r (g .1) (g .0) in (y .0, y .1, y .2 ∙ T .settles))
+    (λ q. absurd (n (ap (λ (x : Move). x .stepped .answer) q))) (T .goes-on)
+
 module _ (z : Shelf) (more : z .m < z .k) where
   -- AT REST with the list v, while the strips of rot are rotten: the image is the shelf's and what the disks read as, the state is the shelf's, and the protocol's invariant holds
   pub record RestsRotten (rot : Rot) (w : World Sector) (img : List ℕ) (s : State) (v : Host Sector) : Type 1 where
     pub disks : Disks z img
     pub reads : w .cur ≡ curOf z img
     pub own : ours z (s .now) ≡ true
+    pub idles : s .kind ≡ Idle
     pub holds : RottenIn z more rot w (idle (ownOf z s (s .now))) (sure v)
 
   -- A STRIP ROTS AT REST, of a stripe in which no other is rotten
@@ -151,8 +184,99 @@ module _ (z : Shelf) (more : z .m < z .k) where
         disks = x .disks;
         reads = rotted-reads z d t w img left (h .disks) (h .reads) x;
         own = h .own;
+        idles = h .idles;
         holds = subst (RottenIn z more (spread rot d t) (rotted z w d t left) (idle o)) (r .told) (r .rests);
       }
+
+  -- ---- WHAT IS NOT ROTTEN
+
+  module _ (rot : Rot) (w : World Sector) (img : List ℕ) (s : State) (v : Host Sector) (h : RestsRotten rot w img s v) where
+    -- A STRIP THAT IS NOT ROTTEN and that the state's label believes is what the list asks for, whatever a cut leaves
+    pub unrotten-right : (left : List ℕ) → Disks z left → Possible w (curOf z left) → (d t : ℕ) → rot d t ≡ false → believed (geometry z) (s .now) d t ≡ true → Wanted z v left d t
+    unfolding Always table sectorOf
+    unrotten-right left here possible d t sound b j l =
+        let g = curOf z left in
+        let c = h .holds .clean in
+        let p = cleaned-possible (z .c) rot w c g (h .holds .veil) (h .holds .holds .0) possible in
+        sym (cur-bytes z left here (strip d t j) (strip-is-inside z d t j (looked-below (geometry z) (s .now) d (believed-looked (geometry z) (s .now) d t b)) (believed-below (geometry z) (s .now) d t b) l))
+        ∙ ap (λ (y : Sector). y .bytes)
+        (cleaned-agrees (z .c) rot c g (strip d t j) (ap (λ (y : Bool). y && ltb j (z .c)) sound)
+        ∙ Kept.sound (size z) (quorum z more) (labels z) (records z) (code z more) stamps (sectors z more) v c (ownOf z s (s .now)) (h .holds .holds) (cleaned (z .c) rot c g) p d t j (believe-is z (s .now) d t ∙ b) l)
+
+    -- A BLOCK IS READ RIGHT whose stripe has nothing rotten, or whose own strip is believed and not rotten: a read that answers Done shows the list's entry
+    pub unrotten-reads : (b : ℕ) (work buf : List ℕ) → readAnswer (s .now) (s .kind) (s .absent) b (length img) (length buf) (length work) ≡ outcome.Done
+        → ((d : ℕ) → rot d (b / z .k) ≡ false) ⊎ ((believed (geometry z) (s .now) (slotOf (slots z) (b / z .k) (b % z .k)) (b / z .k) ≡ true) × (rot (slotOf (slots z) (b / z .k) (b % z .k)) (b / z .k) ≡ false))
+        → afterRead outcome.Done s b img work buf ≡ stripBytes (v (b / z .k) (b % z .k)) (z .c)
+    unfolding program-by mask seenOf laidBy
+    unrotten-reads b work buf ok fine =
+        ap (λ (k : Kind). shownOf (s .now) (s .absent) (laidBy k (s .cursor .stage) (s .marks .redo) (s .marks .stripe) (b / s .now .k)) img work b) (h .idles)
+        ∙ shown-read z img (h .disks) (s .now) (h .own) (s .absent) b work buf shows (λ e i a q. h .holds .holds .1 .dark e (beyond-below (slots z) (s .absent) e i ∙ a) q)
+        ∙ strip-same X (v T I) (z .c) (λ j l. told .told .1 j l (subst (λ (k : ℕ). Fits (b / k) (b % k)) k-is (fits fine)))
+        ∙ ap (λ (k : ℕ). stripBytes (v (b / k) (b % k)) (z .c)) (sym k-is)
+      where
+        shows : Shows (s .now) (s .absent) img work b buf
+        shows = read-done (s .now) (s .kind) (s .absent) b img work buf ok
+
+        T : ℕ
+        T = b / s .now .k
+
+        I : ℕ
+        I = b % s .now .k
+
+        o : Own
+        o = ownOf z s (s .now)
+
+        X : ℕ → Sector
+        X = read (size z) (no-sets (slots z)) (records z) (any-code z) (labelOf z (s .now)) (seenOf z (beyond (slots z) (inMask (s .absent))) img) T I
+
+        k-is : z .k ≡ s .now .k
+        k-is = same-says (fieldsOf z 0 (noLabel z)) (s .now) (h .own) .same-k
+
+        Fits : ℕ → ℕ → Type 0
+        Fits t i = Fine (size z) (quorum z more) (labels z) (records z) (code z more) stamps (sectors z more) rot (labelOf z (s .now)) t i
+
+        fits : ((d : ℕ) → rot d (b / z .k) ≡ false) ⊎ ((believed (geometry z) (s .now) (slotOf (slots z) (b / z .k) (b % z .k)) (b / z .k) ≡ true) × (rot (slotOf (slots z) (b / z .k) (b % z .k)) (b / z .k) ≡ false))
+            → Fits (b / z .k) (b % z .k)
+        fits (inl q) = inl q
+        fits (inr q) = inr (believe-is z (s .now) (slotOf (slots z) (b / z .k) (b % z .k)) (b / z .k) ∙ q .0, q .1)
+
+        told : Follows (size z) (quorum z more) (labels z) (records z) (code z more) stamps (sectors z more) rot w (idle o) (read-block T I) (sure v) (idle o, block X)
+        told =
+            follows z more rot w (idle o) (sure v) (h .holds) (read-block T I) tt (idle o, block X)
+            (ap (λ (g : Image Sector). programOf z (idle o) g (read-block T I)) (h .reads)
+            ∙ ap (λ (x : Bool). answer (size z) (no-sets (slots z)) (labels z) (records z) (any-code z) stamps (any-sectors z) (idle o) (first (record { why = BAD_BLOCK; holds = not x } ∷ [])) (idle o) (block X)) (may-read z img (h .disks) (s .now) (h .own) (s .absent) b work buf shows))
+
+  -- ---- A REPAIR FROM REST TO REST
+
+  module _ (rot : Rot) (w : World Sector) (img : List ℕ) (s : State) (v : Host Sector) (h : RestsRotten rot w img s v) (t : ℕ) (work : List ℕ) (b : Begun) (then : List ℕ) (small : Bytes then)
+      (r : Repairs s t img work b then) (ok : b .outcome ≡ outcome.Done) where
+    -- its steps come to Done
+    pub repair-comes-to-done : (s' : State) × (img' : List ℕ) × Stepping then (b .state) img s' img'
+    repair-comes-to-done = comes-to-done z then (toDo z (b .state) then img) (b .state) img (repair-goes z img (h .disks) s (h .own) t work b then small r ok .0) refl
+
+    -- AND THEN THE SHELF RESTS AGAIN, with the same list under the same label; nothing of the stripe is rotten, and nothing else has rotted
+    pub repair-rests : {s' : State} {img' : List ℕ} → Stepping then (b .state) img s' img'
+        → (rot' : Rot) × (w' : World Sector) × RestsRotten rot' w' img' s' v × (s' .now ≡ s .now) × ((d : ℕ) → rot' d t ≡ false) × ((d u : ℕ) → rot' d u ≡ true → rot d u ≡ true)
+    repair-rests steps =
+        let f = repair-mends z more img (h .disks) s (h .own) t work b then small r ok steps rot w (h .reads) v (h .holds) in
+        let g = repair-goes z img (h .disks) s (h .own) t work b then small r ok in
+        let e = stepping-rests z (repair-asked z (seenOf z (beyond (slots z) (inMask (s .absent))) img) t) then steps (g .1) (g .0) in
+        let n = e .2 ∙ g .3 in (
+          f .0,
+          f .1 .world,
+          record {
+            disks = e .0;
+            reads = f .1 .reads;
+            own = ap (ours z) n ∙ h .own;
+            idles = e .1;
+            holds = f .1 .holds;
+          },
+          n,
+          f .2,
+          f .3,
+        )
+
+  -- ---- FROM CALLS
 
   -- what is kept for all sets of at most m slots
   ready : (w : World Sector) (o : Own) (v : Host Sector) → KeepsIn z (every-few z more) (machine.at w (idle o)) (sure v) → Sane w × Ready (size z) (quorum z more) (labels z) (records z) (code z more) stamps (sectors z more) v w o
@@ -197,6 +321,7 @@ module _ (z : Shelf) (more : z .m < z .k) where
                 disks = t .disks;
                 reads = t .reads;
                 own = ⊎-elim (λ (f : Fair z s [] img × (plain (s .kind) ≡ true)). f .0 .ours-now) (λ (q : (s .kind ≡ Idle) × (ours z (s .now) ≡ true)). q .1) (t .order .1);
+                idles = idles;
                 holds = rot-ready (size z) (quorum z more) (labels z) (records z) (code z more) stamps (sectors z more) w o v (k .0) (k .1);
               }
 
@@ -205,15 +330,15 @@ module _ (z : Shelf) (more : z .m < z .k) where
           by (open-write v v') r t = absurd (subst (λ (x : Memory Sector). KeepsIn z F (machine.at w x) (open-write v v')) (rests z s img idles) (t .reached .keeps))
           by (kept-write v') r t = absurd (subst (λ (x : Memory Sector). KeepsIn z F (machine.at w x) (kept-write v')) (rests z s img idles) (t .reached .keeps))
 
-      -- ONE STRIP ROTS, AND ITS STRIPE IS REPAIRED: the list is as it was, and nothing is rotten any more
+      -- ONE STRIP ROTS, AND ITS STRIPE IS REPAIRED: the shelf rests again, with the same list, and nothing is rotten any more
       pub rots-then-mends : (d t : ℕ) (left : List ℕ) → Decays z d t img left → (room : List ℕ) (b : Begun) (then : List ℕ) → Bytes then → Repairs s t left room b then → b .outcome ≡ outcome.Done
           → {s' : State} {left' : List ℕ} → Stepping then (b .state) left s' left'
-          → (v : Host Sector) × Served c (sure blocks) (sure v) × (rot : Rot) × Mended z more rot s' left' v × ((e u : ℕ) → rot e u ≡ false)
+          → (v : Host Sector) × Served c (sure blocks) (sure v) × (rot : Rot) × (w' : World Sector) × RestsRotten rot w' left' s' v × (s' .now ≡ s .now) × ((e u : ℕ) → rot e u ≡ false)
       rots-then-mends d t left x room b then small r ok steps =
           let y = rest-rots in
           let h = decays-at-rest none-rotten w img s (y .0) (y .2) d t left x (λ e q. absurd (false≢true q)) in
-          let f = repair-mends z more left (h .disks) s (h .own) t room b then small r ok steps (spread none-rotten d t) (rotted z w d t left) (h .reads) (y .0) (h .holds) in
-          (y .0, y .1, f .0, f .1, λ e u. only (f .0) (f .2) (f .3) e u (f .0 e u) refl)
+          let f = repair-rests (spread none-rotten d t) (rotted z w d t left) left s (y .0) h t room b then small r ok steps in
+          (y .0, y .1, f .0, f .1, f .2, f .3, λ e u. only (f .0) (f .4) (f .5) e u (f .0 e u) refl)
         where
           only : (rot : Rot) → ((e : ℕ) → rot e t ≡ false) → ((e u : ℕ) → rot e u ≡ true → spread none-rotten d t e u ≡ true) → (e u : ℕ) (a : Bool) → rot e u ≡ a → a ≡ false
           only rot gone fewer e u true q = absurd (false≢true (sym (gone e) ∙ (ap (rot e) (sym (eqb-true u t (two (eqb e d) (eqb u t) (fewer e u q) .1))) ∙ q)))
