@@ -28,7 +28,7 @@ use Rattle.protocol.specs.Machine.{Machine, View, sure, open-write, kept-write}
 use Rattle.protocol.specs.Machine as machine
 use Rattle.protocol.specs.Invariant.{Ready}
 use Rattle.protocol.specs.Veil.{Rot, rotten, spread, two, cleaned, cleaned-agrees, cleaned-possible, Decayed}
-use Rattle.protocol.specs.Rot.{Fine, Follows, stays, decays, rot-promise, rot-ready}
+use Rattle.protocol.specs.Rot.{Fine, Follows, stays, decays as decayed, rot-promise, rot-ready}
 use Rattle.codecs.specs.Sector.{Sector, Bytes, sector-path}
 use Rattle.codecs.specs.Shelf.{Shelf, slots, geometry, size}
 use Rattle.codecs.specs.Labels.{fieldsOf, noLabel, labelOf, labels, ours}
@@ -174,12 +174,12 @@ module _ (z : Shelf) (more : z .m < z .k) where
     pub holds : RottenIn z more rot w (idle (ownOf z s (s .now))) (sure v)
 
   -- A STRIP ROTS AT REST, of a stripe in which no other is rotten
-  pub decays-at-rest : (rot : Rot) (w : World Sector) (img : List ℕ) (s : State) (v : Host Sector) → RestsRotten rot w img s v → (d t : ℕ) (left : List ℕ) → Decays z d t img left → ((e : ℕ) → rot e t ≡ true → e ≡ d)
+  pub decays : (rot : Rot) (w : World Sector) (img : List ℕ) (s : State) (v : Host Sector) → RestsRotten rot w img s v → (d t : ℕ) (left : List ℕ) → Decays z d t img left → ((e : ℕ) → rot e t ≡ true → e ≡ d)
       → RestsRotten (spread rot d t) (rotted z w d t left) left s v
-  decays-at-rest rot w img s v h d t left x alone =
+  decays rot w img s v h d t left x alone =
       let o = ownOf z s (s .now) in
       let q = rotted-decays z d t w img left (h .disks) (h .reads) x (h .holds .veil .sane) in
-      let r = rot-promise (size z) (quorum z more) (labels z) (records z) (code z more) stamps (sectors z more) (decays {m = idle o} d t q alone tt stays) (sure v) (h .holds) in
+      let r = rot-promise (size z) (quorum z more) (labels z) (records z) (code z more) stamps (sectors z more) (decayed {m = idle o} d t q alone tt stays) (sure v) (h .holds) in
       record {
         disks = x .disks;
         reads = rotted-reads z d t w img left (h .disks) (h .reads) x;
@@ -330,15 +330,16 @@ module _ (z : Shelf) (more : z .m < z .k) where
           by (open-write v v') r t = absurd (subst (λ (x : Memory Sector). KeepsIn z F (machine.at w x) (open-write v v')) (rests z s img idles) (t .reached .keeps))
           by (kept-write v') r t = absurd (subst (λ (x : Memory Sector). KeepsIn z F (machine.at w x) (kept-write v')) (rests z s img idles) (t .reached .keeps))
 
-      -- ONE STRIP ROTS, AND ITS STRIPE IS REPAIRED: the shelf rests again, with the same list, and nothing is rotten any more
+      -- ONE STRIP ROTS, AND ITS STRIPE IS REPAIRED: the shelf rests again, with the same list under the same label, and nothing is rotten any more
       pub rots-then-mends : (d t : ℕ) (left : List ℕ) → Decays z d t img left → (room : List ℕ) (b : Begun) (then : List ℕ) → Bytes then → Repairs s t left room b then → b .outcome ≡ outcome.Done
           → {s' : State} {left' : List ℕ} → Stepping then (b .state) left s' left'
-          → (v : Host Sector) × Served c (sure blocks) (sure v) × (rot : Rot) × (w' : World Sector) × RestsRotten rot w' left' s' v × (s' .now ≡ s .now) × ((e u : ℕ) → rot e u ≡ false)
-      rots-then-mends d t left x room b then small r ok steps =
+          → (v : Host Sector) × Served c (sure blocks) (sure v) × (w' : World Sector) × RestsRotten none-rotten w' left' s' v × (s' .now ≡ s .now)
+      rots-then-mends d t left x room b then small r ok {s'} {left'} steps =
           let y = rest-rots in
-          let h = decays-at-rest none-rotten w img s (y .0) (y .2) d t left x (λ e q. absurd (false≢true q)) in
+          let h = decays none-rotten w img s (y .0) (y .2) d t left x (λ e q. absurd (false≢true q)) in
           let f = repair-rests (spread none-rotten d t) (rotted z w d t left) left s (y .0) h t room b then small r ok steps in
-          (y .0, y .1, f .0, f .1, f .2, f .3, λ e u. only (f .0) (f .4) (f .5) e u (f .0 e u) refl)
+          let n : f .0 ≡ none-rotten = fun-ext (λ e. fun-ext (λ u. only (f .0) (f .4) (f .5) e u (f .0 e u) refl)) in
+          (y .0, y .1, f .1, subst (λ (rot : Rot). RestsRotten rot (f .1) left' s' (y .0)) n (f .2), f .3)
         where
           only : (rot : Rot) → ((e : ℕ) → rot e t ≡ false) → ((e u : ℕ) → rot e u ≡ true → spread none-rotten d t e u ≡ true) → (e u : ℕ) (a : Bool) → rot e u ≡ a → a ≡ false
           only rot gone fewer e u true q = absurd (false≢true (sym (gone e) ∙ (ap (rot e) (sym (eqb-true u t (two (eqb e d) (eqb u t) (fewer e u q) .1))) ∙ q)))
