@@ -27,7 +27,7 @@ use Rattle.protocol.specs.Pairs.{no-sets}
 use Rattle.protocol.specs.Machine.{Machine, View, sure, open-write, kept-write}
 use Rattle.protocol.specs.Machine as machine
 use Rattle.protocol.specs.Invariant.{Ready}
-use Rattle.protocol.specs.Veil.{Rot, rotten, spread, two, cleaned, cleaned-agrees, cleaned-possible, Decayed}
+use Rattle.protocol.specs.Veil.{Rot, rotten, OneEach, spread, two, cleaned, cleaned-agrees, cleaned-possible, Decayed}
 use Rattle.protocol.specs.Rot.{Fine, Follows, stays, decays as decayed, rot-promise, rot-ready}
 use Rattle.codecs.specs.Sector.{Sector, Bytes, sector-path}
 use Rattle.codecs.specs.Shelf.{Shelf, slots, geometry, size}
@@ -275,6 +275,63 @@ module _ (z : Shelf) (more : z .m < z .k) where
           f .2,
           f .3,
         )
+
+  -- ---- MANY STRIPS ROT, AND STRIPES ARE REPAIRED
+
+  -- what is true while some strips are rotten is true while more are called so
+  rotten-more : (rot more-rot : Rot) (w : World Sector) (img : List ℕ) (s : State) (v : Host Sector) → ((d t : ℕ) → rot d t ≡ true → more-rot d t ≡ true) → OneEach more-rot → RestsRotten rot w img s v → RestsRotten more-rot w img s v
+  rotten-more rot more-rot w img s v fewer one h =
+      record {
+        disks = h .disks;
+        reads = h .reads;
+        own = h .own;
+        idles = h .idles;
+        holds =
+            record {
+              clean = h .holds .clean;
+              veil = record { sane = h .holds .veil .sane; reads = λ k e. h .holds .veil .reads k (off k e); allows = λ k x e m. h .holds .veil .allows k x (off k e) m };
+              one = one;
+              stores = tt;
+              holds = h .holds .holds;
+            };
+      }
+    where
+      off : (k : Place) → rotten (z .c) more-rot k ≡ false → rotten (z .c) rot k ≡ false
+      off (label d b) e = refl
+      off (log d j) e = refl
+      off (strip d t j) e = by (rot d t) refl
+        where
+          by : (a : Bool) → rot d t ≡ a → (a && ltb j (z .c)) ≡ false
+          by true q = sym (ap (λ (y : Bool). y && ltb j (z .c)) (fewer d t q)) ∙ e
+          by false q = refl
+
+  -- all strips but those of stripe t
+  abbrev pub but-stripe : Rot → ℕ → Rot
+  but-stripe rot t d u = rot d u && not (eqb u t)
+
+  -- at rest, one after the other: a strip rots of a stripe in which no other is rotten; a repair is accepted and stepped to Done
+  pub data Ages (rot : Rot) (img : List ℕ) (s : State) : Rot → List ℕ → State → Type 0 where
+    none-yet : Ages rot img s rot img s
+    rots : {rot' : Rot} {img' : List ℕ} {s' : State} → Ages rot img s rot' img' s' → (d t : ℕ) (left : List ℕ) → Decays z d t img' left → ((e : ℕ) → rot' e t ≡ true → e ≡ d) → Ages rot img s (spread rot' d t) left s'
+    mends : {rot' : Rot} {img' : List ℕ} {s' : State} → Ages rot img s rot' img' s' → (t : ℕ) (work : List ℕ) (b : Begun) (then : List ℕ) → Bytes then → Repairs s' t img' work b then → b .outcome ≡ outcome.Done
+        → {s'' : State} {img'' : List ℕ} → Stepping then (b .state) img' s'' img'' → Ages rot img s (but-stripe rot' t) img'' s''
+
+  -- THE LIST IS AS IT WAS, under the same label; and no other strips are rotten than those that rotted since their stripe was repaired
+  pub ages-at-rest : (rot : Rot) (w : World Sector) (img : List ℕ) (s : State) (v : Host Sector) → RestsRotten rot w img s v → {rot' : Rot} {img' : List ℕ} {s' : State} → Ages rot img s rot' img' s'
+      → (w' : World Sector) × RestsRotten rot' w' img' s' v × (s' .now ≡ s .now)
+  ages-at-rest rot w img s v h none-yet = (w, h, refl)
+  ages-at-rest rot w img s v h (rots {rot' = rot'} {img' = img'} {s' = s'} a d t left x alone) =
+      let y = ages-at-rest rot w img s v h a in
+      (rotted z (y .0) d t left, decays rot' (y .0) img' s' v (y .1) d t left x alone, y .2)
+  ages-at-rest rot w img s v h (mends {rot' = rot'} {img' = img'} {s' = s'} a t work b then small r ok {s''} {img''} steps) =
+      let y = ages-at-rest rot w img s v h a in
+      let f = repair-rests rot' (y .0) img' s' v (y .1) t work b then small r ok steps in
+      let fewer : (d u : ℕ) → f .0 d u ≡ true → but-stripe rot' t d u ≡ true = λ d u q. kept (f .0) (f .4) d u q (rot' d u) (f .5 d u q) (eqb u t) refl in
+      (f .1, rotten-more (f .0) (but-stripe rot' t) (f .1) img'' s'' v fewer (λ d e u p q. y .1 .holds .one d e u (two (rot' d u) (not (eqb u t)) p .0) (two (rot' e u) (not (eqb u t)) q .0)) (f .2), f .3 ∙ y .2)
+    where
+      kept : (less : Rot) → ((e : ℕ) → less e t ≡ false) → (d u : ℕ) → less d u ≡ true → (a : Bool) → a ≡ true → (b : Bool) → eqb u t ≡ b → (a && not b) ≡ true
+      kept less gone d u q a p true e = absurd (false≢true (sym (gone d) ∙ (ap (less d) (sym (eqb-true u t e)) ∙ q)))
+      kept less gone d u q a p false e = ap (λ (y : Bool). y && true) p
 
   -- ---- FROM CALLS
 
