@@ -387,17 +387,24 @@ module _ (z : Shelf) (more : z .m < z .k) where
           by (open-write v v') r t = absurd (subst (λ (x : Memory Sector). KeepsIn z F (machine.at w x) (open-write v v')) (rests z s img idles) (t .reached .keeps))
           by (kept-write v') r t = absurd (subst (λ (x : Memory Sector). KeepsIn z F (machine.at w x) (kept-write v')) (rests z s img idles) (t .reached .keeps))
 
+      -- AND THERE STRIPS MAY ROT, at most one of a stripe at a time, and stripes be repaired: the list is as it was
+      pub calls-then-ages : {rot : Rot} {left : List ℕ} {s' : State} → Ages none-rotten img s rot left s'
+          → (v : Host Sector) × Served c (sure blocks) (sure v) × (w' : World Sector) × RestsRotten rot w' left s' v × (s' .now ≡ s .now)
+      calls-then-ages a =
+          let y = rest-rots in
+          let g = ages-at-rest none-rotten w img s (y .0) (y .2) a in
+          (y .0, y .1, g .0, g .1, g .2)
+
       -- ONE STRIP ROTS, AND ITS STRIPE IS REPAIRED: the shelf rests again, with the same list under the same label, and nothing is rotten any more
       pub rots-then-mends : (d t : ℕ) (left : List ℕ) → Decays z d t img left → (room : List ℕ) (b : Begun) (then : List ℕ) → Bytes then → Repairs s t left room b then → b .outcome ≡ outcome.Done
           → {s' : State} {left' : List ℕ} → Stepping then (b .state) left s' left'
           → (v : Host Sector) × Served c (sure blocks) (sure v) × (w' : World Sector) × RestsRotten none-rotten w' left' s' v × (s' .now ≡ s .now)
       rots-then-mends d t left x room b then small r ok {s'} {left'} steps =
-          let y = rest-rots in
-          let h = decays none-rotten w img s (y .0) (y .2) d t left x (λ e q. absurd (false≢true q)) in
-          let f = repair-rests (spread none-rotten d t) (rotted z w d t left) left s (y .0) h t room b then small r ok steps in
-          let n : f .0 ≡ none-rotten = fun-ext (λ e. fun-ext (λ u. only (f .0) (f .4) (f .5) e u (f .0 e u) refl)) in
-          (y .0, y .1, f .1, subst (λ (rot : Rot). RestsRotten rot (f .1) left' s' (y .0)) n (f .2), f .3)
+          let y = calls-then-ages (mends (rots none-yet d t left x (λ e q. absurd (false≢true q))) t room b then small r ok steps) in
+          let n : but-stripe (spread none-rotten d t) t ≡ none-rotten = fun-ext (λ e. fun-ext (λ u. clean (eqb e d) (eqb u t))) in
+          (y .0, y .1, y .2, subst (λ (rot : Rot). RestsRotten rot (y .2) left' s' (y .0)) n (y .3), y .4)
         where
-          only : (rot : Rot) → ((e : ℕ) → rot e t ≡ false) → ((e u : ℕ) → rot e u ≡ true → spread none-rotten d t e u ≡ true) → (e u : ℕ) (a : Bool) → rot e u ≡ a → a ≡ false
-          only rot gone fewer e u true q = absurd (false≢true (sym (gone e) ∙ (ap (rot e) (sym (eqb-true u t (two (eqb e d) (eqb u t) (fewer e u q) .1))) ∙ q)))
-          only rot gone fewer e u false q = refl
+          clean : (a b : Bool) → ((a && b) && not b) ≡ false
+          clean true true = refl
+          clean true false = refl
+          clean false b = refl
