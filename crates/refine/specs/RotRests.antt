@@ -5,7 +5,7 @@ use mathlib.Core.Path.{_≡_, refl, sym, ap, subst, _∙_, fun-ext}
 use mathlib.Core.Logic.{_⊎_, ⊎-elim, inl, inr, _≢_}
 use mathlib.Core.Bool.{Bool, true, false, cond, not, _&&_, _||_, false≢true}
 use mathlib.Core.List.{List, [], _∷_}
-use Prim.Native.Nat.{ℕ, _+_, _<_, _/_, _%_}
+use Prim.Native.Nat.{ℕ, _+_, _-_, _<_, _/_, _%_}
 use lib.Dec.{eqb, ltb}
 use lib.ListN.{length}
 use borrow.Author.Tests.{eq-eqb, eqb-true, ltb-true, lt-ltb}
@@ -17,10 +17,11 @@ use Rattle.label.specs.Bytes.{allZero}
 use Rattle.label.proofs.Counts.{same-says}
 use Rattle.redo.specs.Decide.{believed}
 use Rattle.redo.specs.Laws.{looked-below, believed-looked, believed-below}
-use Rattle.protocol.specs.World.{Place, label, log, strip, slot, Image, World, after, Possible, Sane, Always}
+use Rattle.protocol.specs.World.{Place, label, log, strip, slot, Image, World, Action, after, Possible, Sane, Always}
 use Rattle.protocol.specs.Log.{Write}
+use Rattle.protocol.specs.Label.{Label, looked}
 use Rattle.protocol.specs.Host.{Host, table, read}
-use Rattle.protocol.specs.Program.{BAD_BLOCK, first, Own, Memory, idle, read-block, block, beyond, mask, answer}
+use Rattle.protocol.specs.Program.{BAD_BLOCK, first, Own, Memory, nothing, idle, doing, logging, storing, read-block, block, beyond, mask, answer}
 use Rattle.protocol.specs.Even.{program-by}
 use Rattle.protocol.specs.Kept as Kept
 use Rattle.protocol.specs.Pairs.{no-sets}
@@ -28,7 +29,7 @@ use Rattle.protocol.specs.Machine.{Machine, View, sure, open-write, kept-write}
 use Rattle.protocol.specs.Machine as machine
 use Rattle.protocol.specs.Invariant.{Ready}
 use Rattle.protocol.specs.Veil.{Rot, rotten, OneEach, spread, two, cleaned, cleaned-agrees, cleaned-possible, Decayed}
-use Rattle.protocol.specs.Rot.{Fine, Follows, stays, decays as decayed, rot-promise, rot-ready}
+use Rattle.protocol.specs.Rot.{Fine, label-of, Allowed, stays, decays as decayed, rot-promise, rot-ready}
 use Rattle.codecs.specs.Sector.{Sector, Bytes, sector-path}
 use Rattle.codecs.specs.Shelf.{Shelf, slots, geometry, size}
 use Rattle.codecs.specs.Labels.{fieldsOf, noLabel, labelOf, labels, ours}
@@ -42,8 +43,9 @@ use Rattle.requests.specs.Ready.{isIdle}
 use Rattle.requests.specs.declared.begun.Begun.{Begun}
 use Rattle.shelf.specs.Act.{Move}
 use Rattle.shelf.specs.Step.{finished, stepMove}
-use Rattle.blocks.specs.Read.{laidBy, shownOf, readAnswer, afterRead, Shows, read-done}
+use Rattle.blocks.specs.Read.{laidBy, shownOf, readAnswer, afterRead, read-done}
 use Rattle.blocks.specs.Repair.{Repairs}
+use Rattle.stages.specs.Limits.{mostStages}
 use Rattle.stages.specs.declared.state.State.{State}
 use Rattle.stages.specs.declared.state.Kind.{Kind}
 use Rattle.stages.specs.declared.state.Kind.the-variants.{Idle}
@@ -52,9 +54,9 @@ use Rattle.refine.specs.Places.{sectorOf, inside, strip-is-inside, slot-
 use Rattle.refine.specs.Disks.{Disks, curOf, seenOf, cur-bytes, cur-outside}
 use Rattle.refine.specs.Rounds.{beyond-below}
 use Rattle.refine.specs.Redo.{believe-is}
-use Rattle.refine.specs.ToDo.{toDo}
+use Rattle.refine.specs.ToDo.{leftOf, toDo}
 use Rattle.refine.specs.Steps.{Fair}
-use Rattle.refine.specs.Tied.{ownOf, plain, programOf}
+use Rattle.refine.specs.Tied.{ownOf, ownBefore, writeMemory, memoryBy, memoryWith, plain, programOf}
 use Rattle.refine.specs.WriteList.{Writes, strip-same}
 use Rattle.refine.specs.Writes.{write-tied}
 use Rattle.refine.specs.Holds.{Wanted}
@@ -62,7 +64,7 @@ use Rattle.refine.specs.RepairAsked.{repair-asked, repair-goes}
 use Rattle.refine.specs.Chain.{Tie, rests, blocks, fresh}
 use Rattle.refine.specs.Chain as chain
 use Rattle.refine.specs.Hosts.{none, has, at, HostChain, Bound, not-rest}
-use Rattle.refine.specs.Reads.{shown-read, may-read}
+use Rattle.refine.specs.Reads.{shown-read, may-read, writing-shown}
 use Rattle.refine.specs.Serves.{Served, served-bound}
 use Rattle.refine.specs.RepairRot.{RottenIn, follows, step-ways, Stepping, last-step, then-on, comes-to-done, repair-mends}
 
@@ -74,6 +76,11 @@ pub record Decays (z : Shelf) (d t : ℕ) (img left : List ℕ) : Type 0 where
   pub stripe : t < stripesOf (geometry z)
   pub disks : Disks z left
   pub others : (e i : ℕ) → e < slots z → i < z .sectors → ((j : ℕ) → j < z .c → e ≡ d → i ≡ stripOf (geometry z) t + j → ⊥) → sector (z .sectors) left e i ≡ sector (z .sectors) img e i
+
+-- block b is fine: nothing of its stripe is rotten, or its own strip is believed and is not
+abbrev pub FineBlock : Shelf → Rot → State → ℕ → Type 0
+FineBlock z rot s b =
+    ((d : ℕ) → rot d (b / z .k) ≡ false) ⊎ ((believed (geometry z) (s .now) (slotOf (slots z) (b / z .k) (b % z .k)) (b / z .k) ≡ true) × (rot (slotOf (slots z) (b / z .k) (b % z .k)) (b / z .k) ≡ false))
 
 -- no strip is rotten
 abbrev pub none-rotten : Rot
@@ -190,6 +197,30 @@ module _ (z : Shelf) (more : z .m < z .k) where
 
   -- ---- WHAT IS NOT ROTTEN
 
+  -- what the program gives of a block that is fine is the list's entry
+  fine-entry : (rot : Rot) (w : World Sector) (img : List ℕ) (s : State) (v : Host Sector) → ours z (s .now) ≡ true → w .cur ≡ curOf z img → (b : ℕ) (m : Memory Sector) (x : ℕ → Sector) → RottenIn z more rot w m (sure v)
+      → label-of (size z) (quorum z more) (labels z) (records z) (code z more) stamps (sectors z more) m ≡ labelOf z (s .now)
+      → programOf z m (curOf z img) (read-block (b / s .now .k) (b % s .now .k)) ≡ (m, block x) → FineBlock z rot s b → stripBytes x (z .c) ≡ stripBytes (v (b / z .k) (b % z .k)) (z .c)
+  fine-entry rot w img s v own reads b m x h is e fine =
+      let T = b / s .now .k in
+      let I = b % s .now .k in
+      let k-is = same-says (fieldsOf z 0 (noLabel z)) (s .now) own .same-k in
+      let F = follows z more rot w m (sure v) h (read-block T I) (allowed m (w .cur) T I) (m, block x) (ap (λ (g : Image Sector). programOf z m g (read-block T I)) reads ∙ e) in
+      strip-same x (v T I) (z .c) (λ j l. F .told .1 j l (subst (λ (y : Label). Fits y T I) (sym is) (subst (λ (k : ℕ). Fits (labelOf z (s .now)) (b / k) (b % k)) k-is (fits fine))))
+      ∙ ap (λ (k : ℕ). stripBytes (v (b / k) (b % k)) (z .c)) (sym k-is)
+    where
+      allowed : (m : Memory Sector) (f : Image Sector) (t i : ℕ) → Allowed (size z) (quorum z more) (labels z) (records z) (code z more) stamps (sectors z more) rot m f (read-block t i)
+      allowed nothing f t i = tt
+      allowed (idle o) f t i = tt
+      allowed (doing k l o o') f t i = tt
+
+      Fits : Label → ℕ → ℕ → Type 0
+      Fits y t i = Fine (size z) (quorum z more) (labels z) (records z) (code z more) stamps (sectors z more) rot y t i
+
+      fits : FineBlock z rot s b → Fits (labelOf z (s .now)) (b / z .k) (b % z .k)
+      fits (inl q) = inl q
+      fits (inr q) = inr (believe-is z (s .now) (slotOf (slots z) (b / z .k) (b % z .k)) (b / z .k) ∙ q .0, q .1)
+
   module _ (rot : Rot) (w : World Sector) (img : List ℕ) (s : State) (v : Host Sector) (h : RestsRotten rot w img s v) where
     -- A STRIP THAT IS NOT ROTTEN and that the state's label believes is what the list asks for, whatever a cut leaves
     pub unrotten-right : (left : List ℕ) → Disks z left → Possible w (curOf z left) → (d t : ℕ) → rot d t ≡ false → believed (geometry z) (s .now) d t ≡ true → Wanted z v left d t
@@ -203,48 +234,49 @@ module _ (z : Shelf) (more : z .m < z .k) where
         (cleaned-agrees (z .c) rot c g (strip d t j) (ap (λ (y : Bool). y && ltb j (z .c)) sound)
         ∙ Kept.sound (size z) (quorum z more) (labels z) (records z) (code z more) stamps (sectors z more) v c (ownOf z s (s .now)) (h .holds .holds) (cleaned (z .c) rot c g) p d t j (believe-is z (s .now) d t ∙ b) l)
 
-    -- A BLOCK IS READ RIGHT whose stripe has nothing rotten, or whose own strip is believed and not rotten: a read that answers Done shows the list's entry
-    pub unrotten-reads : (b : ℕ) (work buf : List ℕ) → readAnswer (s .now) (s .kind) (s .absent) b (length img) (length buf) (length work) ≡ outcome.Done
-        → ((d : ℕ) → rot d (b / z .k) ≡ false) ⊎ ((believed (geometry z) (s .now) (slotOf (slots z) (b / z .k) (b % z .k)) (b / z .k) ≡ true) × (rot (slotOf (slots z) (b / z .k) (b % z .k)) (b / z .k) ≡ false))
+    -- A BLOCK THAT IS FINE IS READ RIGHT: a read that answers Done shows the list's entry
+    pub unrotten-reads : (b : ℕ) (work buf : List ℕ) → readAnswer (s .now) (s .kind) (s .absent) b (length img) (length buf) (length work) ≡ outcome.Done → FineBlock z rot s b
         → afterRead outcome.Done s b img work buf ≡ stripBytes (v (b / z .k) (b % z .k)) (z .c)
     unfolding program-by mask seenOf laidBy
     unrotten-reads b work buf ok fine =
+        let shows = read-done (s .now) (s .kind) (s .absent) b img work buf ok in
+        let o = ownOf z s (s .now) in
+        let X = read (size z) (no-sets (slots z)) (records z) (any-code z) (labelOf z (s .now)) (seenOf z (beyond (slots z) (inMask (s .absent))) img) (b / s .now .k) (b % s .now .k) in
         ap (λ (k : Kind). shownOf (s .now) (s .absent) (laidBy k (s .cursor .stage) (s .marks .redo) (s .marks .stripe) (b / s .now .k)) img work b) (h .idles)
         ∙ shown-read z img (h .disks) (s .now) (h .own) (s .absent) b work buf shows (λ e i a q. h .holds .holds .1 .dark e (beyond-below (slots z) (s .absent) e i ∙ a) q)
-        ∙ strip-same X (v T I) (z .c) (λ j l. told .told .1 j l (subst (λ (k : ℕ). Fits (b / k) (b % k)) k-is (fits fine)))
-        ∙ ap (λ (k : ℕ). stripBytes (v (b / k) (b % k)) (z .c)) (sym k-is)
+        ∙ fine-entry rot w img s v (h .own) (h .reads) b (idle o) X (h .holds) refl
+        (ap (λ (x : Bool). answer (size z) (no-sets (slots z)) (labels z) (records z) (any-code z) stamps (any-sectors z) (idle o) (first (record { why = BAD_BLOCK; holds = not x } ∷ [])) (idle o) (block X)) (may-read z img (h .disks) (s .now) (h .own) (s .absent) b work buf shows))
+        fine
+
+  -- ALSO WHILE A REPAIR IS UNDER WAY, after each of its steps
+  module _ (wr : Write Sector) (s : State) (work img : List ℕ) (h : Writes z s work wr) (fair : Fair z s work img) (rot : Rot) (w : World Sector) (reads : w .cur ≡ curOf z img) (v : Host Sector) (inv : RottenIn z more rot w (memoryWith z wr s work img) (sure v)) where
+    pub mending-reads : (b : ℕ) (buf : List ℕ) → readAnswer (s .now) (s .kind) (s .absent) b (length img) (length buf) (length work) ≡ outcome.Done → FineBlock z rot s b
+        → afterRead outcome.Done s b img work buf ≡ stripBytes (v (b / z .k) (b % z .k)) (z .c)
+    unfolding writeMemory
+    mending-reads b buf ok fine =
+        let l = leftOf z work (curOf z img) (2 - s .cursor .stage) s in
+        let l' = leftOf z work (curOf z img) mostStages s in
+        let is : memoryWith z wr s work img ≡ writeMemory z wr s work (curOf z img) = ap (λ (k : Kind). memoryBy k z s (writeMemory z wr s work (curOf z img)) (toDo z s work img)) (h .kind) in
+        let y = writing-shown z img s b work buf (read-done (s .now) (s .kind) (s .absent) b img work buf ok) wr h fair (λ e i a q. dark (ltb (s .cursor .stage) 2) l l' (subst (λ (x : Memory Sector). RottenIn z more rot w x (sure v)) is inv) e (beyond-below (slots z) (s .absent) e i ∙ a) q) in
+        ap (λ (k : Kind). shownOf (s .now) (s .absent) (laidBy k (s .cursor .stage) (s .marks .redo) (s .marks .stripe) (b / s .now .k)) img work b) (h .kind)
+        ∙ y .2 ∙ fine-entry rot w img s v (fair .ours-now) reads b (memoryWith z wr s work img) (y .0) inv (ap labelBy is ∙ same (ltb (s .cursor .stage) 2) l l') (y .1) fine
       where
-        shows : Shows (s .now) (s .absent) img work b buf
-        shows = read-done (s .now) (s .kind) (s .absent) b img work buf ok
-
-        T : ℕ
-        T = b / s .now .k
-
-        I : ℕ
-        I = b % s .now .k
-
         o : Own
-        o = ownOf z s (s .now)
+        o = ownBefore z s
 
-        X : ℕ → Sector
-        X = read (size z) (no-sets (slots z)) (records z) (any-code z) (labelOf z (s .now)) (seenOf z (beyond (slots z) (inMask (s .absent))) img) T I
+        o' : Own
+        o' = ownOf z s (s .next)
 
-        k-is : z .k ≡ s .now .k
-        k-is = same-says (fieldsOf z 0 (noLabel z)) (s .now) (h .own) .same-k
+        labelBy : Memory Sector → Label
+        labelBy = label-of (size z) (quorum z more) (labels z) (records z) (code z more) stamps (sectors z more)
 
-        Fits : ℕ → ℕ → Type 0
-        Fits t i = Fine (size z) (quorum z more) (labels z) (records z) (code z more) stamps (sectors z more) rot (labelOf z (s .now)) t i
+        same : (x : Bool) (l l' : List (Action Sector)) → labelBy (cond x (doing (logging wr) l o o') (doing (storing wr) l' o o')) ≡ labelOf z (s .now)
+        same true l l' = refl
+        same false l l' = refl
 
-        fits : ((d : ℕ) → rot d (b / z .k) ≡ false) ⊎ ((believed (geometry z) (s .now) (slotOf (slots z) (b / z .k) (b % z .k)) (b / z .k) ≡ true) × (rot (slotOf (slots z) (b / z .k) (b % z .k)) (b / z .k) ≡ false))
-            → Fits (b / z .k) (b % z .k)
-        fits (inl q) = inl q
-        fits (inr q) = inr (believe-is z (s .now) (slotOf (slots z) (b / z .k) (b % z .k)) (b / z .k) ∙ q .0, q .1)
-
-        told : Follows (size z) (quorum z more) (labels z) (records z) (code z more) stamps (sectors z more) rot w (idle o) (read-block T I) (sure v) (idle o, block X)
-        told =
-            follows z more rot w (idle o) (sure v) (h .holds) (read-block T I) tt (idle o, block X)
-            (ap (λ (g : Image Sector). programOf z (idle o) g (read-block T I)) (h .reads)
-            ∙ ap (λ (x : Bool). answer (size z) (no-sets (slots z)) (labels z) (records z) (any-code z) stamps (any-sectors z) (idle o) (first (record { why = BAD_BLOCK; holds = not x } ∷ [])) (idle o) (block X)) (may-read z img (h .disks) (s .now) (h .own) (s .absent) b work buf shows))
+        dark : (x : Bool) (l l' : List (Action Sector)) → RottenIn z more rot w (cond x (doing (logging wr) l o o') (doing (storing wr) l' o o')) (sure v) → (e : ℕ) → o' .absent e ≡ true → looked (size z) (labelOf z (s .now)) e ≡ true → ⊥
+        dark true l l' r e a q = r .holds .dark e a (ap (λ (y : Label). looked (size z) y e) (sym (r .holds .same-now)) ∙ q)
+        dark false l l' r e a q = r .holds .dark e a (ap (λ (y : Label). looked (size z) y e) (sym (r .holds .same-now)) ∙ q)
 
   -- ---- A REPAIR FROM REST TO REST
 
