@@ -247,11 +247,11 @@ module _ (z : Shelf) (img : List ℕ) (s : State) (b : ℕ) (work buf : List ℕ
           let a : List (Action Sector) = leftOf z work (curOf z img) (2 - s .cursor .stage) s in (
             X,
             gives X (doing (logging u) a o (ownOf z s (s .next)))
-            (memory-is ∙ ap (λ (x : Bool). cond x (doing (logging u) a o (ownOf z s (s .next))) (doing (storing u) (leftOf z work (curOf z img) mostStages s) o (ownOf z s (s .next)))) (lt-ltb (s .cursor .stage) 2 e))
-            (ap (λ (x : Bool). (doing (logging u) a o (ownOf z s (s .next)), meanwhile (size z) (no-sets (slots z)) (labels z) (records z) (any-code z) stamps (any-sectors z) (logging u) o seen T I (first (record { why = BAD_BLOCK; holds = not x } ∷ []))))
-            (may-read z img (fair .disks) (s .now) own (s .absent) b work buf shows)),
+                (memory-is ∙ ap (λ (x : Bool). cond x (doing (logging u) a o (ownOf z s (s .next))) (doing (storing u) (leftOf z work (curOf z img) mostStages s) o (ownOf z s (s .next)))) (lt-ltb (s .cursor .stage) 2 e))
+                (ap (λ (x : Bool). (doing (logging u) a o (ownOf z s (s .next)), meanwhile (size z) (no-sets (slots z)) (labels z) (records z) (any-code z) stamps (any-sectors z) (logging u) o seen T I (first (record { why = BAD_BLOCK; holds = not x } ∷ []))))
+                (may-read z img (fair .disks) (s .now) own (s .absent) b work buf shows)),
             ap (λ (x : Bool). shownOf (s .now) (s .absent) (cond (x && eqb (s .marks .stripe) T) (s .marks .redo) 0) img work b) (lt-leb-false 2 (s .cursor .stage) e)
-            ∙ shown-read z img (fair .disks) (s .now) own (s .absent) b work buf shows dark,
+                ∙ shown-read z img (fair .disks) (s .now) own (s .absent) b work buf shows dark,
           )
 
       late : 2 ≤ s .cursor .stage → Shown
@@ -260,11 +260,11 @@ module _ (z : Shelf) (img : List ℕ) (s : State) (b : ℕ) (work buf : List ℕ
           let a : List (Action Sector) = leftOf z work (curOf z img) mostStages s in (
             X,
             gives X (doing (storing u) a o (ownOf z s (s .next)))
-            (memory-is ∙ ap (λ (x : Bool). cond x (doing (logging u) (leftOf z work (curOf z img) (2 - s .cursor .stage) s) o (ownOf z s (s .next))) (doing (storing u) a o (ownOf z s (s .next)))) (le-ltb (s .cursor .stage) 2 e))
-            (ap (λ (x : Bool). (doing (storing u) a o (ownOf z s (s .next)), meanwhile (size z) (no-sets (slots z)) (labels z) (records z) (any-code z) stamps (any-sectors z) (storing u) o seen T I (first (record { why = BAD_BLOCK; holds = not x } ∷ []))))
-            (may-read z img (fair .disks) (s .now) own (s .absent) b work buf shows)),
+                (memory-is ∙ ap (λ (x : Bool). cond x (doing (logging u) (leftOf z work (curOf z img) (2 - s .cursor .stage) s) o (ownOf z s (s .next))) (doing (storing u) a o (ownOf z s (s .next)))) (le-ltb (s .cursor .stage) 2 e))
+                (ap (λ (x : Bool). (doing (storing u) a o (ownOf z s (s .next)), meanwhile (size z) (no-sets (slots z)) (labels z) (records z) (any-code z) stamps (any-sectors z) (storing u) o seen T I (first (record { why = BAD_BLOCK; holds = not x } ∷ []))))
+                (may-read z img (fair .disks) (s .now) own (s .absent) b work buf shows)),
             ap (λ (x : Bool). shownOf (s .now) (s .absent) (cond (x && eqb (s .marks .stripe) T) (s .marks .redo) 0) img work b) (le-leb 2 (s .cursor .stage) e)
-            ∙ shown-through z img (fair .disks) (s .now) own (s .absent) b work buf shows dark u (cond (eqb (s .marks .stripe) T) (s .marks .redo) 0) (same-over (eqb (s .marks .stripe) T) refl) (keeps-over (eqb (s .marks .stripe) T) refl),
+                ∙ shown-through z img (fair .disks) (s .now) own (s .absent) b work buf shows dark u (cond (eqb (s .marks .stripe) T) (s .marks .redo) 0) (same-over (eqb (s .marks .stripe) T) refl) (keeps-over (eqb (s .marks .stripe) T) refl),
           )
 
 module _ (z : Shelf) (F : Family z) (first-one : Machine Sector) (p : View Sector) (w : World Sector) (img : List ℕ) (s : State) (b : ℕ) (work buf : List ℕ)

@@ -1,9 +1,11 @@
 -- FROM CALLS TO ROT AND BACK, for k > m: every chain of calls that comes to rest comes to where a repair can begin (RepairRot), with nothing
 -- rotten. If sectors of one strip of a stripe then change by themselves, into anything, the host's list is still what it was; and an accepted
--- repair of the stripe, stepped to Done, ends with that list and with nothing of the stripe rotten. Assumes nothing.
+-- repair of the stripe, stepped to Done, ends with that list and with nothing of the stripe rotten. So it goes on, strip after strip and repair
+-- after repair; meanwhile every strip that is not rotten is what the list asks for, and blocks that are fine are read right, also while a repair
+-- is under way. Assumes nothing.
 use mathlib.Core.Path.{_≡_, refl, sym, ap, subst, _∙_, fun-ext}
 use mathlib.Core.Logic.{_⊎_, ⊎-elim, inl, inr, _≢_}
-use mathlib.Core.Bool.{Bool, true, false, cond, not, _&&_, _||_, false≢true}
+use mathlib.Core.Bool.{Bool, true, false, cond, not, _&&_, false≢true}
 use mathlib.Core.List.{List, [], _∷_}
 use Prim.Native.Nat.{ℕ, _+_, _-_, _<_, _/_, _%_}
 use lib.Dec.{eqb, ltb}
@@ -77,16 +79,11 @@ pub record Decays (z : Shelf) (d t : ℕ) (img left : List ℕ) : Type 0 where
   pub disks : Disks z left
   pub others : (e i : ℕ) → e < slots z → i < z .sectors → ((j : ℕ) → j < z .c → e ≡ d → i ≡ stripOf (geometry z) t + j → ⊥) → sector (z .sectors) left e i ≡ sector (z .sectors) img e i
 
--- block b is fine: nothing of its stripe is rotten, or its own strip is believed and is not
-abbrev pub FineBlock : Shelf → Rot → State → ℕ → Type 0
-FineBlock z rot s b =
-    ((d : ℕ) → rot d (b / z .k) ≡ false) ⊎ ((believed (geometry z) (s .now) (slotOf (slots z) (b / z .k) (b % z .k)) (b / z .k) ≡ true) × (rot (slotOf (slots z) (b / z .k) (b % z .k)) (b / z .k) ≡ false))
-
 -- no strip is rotten
 abbrev pub none-rotten : Rot
 none-rotten d t = false
 
--- the sectors of that strip
+-- the sectors of the strip of slot d in stripe t
 abbrev pub onStrip : Shelf → ℕ → ℕ → Place → Bool
 onStrip z d t = rotten (z .c) (spread none-rotten d t)
 
@@ -97,6 +94,11 @@ rotted z w d t left =
       cur = λ k. cond (onStrip z d t k) (curOf z left k) (w .cur k);
       may = λ k x. (onStrip z d t k ≡ true → x ≡ curOf z left k) × (onStrip z d t k ≡ false → w .may k x);
     }
+
+-- block b is fine: nothing of its stripe is rotten, or its own strip is believed and is not
+abbrev pub FineBlock : Shelf → Rot → State → ℕ → Type 0
+FineBlock z rot s b =
+    ((d : ℕ) → rot d (b / z .k) ≡ false) ⊎ ((believed (geometry z) (s .now) (slotOf (slots z) (b / z .k) (b % z .k)) (b / z .k) ≡ true) × (rot (slotOf (slots z) (b / z .k) (b % z .k)) (b / z .k) ≡ false))
 
 module _ (z : Shelf) (d t : ℕ) where
   -- a sector of the strip is one
