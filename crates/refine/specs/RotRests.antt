@@ -23,11 +23,12 @@ use Rattle.protocol.specs.World.{Place, label, log, strip, slot, Image, World, 
 use Rattle.protocol.specs.Log.{Write}
 use Rattle.protocol.specs.Label.{Label, looked}
 use Rattle.protocol.specs.Host.{Host, table, read}
-use Rattle.protocol.specs.Program.{BAD_BLOCK, first, Own, Memory, nothing, idle, doing, logging, storing, read-block, block, beyond, mask, answer}
+use Rattle.protocol.specs.Program.{BAD_BLOCK, first, Own, Memory, nothing, idle, doing, logging, storing, read-block, block, beyond, mask}
+use Rattle.protocol.specs.Program as program
 use Rattle.protocol.specs.Even.{program-by}
 use Rattle.protocol.specs.Kept as Kept
 use Rattle.protocol.specs.Pairs.{no-sets}
-use Rattle.protocol.specs.Machine.{Machine, View, sure, open-write, kept-write}
+use Rattle.protocol.specs.Machine.{Machine, effect, View, sure, open-write, kept-write}
 use Rattle.protocol.specs.Machine as machine
 use Rattle.protocol.specs.Invariant.{Ready}
 use Rattle.protocol.specs.Veil.{Rot, rotten, OneEach, spread, two, cleaned, cleaned-agrees, cleaned-possible, Decayed}
@@ -49,6 +50,7 @@ use Rattle.blocks.specs.Read.{laidBy, shownOf, readAnswer, afterRead, read-done
 use Rattle.blocks.specs.Repair.{Repairs}
 use Rattle.stages.specs.Limits.{mostStages}
 use Rattle.stages.specs.declared.state.State.{State}
+use Rattle.stages.specs.declared.state.Answer.the-variants as answer
 use Rattle.stages.specs.declared.state.Kind.{Kind}
 use Rattle.stages.specs.declared.state.Kind.the-variants.{Idle}
 use Rattle.refine.specs.Family.{Family, every-few, KeepsIn}
@@ -68,7 +70,7 @@ use Rattle.refine.specs.Chain as chain
 use Rattle.refine.specs.Hosts.{none, has, at, HostChain, Bound, not-rest}
 use Rattle.refine.specs.Reads.{shown-read, may-read, writing-shown}
 use Rattle.refine.specs.Serves.{Served, served-bound}
-use Rattle.refine.specs.RepairRot.{RottenIn, follows, step-ways, Stepping, last-step, then-on, comes-to-done, repair-mends}
+use Rattle.refine.specs.RepairRot.{RottenIn, repair-rot-begins, repair-rot-step, follows, step-ways, Stepping, last-step, then-on, comes-to-done, repair-mends}
 
 -- ---- A STRIP ROTS
 
@@ -162,6 +164,11 @@ module _ (z : Shelf) (d t : ℕ) where
         by k true e = (λ q. refl, λ q. absurd (false≢true (sym q)))
         by k false e = (λ q. absurd (false≢true q), λ q. sane k)
 
+-- the code's steps so far, none of which has answered Done
+pub data SoFar (work : List ℕ) (s : State) (img : List ℕ) : State → List ℕ → Type 0 where
+  no-step : SoFar work s img s img
+  one-step : {s' : State} {img' : List ℕ} → SoFar work s img s' img' → (stepMove s' work img' .stepped .answer ≡ answer.Done → ⊥) → SoFar work s img (stepMove s' work img' .stepped .state) (stepMove s' work img' .image)
+
 -- where the steps of a write end: the image is the shelf's, the state is at rest, and its label is the one that was to be settled
 stepping-rests : (z : Shelf) (wr : Write Sector) (work : List ℕ) {s s' : State} {img img' : List ℕ} → Stepping work s img s' img' → Writes z s work wr → Fair z s work img → Disks z img' × (s' .kind ≡ Idle) × (s' .now ≡ s .next)
 stepping-rests z wr work (last-step {s = s} {img = img} e) h fair =
@@ -247,12 +254,12 @@ module _ (z : Shelf) (more : z .m < z .k) where
         ap (λ (k : Kind). shownOf (s .now) (s .absent) (laidBy k (s .cursor .stage) (s .marks .redo) (s .marks .stripe) (b / s .now .k)) img work b) (h .idles)
         ∙ shown-read z img (h .disks) (s .now) (h .own) (s .absent) b work buf shows (λ e i a q. h .holds .holds .1 .dark e (beyond-below (slots z) (s .absent) e i ∙ a) q)
         ∙ fine-entry rot w img s v (h .own) (h .reads) b (idle o) X (h .holds) refl
-        (ap (λ (x : Bool). answer (size z) (no-sets (slots z)) (labels z) (records z) (any-code z) stamps (any-sectors z) (idle o) (first (record { why = BAD_BLOCK; holds = not x } ∷ [])) (idle o) (block X)) (may-read z img (h .disks) (s .now) (h .own) (s .absent) b work buf shows))
+        (ap (λ (x : Bool). program.answer (size z) (no-sets (slots z)) (labels z) (records z) (any-code z) stamps (any-sectors z) (idle o) (first (record { why = BAD_BLOCK; holds = not x } ∷ [])) (idle o) (block X)) (may-read z img (h .disks) (s .now) (h .own) (s .absent) b work buf shows))
         fine
 
-  -- ALSO WHILE A REPAIR IS UNDER WAY, after each of its steps
+  -- also while a repair is under way
   module _ (wr : Write Sector) (s : State) (work img : List ℕ) (h : Writes z s work wr) (fair : Fair z s work img) (rot : Rot) (w : World Sector) (reads : w .cur ≡ curOf z img) (v : Host Sector) (inv : RottenIn z more rot w (memoryWith z wr s work img) (sure v)) where
-    pub mending-reads : (b : ℕ) (buf : List ℕ) → readAnswer (s .now) (s .kind) (s .absent) b (length img) (length buf) (length work) ≡ outcome.Done → FineBlock z rot s b
+    mending-reads : (b : ℕ) (buf : List ℕ) → readAnswer (s .now) (s .kind) (s .absent) b (length img) (length buf) (length work) ≡ outcome.Done → FineBlock z rot s b
         → afterRead outcome.Done s b img work buf ≡ stripBytes (v (b / z .k) (b % z .k)) (z .c)
     unfolding writeMemory
     mending-reads b buf ok fine =
@@ -280,6 +287,18 @@ module _ (z : Shelf) (more : z .m < z .k) where
         dark true l l' r e a q = r .holds .dark e a (ap (λ (y : Label). looked (size z) y e) (sym (r .holds .same-now)) ∙ q)
         dark false l l' r e a q = r .holds .dark e a (ap (λ (y : Label). looked (size z) y e) (sym (r .holds .same-now)) ∙ q)
 
+  -- the steps of a write so far, none of which has answered Done, keep what holds at its beginning
+  steps-keep : (wr : Write Sector) (work : List ℕ) (s : State) (img : List ℕ) → Writes z s work wr → Fair z s work img → (rot : Rot) (w : World Sector) → w .cur ≡ curOf z img → (v : Host Sector) → RottenIn z more rot w (memoryWith z wr s work img) (sure v)
+      → {s' : State} {img' : List ℕ} → SoFar work s img s' img' → (w' : World Sector) × (w' .cur ≡ curOf z img') × Writes z s' work wr × Fair z s' work img' × RottenIn z more rot w' (memoryWith z wr s' work img') (sure v)
+  steps-keep wr work s img h fair rot w reads v inv no-step = (w, reads, h, fair, inv)
+  steps-keep wr work s img h fair rot w reads v inv (one-step {s' = s'} {img' = img'} a n) =
+      let y = steps-keep wr work s img h fair rot w reads v inv a in
+      let R = repair-rot-step z more wr s' work img' (y .2) rot (y .0) (y .1) v (y .3) (y .4) in
+      let g =
+      ⊎-elim (λ (q : Fair z (stepMove s' work img' .stepped .state) work (stepMove s' work img' .image) × Writes z (stepMove s' work img' .stepped .state) work wr). q) (λ q. absurd (n (ap (λ (x : Move). x .stepped .answer) q)))
+      (write-tied z wr s' work img' (y .2) (y .3) .goes-on) in
+      (effect (y .0) (R .reply), R .reads, g .1, g .0, ⊎-elim (λ q. absurd (n (q .0))) (λ q. q .1) (R .holds))
+
   -- ---- A REPAIR FROM REST TO REST
 
   module _ (rot : Rot) (w : World Sector) (img : List ℕ) (s : State) (v : Host Sector) (h : RestsRotten rot w img s v) (t : ℕ) (work : List ℕ) (b : Begun) (then : List ℕ) (small : Bytes then)
@@ -287,6 +306,15 @@ module _ (z : Shelf) (more : z .m < z .k) where
     -- its steps come to Done
     pub repair-comes-to-done : (s' : State) × (img' : List ℕ) × Stepping then (b .state) img s' img'
     repair-comes-to-done = comes-to-done z then (toDo z (b .state) then img) (b .state) img (repair-goes z img (h .disks) s (h .own) t work b then small r ok .0) refl
+
+    -- AT EVERY MOMENT UNTIL THEN a block that is fine is read right
+    pub repair-reads : {s' : State} {img' : List ℕ} → SoFar then (b .state) img s' img' → (n : ℕ) (buf : List ℕ) → readAnswer (s' .now) (s' .kind) (s' .absent) n (length img') (length buf) (length then) ≡ outcome.Done → FineBlock z rot s' n
+        → afterRead outcome.Done s' n img' then buf ≡ stripBytes (v (n / z .k) (n % z .k)) (z .c)
+    repair-reads {s'} {img'} a n buf done fine =
+        let W = repair-asked z (seenOf z (beyond (slots z) (inMask (s .absent))) img) t in
+        let g = repair-goes z img (h .disks) s (h .own) t work b then small r ok in
+        let y = steps-keep W then (b .state) img (g .1) (g .0) rot w (h .reads) v (repair-rot-begins z more img (h .disks) s (h .own) t work b then small r ok rot w (h .reads) v (h .holds)) a in
+        mending-reads W s' then img' (y .2) (y .3) rot (y .0) (y .1) v (y .4) n buf done fine
 
     -- AND THEN THE SHELF RESTS AGAIN, with the same list under the same label; nothing of the stripe is rotten, and nothing else has rotted
     pub repair-rests : {s' : State} {img' : List ℕ} → Stepping then (b .state) img s' img'
