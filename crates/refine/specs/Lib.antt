@@ -44,6 +44,7 @@ pub mod WriteAsked
 pub mod Mends
 pub mod RepairAsked
 pub mod RepairRot
+pub mod RotRests
 pub mod Hosts
 pub mod Since
 pub mod Reads

@@ -60,7 +60,7 @@ use Rattle.refine.specs.Keeps.{Works, keptAt, keptByte, keptStrip}
 use Rattle.refine.specs.ToDo.{leftOf, toDo}
 use Rattle.refine.specs.Steps.{Fair}
 use Rattle.refine.specs.Tied.{ownOf, ownBefore, writeIn, writeMemory, memoryBy, memoryWith, memoryOf, plain, programOf}
-use Rattle.refine.specs.WriteList.{strip-same}
+use Rattle.refine.specs.WriteList.{Writes, strip-same}
 use Rattle.refine.specs.Sees.{seenSlots, there-believed, there-lying}
 use Rattle.refine.specs.Chain.{Reached, Tie, asks-to}
 use Rattle.refine.specs.Chain as chain
@@ -187,6 +187,86 @@ module _ (z : Shelf) (img : List ℕ) (disks : Disks z img) (l : bytes.Label) (o
       ∙ sym (mod-eq-of-lt (works .small (keptAt z stripe d j p)))
       ∙ sym (byte-of (keptByte z work stripe d j) (λ i. mod-lt (getD work (keptAt z stripe d j i) 0) (lit< tt)) p hp))
 
+-- ---- while a write is under way
+
+module _ (z : Shelf) (img : List ℕ) (s : State) (b : ℕ) (work buf : List ℕ) (shows : Shows (s .now) (s .absent) img work b buf) (u : Write Sector) (writes : Writes z s work u) (fair : Fair z s work img)
+    (dark : (d : ℕ) → d < slots z → inMask (s .absent) d ≡ true → Label.looked (size z) (labelOf z (s .now)) d ≡ true → ⊥) where
+  own : ours z (s .now) ≡ true
+  own = fair .ours-now
+
+  abbrev T : ℕ
+  T = b / s .now .k
+
+  abbrev I : ℕ
+  I = b % s .now .k
+
+  abbrev o : Own
+  o = ownBefore z s
+
+  abbrev seen : Image Sector
+  seen = seenOf z (beyond (slots z) (inMask (s .absent))) img
+
+  abbrev M : Memory Sector
+  M = memoryWith z u s work img
+
+  -- what the program gives, and the code shows
+  abbrev Shown : Type 0
+  Shown = (x : ℕ → Sector) × (programOf z M (curOf z img) (read-block T I) ≡ (M, block x)) × (shownOf (s .now) (s .absent) (laidBy Writing (s .cursor .stage) (s .marks .redo) (s .marks .stripe) T) img work b ≡ stripBytes x (z .c))
+
+  same-over : (x : Bool) → eqb (s .marks .stripe) T ≡ x → (d : ℕ) → d < slots z → Label.believed (size z) (labelOf z (s .now)) d T ≡ true → inMask (cond x (s .marks .redo) 0) d ≡ (eqb T (u .stripe) && u .changes d)
+  same-over true e d h y =
+      let q : T ≡ u .stripe = sym (eqb-true (s .marks .stripe) T e) ∙ writes .stripe in
+      writes .involves d h ∙ ap (λ (x : ℕ). Label.believed (size z) (labelOf z (s .now)) d x && u .changes d) (sym q) ∙ ap (λ (x : Bool). x && u .changes d) (y ∙ sym (eq-eqb T (u .stripe) q))
+  same-over false e d h y =
+      in-past 0 0 d (lit< tt) (omega arith)
+      ∙ ap (λ (x : Bool). x && u .changes d) (sym (ne-eqb T (u .stripe) (λ q. eqb-false (s .marks .stripe) T e (writes .stripe ∙ sym q))))
+
+  keeps-over : (x : Bool) → eqb (s .marks .stripe) T ≡ x → Keeping z T (halfOf (geometryOf (s .now)) work) (cond x (s .marks .redo) 0) (u .new)
+  keeps-over true e r j hr hj y =
+      let d : ℕ = slotOf (slots z) T r in
+      let hd : d < slots z = slot-lt (slots z) T (some-slots z) r in
+      let c : u .changes d ≡ true = and-right (Label.believed (size z) (labelOf z (s .now)) d (u .stripe)) (u .changes d) (sym (writes .involves d hd) ∙ y) in
+      half-keeps z img (fair .disks) (s .now) own (s .absent) b work buf shows (writes .works) r j hr hj
+      ∙ ap (λ (x : ℕ). keptStrip z work x d j .bytes) (sym (eqb-true (s .marks .stripe) T e)) ∙ ap (λ (x : Sector). x .bytes) (writes .strips d j c hj)
+  keeps-over false e r j hr hj y = absurd (false≢true (sym (in-past 0 0 (slotOf (slots z) T r) (lit< tt) (omega arith)) ∙ y))
+
+  -- THE CODE SHOWS WHAT THE PROGRAM GIVES
+  pub writing-shown : Shown
+  unfolding writeMemory writeStage program-by mask seenOf laidBy
+  writing-shown = ⊎-elim early late (lt-or-ge (s .cursor .stage) 2)
+    where
+      memory-is : M ≡ writeMemory z u s work (curOf z img)
+      memory-is = ap (λ (k : Kind). memoryBy k z s (writeMemory z u s work (curOf z img)) (toDo z s work img)) (writes .kind)
+
+      gives : (x : ℕ → Sector) (m : Memory Sector) → M ≡ m → programOf z m (curOf z img) (read-block T I) ≡ (m, block x) → programOf z M (curOf z img) (read-block T I) ≡ (M, block x)
+      gives x m e q = ap (λ (y : Memory Sector). programOf z y (curOf z img) (read-block T I)) e ∙ (q ∙ ap (λ (y : Memory Sector). (y, block x)) (sym e))
+
+      early : s .cursor .stage < 2 → Shown
+      early e =
+          let X : ℕ → Sector = read (size z) (no-sets (slots z)) (records z) (any-code z) (labelOf z (s .now)) seen T I in
+          let a : List (Action Sector) = leftOf z work (curOf z img) (2 - s .cursor .stage) s in (
+            X,
+            gives X (doing (logging u) a o (ownOf z s (s .next)))
+                (memory-is ∙ ap (λ (x : Bool). cond x (doing (logging u) a o (ownOf z s (s .next))) (doing (storing u) (leftOf z work (curOf z img) mostStages s) o (ownOf z s (s .next)))) (lt-ltb (s .cursor .stage) 2 e))
+                (ap (λ (x : Bool). (doing (logging u) a o (ownOf z s (s .next)), meanwhile (size z) (no-sets (slots z)) (labels z) (records z) (any-code z) stamps (any-sectors z) (logging u) o seen T I (first (record { why = BAD_BLOCK; holds = not x } ∷ []))))
+                (may-read z img (fair .disks) (s .now) own (s .absent) b work buf shows)),
+            ap (λ (x : Bool). shownOf (s .now) (s .absent) (cond (x && eqb (s .marks .stripe) T) (s .marks .redo) 0) img work b) (lt-leb-false 2 (s .cursor .stage) e)
+                ∙ shown-read z img (fair .disks) (s .now) own (s .absent) b work buf shows dark,
+          )
+
+      late : 2 ≤ s .cursor .stage → Shown
+      late e =
+          let X : ℕ → Sector = read-through (size z) (no-sets (slots z)) (records z) (any-code z) u (labelOf z (s .now)) seen T I in
+          let a : List (Action Sector) = leftOf z work (curOf z img) mostStages s in (
+            X,
+            gives X (doing (storing u) a o (ownOf z s (s .next)))
+                (memory-is ∙ ap (λ (x : Bool). cond x (doing (logging u) (leftOf z work (curOf z img) (2 - s .cursor .stage) s) o (ownOf z s (s .next))) (doing (storing u) a o (ownOf z s (s .next)))) (le-ltb (s .cursor .stage) 2 e))
+                (ap (λ (x : Bool). (doing (storing u) a o (ownOf z s (s .next)), meanwhile (size z) (no-sets (slots z)) (labels z) (records z) (any-code z) stamps (any-sectors z) (storing u) o seen T I (first (record { why = BAD_BLOCK; holds = not x } ∷ []))))
+                (may-read z img (fair .disks) (s .now) own (s .absent) b work buf shows)),
+            ap (λ (x : Bool). shownOf (s .now) (s .absent) (cond (x && eqb (s .marks .stripe) T) (s .marks .redo) 0) img work b) (le-leb 2 (s .cursor .stage) e)
+                ∙ shown-through z img (fair .disks) (s .now) own (s .absent) b work buf shows dark u (cond (eqb (s .marks .stripe) T) (s .marks .redo) 0) (same-over (eqb (s .marks .stripe) T) refl) (keeps-over (eqb (s .marks .stripe) T) refl),
+          )
+
 module _ (z : Shelf) (F : Family z) (first-one : Machine Sector) (p : View Sector) (w : World Sector) (img : List ℕ) (s : State) (b : ℕ) (work buf : List ℕ)
     (ok : readAnswer (s .now) (s .kind) (s .absent) b (length img) (length buf) (length work) ≡ Done) where
   served : serves (s .kind) ≡ true
@@ -259,31 +339,20 @@ module _ (z : Shelf) (F : Family z) (first-one : Machine Sector) (p : View Secto
 
   -- while a write is under way
   pub read-writing : Laying z F first-one p w img s work → Right (s .kind)
-  unfolding writeMemory writeStage program-by mask seenOf laidBy
+  unfolding writeMemory
   read-writing t =
+      let y =
+      writing-shown z img s b work buf shows-it (t .written) (t .writes) (t .fair)
+      (λ d i a q. by (ltb (s .cursor .stage) 2) (leftOf z work (curOf z img) (2 - s .cursor .stage) s) (leftOf z work (curOf z img) mostStages s)
+      (subst (λ (k : Kind). Reached z F first-one p w (memoryBy k z s (writeMemory z (t .written) s work (curOf z img)) (toDo z s work img))) (t .writes .kind) (t .reached)) d (beyond-below (slots z) (s .absent) d i ∙ a) q) in
       subst Right (sym (t .writes .kind))
-      (⊎-elim early late (lt-or-ge (s .cursor .stage) 2))
+      (y .2 ∙ given-entry z img (t .disks) (s .now) (t .fair .ours-now) (s .absent) b work buf shows-it F first-one p w (t .reads) (memoryWith z (t .written) s work img) (y .0) (t .reached) (y .1))
     where
       u : Write Sector
       u = t .written
 
-      own : ours z (s .now) ≡ true
-      own = t .fair .ours-now
-
-      T : ℕ
-      T = b / s .now .k
-
-      I : ℕ
-      I = b % s .now .k
-
       o : Own
       o = ownBefore z s
-
-      f : Image Sector
-      f = seenOf z (beyond (slots z) (inMask (s .absent))) img
-
-      memory-is : memoryWith z u s work img ≡ writeMemory z u s work (curOf z img)
-      memory-is = ap (λ (k : Kind). memoryBy k z s (writeMemory z u s work (curOf z img)) (toDo z s work img)) (t .writes .kind)
 
       log-dark : (p : View Sector) (a : List (Action Sector)) → Reached z F first-one p w (doing (logging u) a o (ownOf z s (s .next))) → (d : ℕ) → o .absent d ≡ true → Label.looked (size z) (labelOf z (s .now)) d ≡ true → ⊥
       log-dark (sure v) l r d a q = r .keeps .reads
@@ -295,54 +364,10 @@ module _ (z : Shelf) (F : Family z) (first-one : Machine Sector) (p : View Secto
       store-dark (open-write v v') l r d a q = r .keeps .reads
       store-dark (kept-write v') l r d a q = r .keeps .reads .0 .dark d a q
 
-      dark-from : ((d : ℕ) → o .absent d ≡ true → Label.looked (size z) (labelOf z (s .now)) d ≡ true → ⊥) → (d : ℕ) → d < slots z → inMask (s .absent) d ≡ true → Label.looked (size z) (labelOf z (s .now)) d ≡ true → ⊥
-      dark-from h d i a q = h d (beyond-below (slots z) (s .absent) d i ∙ a) q
-
-      early : s .cursor .stage < 2 → Right Writing
-      early e =
-          let X : ℕ → Sector = read (size z) (no-sets (slots z)) (records z) (any-code z) (labelOf z (s .now)) f T I in
-          let a : List (Action Sector) = leftOf z work (curOf z img) (2 - s .cursor .stage) s in
-          let m : memoryWith z u s work img ≡ doing (logging u) a o (ownOf z s (s .next)) =
-          memory-is ∙ ap (λ (x : Bool). cond x (doing (logging u) a o (ownOf z s (s .next))) (doing (storing u) (leftOf z work (curOf z img) mostStages s) o (ownOf z s (s .next)))) (lt-ltb (s .cursor .stage) 2 e) in
-          let r = subst (Reached z F first-one p w) m (t .reached) in
-          ap (λ (x : Bool). shownOf (s .now) (s .absent) (cond (x && eqb (s .marks .stripe) T) (s .marks .redo) 0) img work b) (lt-leb e)
-          ∙ shown-read z img (t .disks) (s .now) own (s .absent) b work buf shows-it (dark-from (log-dark p a r))
-          ∙ given-entry z img (t .disks) (s .now) own (s .absent) b work buf shows-it F first-one p w (t .reads) (doing (logging u) a o (ownOf z s (s .next))) X r
-          (ap (λ (x : Bool). (doing (logging u) a o (ownOf z s (s .next)), meanwhile (size z) (no-sets (slots z)) (labels z) (records z) (any-code z) stamps (any-sectors z) (logging u) o f T I (first (record { why = BAD_BLOCK; holds = not x } ∷ []))))
-          (may-read z img (t .disks) (s .now) own (s .absent) b work buf shows-it))
-        where
-          lt-leb : s .cursor .stage < 2 → leb 2 (s .cursor .stage) ≡ false
-          lt-leb h = lt-leb-false 2 (s .cursor .stage) h
-
-      same-over : (x : Bool) → eqb (s .marks .stripe) T ≡ x → (d : ℕ) → d < slots z → Label.believed (size z) (labelOf z (s .now)) d T ≡ true → inMask (cond x (s .marks .redo) 0) d ≡ (eqb T (u .stripe) && u .changes d)
-      same-over true e d h y =
-          let q : T ≡ u .stripe = sym (eqb-true (s .marks .stripe) T e) ∙ t .writes .stripe in
-          t .writes .involves d h ∙ ap (λ (x : ℕ). Label.believed (size z) (labelOf z (s .now)) d x && u .changes d) (sym q) ∙ ap (λ (x : Bool). x && u .changes d) (y ∙ sym (eq-eqb T (u .stripe) q))
-      same-over false e d h y =
-          in-past 0 0 d (lit< tt) (omega arith)
-          ∙ ap (λ (x : Bool). x && u .changes d) (sym (ne-eqb T (u .stripe) (λ q. eqb-false (s .marks .stripe) T e (t .writes .stripe ∙ sym q))))
-
-      keeps-over : (x : Bool) → eqb (s .marks .stripe) T ≡ x → Keeping z T (halfOf (geometryOf (s .now)) work) (cond x (s .marks .redo) 0) (u .new)
-      keeps-over true e r j hr hj y =
-          let d : ℕ = slotOf (slots z) T r in
-          let hd : d < slots z = slot-lt (slots z) T (some-slots z) r in
-          let c : u .changes d ≡ true = and-right (Label.believed (size z) (labelOf z (s .now)) d (u .stripe)) (u .changes d) (sym (t .writes .involves d hd) ∙ y) in
-          half-keeps z img (t .disks) (s .now) own (s .absent) b work buf shows-it (t .writes .works) r j hr hj
-          ∙ ap (λ (x : ℕ). keptStrip z work x d j .bytes) (sym (eqb-true (s .marks .stripe) T e)) ∙ ap (λ (x : Sector). x .bytes) (t .writes .strips d j c hj)
-      keeps-over false e r j hr hj y = absurd (false≢true (sym (in-past 0 0 (slotOf (slots z) T r) (lit< tt) (omega arith)) ∙ y))
-
-      late : 2 ≤ s .cursor .stage → Right Writing
-      late e =
-          let X : ℕ → Sector = read-through (size z) (no-sets (slots z)) (records z) (any-code z) u (labelOf z (s .now)) f T I in
-          let a : List (Action Sector) = leftOf z work (curOf z img) mostStages s in
-          let m : memoryWith z u s work img ≡ doing (storing u) a o (ownOf z s (s .next)) =
-          memory-is ∙ ap (λ (x : Bool). cond x (doing (logging u) (leftOf z work (curOf z img) (2 - s .cursor .stage) s) o (ownOf z s (s .next))) (doing (storing u) a o (ownOf z s (s .next)))) (le-ltb (s .cursor .stage) 2 e) in
-          let r = subst (Reached z F first-one p w) m (t .reached) in
-          ap (λ (x : Bool). shownOf (s .now) (s .absent) (cond (x && eqb (s .marks .stripe) T) (s .marks .redo) 0) img work b) (le-leb 2 (s .cursor .stage) e)
-          ∙ shown-through z img (t .disks) (s .now) own (s .absent) b work buf shows-it (dark-from (store-dark p a r)) u (cond (eqb (s .marks .stripe) T) (s .marks .redo) 0) (same-over (eqb (s .marks .stripe) T) refl) (keeps-over (eqb (s .marks .stripe) T) refl)
-          ∙ given-entry z img (t .disks) (s .now) own (s .absent) b work buf shows-it F first-one p w (t .reads) (doing (storing u) a o (ownOf z s (s .next))) X r
-          (ap (λ (x : Bool). (doing (storing u) a o (ownOf z s (s .next)), meanwhile (size z) (no-sets (slots z)) (labels z) (records z) (any-code z) stamps (any-sectors z) (storing u) o f T I (first (record { why = BAD_BLOCK; holds = not x } ∷ []))))
-          (may-read z img (t .disks) (s .now) own (s .absent) b work buf shows-it))
+      by : (x : Bool) (l l' : List (Action Sector)) → Reached z F first-one p w (cond x (doing (logging u) l o (ownOf z s (s .next))) (doing (storing u) l' o (ownOf z s (s .next))))
+          → (d : ℕ) → o .absent d ≡ true → Label.looked (size z) (labelOf z (s .now)) d ≡ true → ⊥
+      by true l l' r = log-dark p l r
+      by false l l' r = store-dark p l' r
 
   -- while the program changes labels, it reads as before: with the label as it was, and without the slots that were absent
   read-before : (o : Own) (acts : List (Action Sector)) → Disks z img → w .cur ≡ curOf z img → ours z (s .now) ≡ true → o .now ≡ labelOf z (s .now)

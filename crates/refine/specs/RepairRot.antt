@@ -92,7 +92,7 @@ comes-to-done z work (flush c ∷ l) s img fair e =
     )
 
 -- a step ends the request, or keeps the label
-step-ways : (z : Shelf) (s : State) (work img : List ℕ) → Fair z s work img
+pub step-ways : (z : Shelf) (s : State) (work img : List ℕ) → Fair z s work img
     → (stepMove s work img ≡ finished s img) ⊎ ((stepMove s work img .stepped .answer ≡ answer.Done → ⊥) × (stepMove s work img .stepped .state .now ≡ s .now))
 step-ways z s work img fair = by (toDo z s work img) (step-does z work img s fair)
   where
@@ -108,7 +108,7 @@ module _ (z : Shelf) (more : z .m < z .k) where
   RottenIn = Rotten (size z) (quorum z more) (labels z) (records z) (code z more) stamps (sectors z more)
 
   -- what follows an answer of the program
-  follows : (rot : Rot) (w : World Sector) (m : Memory Sector) (p : View Sector) → RottenIn rot w m p → (i : Input Sector)
+  pub follows : (rot : Rot) (w : World Sector) (m : Memory Sector) (p : View Sector) → RottenIn rot w m p → (i : Input Sector)
       → Allowed (size z) (quorum z more) (labels z) (records z) (code z more) stamps (sectors z more) rot m (w .cur) i → (x : Memory Sector × Reply Sector) → programOf z m (w .cur) i ≡ x
       → Follows (size z) (quorum z more) (labels z) (records z) (code z more) stamps (sectors z more) rot w m i p x
   follows rot w m p h i a x e =
