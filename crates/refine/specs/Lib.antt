@@ -47,6 +47,7 @@ pub mod RepairRot
 pub mod RotRests
 pub mod Hosts
 pub mod Since
+pub mod WriteBound
 pub mod Reads
 pub mod HostHolds
 pub mod HostTrue
