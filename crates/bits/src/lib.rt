@@ -1,1 +1,2 @@
 // Laws of exclusive or, and tests that the prover computes: definitions and theorems in specs/, and no code.
+#![tactic(auto)]

@@ -71,7 +71,7 @@ fn take_mended(s: State, t: usize, r: usize, stripe: &[u8], work: &mut [u8]) -> 
         };
     }
     let half = (l.k + l.m) * (l.c * SECTOR);
-    bytes::copy(stripe, &mut work[..half]);
+    work[..half].copy_from_slice(stripe);
     let first = begin_mend(s, t, r);
     Begun {
         state: first,

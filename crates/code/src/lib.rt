@@ -1,6 +1,8 @@
 // Encode, rebuild, scrub and repair of one stripe: k data shards and m parity shards of `len` bytes, one behind the other in one
 // slice. Every function takes any numbers and any slice; what can't be done is refused, in the order of document 01, section 7,
 // and changes nothing.
+#![tactic(auto)]
+
 ghost use Rattle.std.specs.Prelude.{◌≡◌, [], ◌∷◌, length, drop, get_or, ℕ, ◌+◌, ◌*◌, ◌≤◌, ◌<◌};
 ghost use Rattle.codeword.specs.Stripe.{InRange, has, byte_at};
 ghost use Rattle.codeword.specs.Table.{SolvedFor};
@@ -28,7 +30,7 @@ const LEN_MOST: usize = 4096;
 const TABLE: usize = 57;
 
 // What a scrub says of a stripe.
-#[derive(Drop)]
+#[derive(Clone, Copy)]
 pub enum Verdict {
     // All equations hold.
     Sound,

@@ -1,4 +1,6 @@
 // CRC-32C by a table, sixteen bytes a turn. The table is copied once at each call.
+#![tactic(auto)]
+
 mod table;
 
 ghost use Rattle.std.specs.Prelude.{◌≡◌, ◌+◌, ◌%◌, ◌≤◌, ◌<◌, length, drop};
@@ -63,7 +65,7 @@ fn turn(t: &[u32], c: u32, bytes: &[u8], at: usize) -> u32
     early ^ word_in(t, c ^ word(bytes, at), 12)
 }
 
-#[derive(Drop)]
+#[derive(Clone, Copy)]
 struct Part {
     c: u32,
     at: usize,

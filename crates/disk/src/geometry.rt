@@ -10,7 +10,7 @@ use crate::limits::{
 use crate::refusal::Refusal;
 
 // n, c and S.
-#[derive(Drop)]
+#[derive(Clone, Copy)]
 pub struct Geometry {
     pub n: usize,
     pub c: usize,
@@ -18,14 +18,14 @@ pub struct Geometry {
 }
 
 // A number, or why there is none.
-#[derive(Drop)]
+#[derive(Clone, Copy)]
 pub enum Found {
     At(usize),
     Refused(Refusal),
 }
 
 // A data shard of a stripe, or why there is none.
-#[derive(Drop)]
+#[derive(Clone, Copy)]
 pub enum Placed {
     Shard { stripe: usize, shard: usize },
     Refused(Refusal),

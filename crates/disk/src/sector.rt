@@ -45,7 +45,7 @@ fn put_sector(image: &mut [u8], sectors: usize, d: usize, s: usize, bytes: &[u8]
 {
     let at = (d * sectors + s) * SECTOR;
     let e = at + SECTOR;
-    bytes::copy(bytes, &mut image[at..e]);
+    image[at..e].copy_from_slice(bytes);
 }
 
 // Sector s of slot d, a part of the image; the empty part where the image is not this shelf's, or has no such sector.

@@ -1,5 +1,7 @@
 // The field of 256 elements: bytes, with exclusive or as the sum and products modulo 0x11d. Single bytes first, then whole
 // slices byte by byte. Every function takes any argument; what can't be done is refused and changes nothing.
+#![tactic(auto)]
+
 ghost use Rattle.std.specs.Prelude.{◌≡◌, length};
 ghost use Rattle.std.specs.Int.Bits.{bit_xor};
 ghost use Rattle.field.specs.Field.{pick, mul_of, g, power_of, inverse_of};
@@ -11,7 +13,7 @@ ghost use Rattle.field.specs.Each.{Each, Combined};
 const REDUCTION: u8 = 0x1d;
 
 // Why a request of the parity layer is refused.
-#[derive(Drop)]
+#[derive(Clone, Copy)]
 pub enum Refusal {
     BadShape,
     TooMany,
@@ -32,14 +34,14 @@ pub fn number(x: Refusal) -> u32
 }
 
 // What became of a request that changes a slice.
-#[derive(Drop)]
+#[derive(Clone, Copy)]
 pub enum Answer {
     Done,
     Refused(Refusal),
 }
 
 // What became of a division.
-#[derive(Drop)]
+#[derive(Clone, Copy)]
 pub enum Quotient {
     Value(u8),
     Refused(Refusal),

@@ -6,7 +6,7 @@ ghost use Rattle.kernel.specs.Kernel.{MultiplesOf, times_of, Parts, MulAdded, Cl
 ghost use Rattle.kernel.specs.Kernel.{Shards, weight, Combined, row_at, RowZero};
 
 // A byte c and its doubles: c, 2c, 4c, .. 128c.
-#[derive(Drop)]
+#[derive(Clone, Copy)]
 struct Multiples {
     c0: u8,
     c1: u8,

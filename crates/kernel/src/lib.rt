@@ -1,6 +1,8 @@
 // Rows of a table over the bytes of a stripe: one shard as the sum of the others, each times its coefficient, and whether a row's sum is 0 at
 // every position. A stripe is n shards of `len` bytes, one behind the other, at the start of a slice. Both functions take any numbers and
 // any slices; where these don't fit they do nothing.
+#![tactic(auto)]
+
 ghost use Rattle.std.specs.Prelude.{◌≡◌, ◌&&◌, ◌+◌, ◌*◌, ◌≤◌, ◌<◌, ltb, length};
 ghost use Rattle.kernel.specs.Kernel.{fits_of, Shards, Combined, RowZero, Combines, Tests};
 

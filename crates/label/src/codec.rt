@@ -10,7 +10,7 @@ use disk::number::{byte_at, put_u16, put_u32, put_u64, u16_at, u32_at, u64_at};
 use disk::refusal::{Outcome, Refusal};
 
 // What a sector is, as a label.
-#[derive(Drop)]
+#[derive(Clone, Copy)]
 pub enum Decoded {
     Valid(Label),
     Nothing,
@@ -71,7 +71,7 @@ pub fn encode(l: Label, sector: &mut [u8]) -> Outcome
     let mut b = unsealed_of(l);
     let checksum = crc32c::crc32c(&b[..CHECKSUM]);
     put_u32(&mut b, CHECKSUM, checksum as u64);
-    bytes::copy(&b, sector);
+    sector.copy_from_slice(&b);
     Outcome::Done
 }
 

@@ -8,7 +8,7 @@ use disk::geometry::{Found, Geometry, in_range_with, stripes};
 use disk::limits::{MOST_K, MOST_M};
 use disk::mask::{all_below, has};
 
-#[derive(Drop)]
+#[derive(Clone, Copy)]
 pub struct Label {
     pub k: usize,
     pub m: usize,

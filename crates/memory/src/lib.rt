@@ -1,5 +1,7 @@
 // The shelf's state as lent bytes, for a caller who keeps it from one call to the next: 8 bytes for each number of the
 // state, lowest byte first. Any content is taken: whatever the bytes are, they are a state.
+#![tactic(auto)]
+
 ghost use Rattle.std.specs.Prelude.{◌≡◌, length};
 ghost use Rattle.disk.specs.declared.refusal.Outcome.TheVariants.{Done};
 ghost use Rattle.memory.specs.Bytes.{state_length, state_at, write_answer, after_write};

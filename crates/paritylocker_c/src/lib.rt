@@ -1,4 +1,6 @@
 // The C interface: numbers and byte slices. Each function takes any argument; include/paritylocker.h says what each answers.
+#![tactic(auto)]
+
 mod ended;
 mod host;
 mod labels;

@@ -8,5 +8,5 @@ pub(crate) fn fill(out: &mut [u8], at: usize, src: &[u8])
     ensures { out.new ≡ paste out.old at src.now (length src.now) }
 {
     let e = at + src.len();
-    bytes::copy(src, &mut out[at..e]);
+    out[at..e].copy_from_slice(src);
 }

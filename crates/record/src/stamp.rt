@@ -5,7 +5,7 @@ ghost use Rattle.record.specs.Stamp.{stamp_at, with_stamp, zero_stamp, same_stam
 
 use disk::number::{put_u64, u64_at};
 
-#[derive(Drop)]
+#[derive(Clone, Copy)]
 pub struct Stamp {
     pub epoch: u64,
     pub count: u64,

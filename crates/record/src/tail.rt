@@ -13,7 +13,7 @@ use disk::mask::all_below;
 use disk::number::{put_u64, u64_at};
 use disk::refusal::{Outcome, Refusal};
 
-#[derive(Drop)]
+#[derive(Clone, Copy)]
 pub struct Tail {
     pub stamp: Stamp,
     pub stripe: u64,
@@ -21,7 +21,7 @@ pub struct Tail {
 }
 
 // What a sector holds as a tail.
-#[derive(Drop)]
+#[derive(Clone, Copy)]
 pub enum Found {
     Record(Tail),
     Nothing,

@@ -1,5 +1,7 @@
 // What start-up decides about the log, once it has settled the label: whether the last write goes forward, from the records
 // of its slots, or is wiped. Nothing is written here. Every public function takes any numbers and any slice.
+#![tactic(auto)]
+
 pub mod belief;
 mod settle;
 mod tails;
@@ -16,7 +18,7 @@ use record::tail::Found;
 
 // Nothing to do; or the strip of this stripe is written on each of these slots, from the slot's own record; or the tail of
 // each of these slots is wiped.
-#[derive(Drop)]
+#[derive(Clone, Copy)]
 pub enum Redo {
     Nothing,
     Forward { stripe: usize, slots: u64 },

@@ -10,7 +10,7 @@ use disk::refusal::Outcome;
 use stages::state::{Marks, State};
 
 // Done: the request is under way, and the state is its first. A refusal hands the state back as it was.
-#[derive(Drop)]
+#[derive(Clone, Copy)]
 pub struct Begun {
     pub state: State,
     pub outcome: Outcome,

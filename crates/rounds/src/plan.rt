@@ -2,7 +2,7 @@
 use disk::refusal::Refusal;
 use label::fields::Label;
 
-#[derive(Drop)]
+#[derive(Clone, Copy)]
 pub struct Plan {
     // The shelf's label, as it stands: generation M.
     pub lead: Label,
@@ -18,7 +18,7 @@ pub struct Plan {
     pub kept: u64,
 }
 
-#[derive(Drop)]
+#[derive(Clone, Copy)]
 pub enum Survey {
     Plan(Plan),
     Refused(Refusal),

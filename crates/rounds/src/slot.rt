@@ -10,7 +10,7 @@ use label::fields::Label;
 use label::newest::{present_label, same_shelf};
 
 // The questions whose answers are masks of slots.
-#[derive(Drop)]
+#[derive(Clone, Copy)]
 pub enum Question {
     Out,
     Parts,

@@ -1,5 +1,7 @@
 // The code's table solved for a list of lost shards, by elimination. A table has m rows and n = k + m columns, row after row in a
 // lent slice: entry r of row j stands at j * n + r. Every public function takes any numbers and any slices.
+#![tactic(auto)]
+
 ghost use Rattle.std.specs.Prelude.{◌≡◌, ◌≢◌, ◌+◌, ◌*◌, ◌≤◌, ◌<◌, length, drop, get_or};
 ghost use Rattle.field.specs.Field.{mul_of};
 ghost use Rattle.codeword.specs.Stripe.{InRange, k_most, m_most, coef, has};

@@ -9,7 +9,7 @@ use label::fields::{Label, MOST_GENERATION};
 // What is done to each of its slots: a flush; the label, or zeros over its sector; zeros over the record's tail; the strip
 // from the record; the record of the shard that is kept in the work area, and that shard itself; zeros over the whole record;
 // zeros over one sector of the label; strips that are computed from those of the other slots.
-#[derive(Drop)]
+#[derive(Clone, Copy)]
 pub enum Stage {
     Flush {
         slots: u64,

@@ -7,7 +7,7 @@ use label::fields::Label;
 
 // What is under way. Nothing: no shelf is started. Labelling: one label change. Writing: the log, then the strips. Beginning: a
 // disk is readied for its rebuild. Filling: strips of it are rebuilt.
-#[derive(Drop)]
+#[derive(Clone, Copy)]
 pub enum Kind {
     Nothing,
     Idle,
@@ -20,7 +20,7 @@ pub enum Kind {
 }
 
 // Where a request is: its stage, and slot and sector in it.
-#[derive(Drop)]
+#[derive(Clone, Copy)]
 pub struct Cursor {
     pub stage: usize,
     pub slot: usize,
@@ -33,7 +33,7 @@ pub struct Cursor {
 // shards of this stripe that it changes. Of begin: redo is the slot; parts and then late have a label of another shelf in sector 1
 // and then 0 (forward), or in 0 and then 1; prep and zeroed as for start-up. Of a rebuild: redo is the slot, stripe the number of
 // strips, forward whether survivors contradicted each other.
-#[derive(Drop)]
+#[derive(Clone, Copy)]
 pub struct Marks {
     pub present: u64,
     pub parts: u64,
@@ -47,7 +47,7 @@ pub struct Marks {
 
 // now: the settled label (while starting: the one that was read). next: the label that the request under way settles.
 // epoch and count: the stamp of the last write.
-#[derive(Drop)]
+#[derive(Clone, Copy)]
 pub struct State {
     pub now: Label,
     pub next: Label,
@@ -60,7 +60,7 @@ pub struct State {
 }
 
 // What a step did. Done: the request under way has succeeded.
-#[derive(Drop)]
+#[derive(Clone, Copy)]
 pub enum Answer {
     Put { slot: usize, sector: usize },
     Flush { slot: usize },
@@ -68,7 +68,7 @@ pub enum Answer {
     Refused(Refusal),
 }
 
-#[derive(Drop)]
+#[derive(Clone, Copy)]
 pub struct Stepped {
     pub state: State,
     pub answer: Answer,

@@ -19,7 +19,7 @@ fn copy_sectors(from: &[u8], per: usize, d: usize, s: usize, part: &mut [u8])
 {
     let at = (d * per + s) * SECTOR;
     let e = at + part.len();
-    bytes::copy(&from[at..e], part);
+    part.copy_from_slice(&from[at..e]);
 }
 
 // Fills a part with zeros.

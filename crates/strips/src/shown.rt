@@ -65,7 +65,7 @@ fn rebuild_shard(
     fill(g.n, k, t, there, size, room);
     let at = r * size;
     let e = at + size;
-    bytes::copy(&room[at..e], out);
+    out.copy_from_slice(&room[at..e]);
 }
 
 // Whether the three buffers are as long as they must be.

@@ -18,14 +18,14 @@ use disk::refusal::{Outcome, Refusal};
 use disk::sector::fits_image;
 
 // What a scrub found, or why there was none.
-#[derive(Drop)]
+#[derive(Clone, Copy)]
 pub enum Scrubbed {
     Found(Verdict),
     Refused(Refusal),
 }
 
 // Whether a write was prepared, and whether it changes all shards of its stripe.
-#[derive(Drop)]
+#[derive(Clone, Copy)]
 pub struct Prepared {
     pub outcome: Outcome,
     pub all: bool,
@@ -219,7 +219,7 @@ fn write_block(
     let all = restore(g.n, k, t, there, size, stripe);
     let at = i * size;
     let e = at + size;
-    bytes::copy(bytes, &mut stripe[at..e]);
+    stripe[at..e].copy_from_slice(bytes);
     code::encode(k, g.n - k, size, stripe);
     all
 }
