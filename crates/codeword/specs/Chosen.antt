@@ -112,7 +112,7 @@ chosen_sum p f (suc n) h = go (p n) (h n (omega arith)) (chosen_sum p f n (λ i 
     go : (t : Bool) → (t ≡ false → f n ≡ 0) → total n f ≡ over (chosen p n) f
         → bit_xor (total n f) (f n) ≡ over (cond t (n ∷ chosen p n) (chosen p n)) f
     go true z ih = bytes.add_comm (total n f) (f n) ∙ ap (bit_xor (f n)) ih
-    go false z ih = ap₂ bit_xor ih (z refl) ∙ bytes.add-zero (over (chosen p n) f)
+    go false z ih = ap₂ bit_xor ih (z refl) ∙ bytes.add_zero (over (chosen p n) f)
 
 -- ---- counting
 

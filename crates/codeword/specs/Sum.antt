@@ -58,12 +58,12 @@ total_only (suc n) a f h z = go (eq-or-lt_of_le (le_of_suc-le-suc h)) (λ l. tot
   where
     go : (a ≡ n) ⊎ (a < n) → (a < n → total n f ≡ f a) → bit_xor (total n f) (f n) ≡ f a
     go (inl e) ih = ap (λ (x : ℕ). bit_xor x (f n)) (total_zero n f (λ i l. z i (omega arith) (λ q. omega arith))) ∙ ap f (sym e)
-    go (inr l) ih = ap₂ bit_xor (ih l) (z n (omega arith) (λ q. omega arith)) ∙ bytes.add-zero (f a)
+    go (inr l) ih = ap₂ bit_xor (ih l) (z n (omega arith) (λ q. omega arith)) ∙ bytes.add_zero (f a)
 
 -- the first n terms, and the next m
 pub total_split : (n m : ℕ) (f : ℕ → ℕ) → total (n + m) f ≡ bit_xor (total n f) (total m (λ i. f (n + i)))
 unfolding total
-total_split n zero f = ap (λ (k : ℕ). total k f) (add-zero n) ∙ sym (bytes.add-zero (total n f))
+total_split n zero f = ap (λ (k : ℕ). total k f) (add-zero n) ∙ sym (bytes.add_zero (total n f))
 total_split n (suc m) f =
     ap (λ (k : ℕ). total k f) (add-suc n m)
     ∙ ap (λ (x : ℕ). bit_xor x (f (n + m))) (total_split n m f)
@@ -110,7 +110,7 @@ total_except (suc n) a f h = go (eq-or-lt_of_le (le_of_suc-le-suc h)) (λ l. tot
         ap₂ bit_xor (total_ext n f (except a f) (λ i l. sym (except_off a i f (λ q. omega arith)))) (ap f (sym e))
         ∙ bytes.add_comm (total n (except a f)) (f a)
         ∙ ap (bit_xor (f a))
-        (sym (ap (bit_xor (total n (except a f))) (ap (except a f) (sym e) ∙ except_at a f) ∙ bytes.add-zero (total n (except a f))))
+        (sym (ap (bit_xor (total n (except a f))) (ap (except a f) (sym e) ∙ except_at a f) ∙ bytes.add_zero (total n (except a f))))
     go (inr l) ih =
         ap₂ bit_xor (ih l) (sym (except_off a n f (λ q. omega arith)))
         ∙ bytes.add_assoc (f a) (total n (except a f)) (except a f n)

@@ -539,7 +539,7 @@ module _ {X : Type 0} (z : Size) (W : Quorum z.n) (C : LabelCodec X z.n) (K : Re
   made_host w nothing x i p e h a = host_nothing w x p e h i a
   made_host w (idle o) x i p e h a = kin_host w (idle o) x i p e h.1 h.0
   made_host w (doing creating l o o') x i p e h a = absurd h
-  made_host w (doing starting l o o') x i p e h a = rising_host w o o' x e l p h w.cur i
+  made_host w (doing starting l o o') x i p e h a = rising_host w o o' x e l p h (mask (unseen (doing starting l o o') i) w.cur) i
   made_host w (doing (logging wr) l o o') x i p e h a = kin_host w (doing (logging wr) l o o') x i p e h.1 h.0
   made_host w (doing (storing wr) l o o') x i p e h a = kin_host w (doing (storing wr) l o o') x i p e h.1 h.0
   made_host w (doing labelling l o o') x i p e h a = kin_host w (doing labelling l o o') x i p e h.1 h.0

@@ -364,9 +364,9 @@ module _ {X : Type 0} (z : Size) (W : Quorum z.n) (C : LabelCodec X z.n) (K : Re
 
   pub spared_away : (m : Memory X) (f : Image X) (i : Input X) (a : Action X) → Sparing m → (program z W C K E S R m f i).1 ≡ did a → away m (slot_of a) ≡ false
   unfolding program
-  spared_away nothing f i a h e = absurd (false≢true (sym (quiet_nothing f i) ∙ ap is_did e))
-  spared_away (idle o) f i a h e = absurd (false≢true (sym (quiet_idle o f i) ∙ ap is_did e))
-  spared_away (doing k l o o') f i a h e = quiet_doing k l o o' f h i a e
+  spared_away nothing f i a h e = absurd (false≢true (sym (quiet_nothing (mask (unseen nothing i) f) i) ∙ ap is_did e))
+  spared_away (idle o) f i a h e = absurd (false≢true (sym (quiet_idle o (mask (unseen (idle o) i) f) i) ∙ ap is_did e))
+  spared_away (doing k l o o') f i a h e = quiet_doing k l o o' (mask (unseen (doing k l o o') i) f) h i a e
 
   pub sparing : (w : World X) (m : Memory X) (p : View X) → Invariant z W C K E S R (at w m) p → Sparing m
   sparing w nothing p h = tt
