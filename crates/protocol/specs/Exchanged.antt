@@ -20,7 +20,7 @@ use Rattle.protocol.specs.Decide.{Accepted, Rest, few_absent, some_seen, quiet_f
 use Rattle.protocol.specs.Spare.{Spares}
 use Rattle.protocol.specs.Host.{Host, blames, Code, proper, table}
 use Rattle.protocol.specs.Request.{outed}
-use Rattle.protocol.specs.Program.{Stamps, Medium, BAD_BLOCK, BUSY, TOO_FEW, Verdict, clear, because, Own, Kind, creating, starting, logging, storing, labelling, Memory, nothing, idle, doing, Input, create, start, read_block, write, take_out, begin, rebuild_on, scrub_stripe, repair, step, Reply, accepted, beyond, mask, finding, also, may, may_repair, may_start, may_create, asked_start, asked_create, asked_write, asked_repair, asked_out, asked_begin_lem, asked_on_lem, asked_heal, asked_raise, at_least_one_lem, last_batch, answer, from_idle, from_doing, one_step, meanwhile, scrubbed, program}
+use Rattle.protocol.specs.Program.{Stamps, Medium, BAD_BLOCK, BUSY, TOO_FEW, Verdict, clear, because, Own, Kind, creating, starting, logging, storing, labelling, Memory, nothing, idle, doing, Input, create, start, read_block, write, take_out, begin, rebuild_on, scrub_stripe, repair, step, Reply, accepted, beyond, mask, unseen, finding, also, may, may_repair, may_start, may_create, asked_start, asked_create, asked_write, asked_repair, asked_out, asked_begin_lem, asked_on_lem, asked_heal, asked_raise, at_least_one_lem, last_batch, answer, from_idle, from_doing, one_step, meanwhile, scrubbed, program}
 use Rattle.protocol.specs.Machine.{at, effect, Event, swap, ask, power_cut, program_dies, from_outside, from_host, View, sure, open_write, kept_write, Goes, Views, same, next}
 use Rattle.protocol.specs.Invariant.{Ghost, Left, Pends, Ready, Ends, Busy, Invariant}
 use Rattle.protocol.specs.Promise.{ready_early, beyond_in, beyond_none, mask_present, accept_f, same_label_lem, spared, start_safe, create_tests, Zeros, zeros_off, zeros_same, copy_zeros, simulate}
@@ -539,7 +539,7 @@ module _ {X : Type 0} (z : Size) (W : Quorum z.n) (C : LabelCodec X z.n) (K : Re
   made_host w nothing x i p e h a = host_nothing w x p e h i a
   made_host w (idle o) x i p e h a = kin_host w (idle o) x i p e h.1 h.0
   made_host w (doing creating l o o') x i p e h a = absurd h
-  made_host w (doing starting l o o') x i p e h a = rising_host w o o' x e l p h (mask (unseen (doing starting l o o') i) w.cur) i
+  made_host w (doing starting l o o') x i p e h a = rising_host w o o' x e l p h (mask z W C K E S R (unseen z W C K E S R (doing starting l o o') i) w.cur) i
   made_host w (doing (logging wr) l o o') x i p e h a = kin_host w (doing (logging wr) l o o') x i p e h.1 h.0
   made_host w (doing (storing wr) l o o') x i p e h a = kin_host w (doing (storing wr) l o o') x i p e h.1 h.0
   made_host w (doing labelling l o o') x i p e h a = kin_host w (doing labelling l o o') x i p e h.1 h.0

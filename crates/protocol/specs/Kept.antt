@@ -18,7 +18,7 @@ use Rattle.protocol.specs.Startup.{Framed, L, M, late, level_to, again_to, last_
 use Rattle.protocol.specs.Decide.{in_turn, settled, startup, Rest}
 use Rattle.protocol.specs.Spare.{Spares}
 use Rattle.protocol.specs.Host.{Host, Code, table}
-use Rattle.protocol.specs.Program.{Stamps, Medium, Verdict, clear, because, Own, Kind, creating, starting, logging, storing, labelling, Memory, nothing, idle, doing, Input, create, start, read_block, write, take_out, begin, rebuild_on, scrub_stripe, repair, step, Reply, accepted, refused, did, safe, done, block, found, scrubbed, beyond, mask, asked_start, may_start, may, may_repair, may_create, answer, one_step, meanwhile, choose, program}
+use Rattle.protocol.specs.Program.{Stamps, Medium, Verdict, clear, because, Own, Kind, creating, starting, logging, storing, labelling, Memory, nothing, idle, doing, Input, create, start, read_block, write, take_out, begin, rebuild_on, scrub_stripe, repair, step, Reply, accepted, refused, did, safe, done, block, found, scrubbed, beyond, mask, unseen, asked_start, may_start, may, may_repair, may_create, answer, one_step, meanwhile, choose, program}
 use Rattle.protocol.specs.Machine.{Machine, at, Event, Runs, View, sure, open_write, kept_write, Views}
 use Rattle.protocol.specs.Invariant.{Ghost, Under, Left, Pends, Off, Busy, Invariant}
 use Rattle.protocol.specs.Promise.{Zeros, zeros_off, under_framed, promise}
@@ -364,9 +364,9 @@ module _ {X : Type 0} (z : Size) (W : Quorum z.n) (C : LabelCodec X z.n) (K : Re
 
   pub spared_away : (m : Memory X) (f : Image X) (i : Input X) (a : Action X) → Sparing m → (program z W C K E S R m f i).1 ≡ did a → away m (slot_of a) ≡ false
   unfolding program
-  spared_away nothing f i a h e = absurd (false≢true (sym (quiet_nothing (mask (unseen nothing i) f) i) ∙ ap is_did e))
-  spared_away (idle o) f i a h e = absurd (false≢true (sym (quiet_idle o (mask (unseen (idle o) i) f) i) ∙ ap is_did e))
-  spared_away (doing k l o o') f i a h e = quiet_doing k l o o' (mask (unseen (doing k l o o') i) f) h i a e
+  spared_away nothing f i a h e = absurd (false≢true (sym (quiet_nothing (mask z W C K E S R (unseen z W C K E S R nothing i) f) i) ∙ ap is_did e))
+  spared_away (idle o) f i a h e = absurd (false≢true (sym (quiet_idle o (mask z W C K E S R (unseen z W C K E S R (idle o) i) f) i) ∙ ap is_did e))
+  spared_away (doing k l o o') f i a h e = quiet_doing k l o o' (mask z W C K E S R (unseen z W C K E S R (doing k l o o') i) f) h i a e
 
   pub sparing : (w : World X) (m : Memory X) (p : View X) → Invariant z W C K E S R (at w m) p → Sparing m
   sparing w nothing p h = tt

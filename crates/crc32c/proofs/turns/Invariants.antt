@@ -1,0 +1,14 @@
+-- `crc32c::turns` meets its contract. The loop's invariant: what is left, from the register so far, is the whole. Assumes nothing.
+use mathlib.Core.Path.{◌≡◌, refl, sym, ◌∙◌}
+use Prim.Native.Nat.{◌≤◌, ◌-◌}
+use native.Mathlib.Omega.{arith}
+use borrow.Author.Rules.{rules}
+use lib.ListN.{length, drop}
+use Rattle.crc32c.specs.Crc.{run}
+use Rattle.crc32c.proofs.turns.Given as goal
+
+abbrev pub invariant-loop-i : goal.invariant-loop-i
+invariant-loop-i l = (l.i ≤ length l.bytes) × (run l.r (drop l.i l.bytes) ≡ run l.c l.bytes)
+
+abbrev pub decreases-loop-i : goal.decreases-loop-i
+decreases-loop-i l = length l.bytes - l.i

@@ -1,0 +1,28 @@
+-- The products fit, since n and S are in range.
+use borrow.Author.Tests.{not-true, not-false}
+use mathlib.Core.Path.{◌≡◌, sym, ◌∙◌}
+use mathlib.Core.Bool.{true}
+use native.Mathlib.Omega.{arith}
+use Prim.Native.Nat.{◌-◌}
+use borrow.Author.Rules.{rules}
+use Rattle.disk.specs.Geometry.{in_range, image_bytes, in_range_lem, sectors_le}
+use Rattle.disk.proofs.geometry.image_len.Goals as goal
+
+pub returns-then-not-in_range : goal.returns-then-not-in_range
+returns-then-not-in_range c = rw (sym c.in_range.ensures ∙ c.if-not-in_range.true)
+
+pub overflow_mul-result : goal.overflow_mul-result
+overflow_mul-result c =
+    let ok : (in_range c.args.g ≡ true) = sym c.in_range.ensures ∙ c.if-not-in_range.false in
+    omega (arith, sectors_le _ (in_range_lem _ (ok)))
+
+pub overflow_mul-result-2 : goal.overflow_mul-result-2
+overflow_mul-result-2 c =
+    let ok : (in_range c.args.g ≡ true) = sym c.in_range.ensures ∙ c.if-not-in_range.false in
+    omega (arith, sectors_le _ (in_range_lem _ (ok)))
+
+pub returns : goal.returns
+unfolding image_bytes
+returns c =
+    let ok : (in_range c.args.g ≡ true) = sym c.in_range.ensures ∙ c.if-not-in_range.false in
+    rw (ok)

@@ -1,0 +1,50 @@
+-- Each way out is one of the three tests; d is below n, so that the sum fits.
+use native.Mathlib.Nat.{mod-lt}
+use borrow.Author.Tests.{le-ltb, lt-ltb, not-true, not-false}
+use mathlib.Core.Path.{◌≡◌, sym, ◌∙◌}
+use mathlib.Core.Bool.{true}
+use native.Mathlib.Omega.{arith}
+use Prim.Native.Nat.{◌-◌}
+use borrow.Author.Rules.{rules}
+use Rattle.disk.specs.Geometry.{in_range, stripes_of, shard_of, in_range_lem, InRange}
+use Rattle.disk.proofs.geometry.shard.Goals as goal
+
+pub returns-then-not-in_range : goal.returns-then-not-in_range
+returns-then-not-in_range c = rw (sym c.in_range.ensures ∙ c.if-not-in_range.true)
+
+pub count-requires : goal.count-requires
+count-requires c =
+    let ok : (in_range c.args.g ≡ true) = sym c.in_range.ensures ∙ c.if-not-in_range.false in
+    in_range_lem _ (ok)
+
+pub returns-then-count-t : goal.returns-then-count-t
+returns-then-count-t c =
+    let ok : (in_range c.args.g ≡ true) = sym c.in_range.ensures ∙ c.if-not-in_range.false in
+    let a = c.args in
+    rw (ok, le-ltb a.t (stripes_of a.g) (omega arith))
+
+pub returns-then-g-d : goal.returns-then-g-d
+returns-then-g-d c =
+    let ok : (in_range c.args.g ≡ true) = sym c.in_range.ensures ∙ c.if-not-in_range.false in
+    let a = c.args in
+    rw (ok, lt-ltb a.t (stripes_of a.g) (omega arith), le-ltb _ _ c.if-g-d.true)
+
+pub overflow_sub-result : goal.overflow_sub-result
+overflow_sub-result c =
+    let ok : (in_range c.args.g ≡ true) = sym c.in_range.ensures ∙ c.if-not-in_range.false in
+    let range : (InRange c.args.g) = in_range_lem _ (ok) in
+    let a = c.args in
+    omega (arith, mod-lt a.t {m = a.g.n} (omega (arith, (range).least)))
+
+pub overflow_add-result : goal.overflow_add-result
+overflow_add-result c =
+    let ok : (in_range c.args.g ≡ true) = sym c.in_range.ensures ∙ c.if-not-in_range.false in
+    let range : (InRange c.args.g) = in_range_lem _ (ok) in
+    omega (arith, (range).few)
+
+pub returns : goal.returns
+unfolding shard_of
+returns c =
+    let ok : (in_range c.args.g ≡ true) = sym c.in_range.ensures ∙ c.if-not-in_range.false in
+    let a = c.args in
+    rw (ok, lt-ltb a.t (stripes_of a.g) (omega arith), lt-ltb _ _ c.if-g-d.false)

@@ -1,0 +1,14 @@
+use Prim.Native.Nat.{◌<◌}
+use mathlib.Core.Path.{◌≡◌, ◌∙◌}
+use borrow.Author.Rules.{rules}
+use lib.Bits.{bit_xor}
+use Rattle.field.specs.Field.{mul_bits, mul_of}
+use Rattle.field.specs.Product.{mul_bytes}
+use Rattle.field.specs.Turns.{mul_turn, mul_done, double_byte}
+use Rattle.field.proofs.mul.Given as goal
+
+abbrev pub invariant-loop-n : goal.invariant-loop-n
+invariant-loop-n l = (l.x < 256) × (bit_xor l.sum (mul_bits l.n l.x l.y) ≡ mul_of l.a l.b)
+
+abbrev pub decreases-loop-n : goal.decreases-loop-n
+decreases-loop-n l = l.n

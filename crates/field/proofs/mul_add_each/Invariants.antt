@@ -1,0 +1,15 @@
+use Prim.Native.Nat.{◌-◌}
+use mathlib.Core.Path.{ap}
+use native.Mathlib.Omega.{arith}
+use borrow.Author.Rules.{rules}
+use lib.ListN.{length, length-set, get_or}
+use lib.Bits.{bit_xor}
+use Rattle.field.specs.Turns.{Begun, each_first, each_turn, each_done}
+use Rattle.field.specs.Field.{mul_of}
+use Rattle.field.proofs.mul_add_each.Given as goal
+
+abbrev pub invariant-loop-i : goal.invariant-loop-i
+invariant-loop-i l = Begun (λ d s. bit_xor d (mul_of l.c s)) l.i l.initial.dst l.src l.dst
+
+abbrev pub decreases-loop-i : goal.decreases-loop-i
+decreases-loop-i l = length l.dst - l.i

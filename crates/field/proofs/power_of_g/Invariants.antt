@@ -1,0 +1,12 @@
+use mathlib.Core.Path.{◌≡◌}
+use borrow.Author.Rules.{rules}
+use Prim.Native.Nat.{◌<◌}
+use Rattle.field.specs.Field.{mul_of, power_of}
+use Rattle.field.specs.Turns.{power_first, power_turn, power_done, double_byte}
+use Rattle.field.proofs.power_of_g.Given as goal
+
+abbrev pub invariant-loop-left : goal.invariant-loop-left
+invariant-loop-left l = (l.x < 256) × (mul_of l.x (power_of l.left) ≡ power_of l.n)
+
+abbrev pub decreases-loop-left : goal.decreases-loop-left
+decreases-loop-left l = l.left

@@ -1,0 +1,6 @@
+use borrow.Author.Rules.{rules}
+use Rattle.field.specs.Turns.{pick_pos}
+use Rattle.field.proofs.select.Goals as goal
+
+pub returns-else-bit-eq0 : goal.returns-else-bit-eq0
+returns-else-bit-eq0 c = pick_pos _ _ c.if-bit-eq0.false

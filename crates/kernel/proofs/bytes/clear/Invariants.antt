@@ -1,0 +1,13 @@
+use Prim.Native.Nat.{◌≤◌, ◌-◌}
+use mathlib.Core.Path.{refl}
+use native.Mathlib.Omega.{arith}
+use borrow.Author.Rules.{rules}
+use Rattle.kernel.specs.Kernel.{Cleared}
+use Rattle.kernel.specs.KernelTurns.{replaced_none, replaced_turn, replaced_done}
+use Rattle.kernel.proofs.bytes.clear.Given as goal
+
+abbrev pub invariant-loop-i : goal.invariant-loop-i
+invariant-loop-i l = (l.i ≤ l.len) × Cleared l.at l.i l.initial.buf l.buf
+
+abbrev pub decreases-loop-i : goal.decreases-loop-i
+decreases-loop-i l = l.len - l.i

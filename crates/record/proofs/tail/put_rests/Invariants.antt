@@ -1,0 +1,16 @@
+-- The loop's invariant: the last bytes of the first s sectors stand at their places. Its measure is what is left of c.
+use mathlib.Core.Path.{◌≡◌, refl, ap, ◌∙◌}
+use native.Mathlib.Omega.{arith}
+use lib.ListN.{length, take, drop}
+use Prim.Native.Nat.{ℕ, ◌≤◌, ◌-◌, ◌+◌, ◌*◌}
+use borrow.Author.Rules.{rules}
+use Rattle.record.specs.Tail.{pasted, pasted_turn}
+use Rattle.record.specs.Layout.{body, rest}
+use Rattle.disk.specs.Limits.{sector_bytes}
+use Rattle.record.proofs.tail.put_rests.Given as goal
+
+abbrev pub invariant-loop-s : goal.invariant-loop-s
+invariant-loop-s l = (l.s ≤ l.c) × (length l.out ≡ sector_bytes) × (l.out ≡ pasted l.s l.strip l.initial.out)
+
+abbrev pub decreases-loop-s : goal.decreases-loop-s
+decreases-loop-s l = l.c - l.s

@@ -1,0 +1,12 @@
+use Prim.Native.Nat.{◌-◌}
+use mathlib.Core.Path.{◌∙◌, sym}
+use borrow.Author.Rules.{rules}
+use lib.ListN.{length}
+use Rattle.solve.specs.Solving.{SolvedTo, solved_none, solved_last}
+use Rattle.solve.proofs.eliminate.Given as goal
+
+abbrev pub invariant-loop-c : goal.invariant-loop-c
+invariant-loop-c l = SolvedTo l.k l.m l.c l.lost l.e
+
+abbrev pub decreases-loop-c : goal.decreases-loop-c
+decreases-loop-c l = length l.lost - l.c
