@@ -1,5 +1,4 @@
 -- One test.
-use borrow.Author.Rules.{rules}
 use borrow.Author.Tests.{eq-eqb, ne_eqb}
 use Rattle.stages.specs.Stage.{create_stage}
 use Rattle.stages.proofs.stage.create_stage.Goals as goal

@@ -1,10 +1,5 @@
 use Rattle.stages.specs.Stage.{fill_stage}
 use borrow.Author.Tests.{eq-eqb, ne_eqb}
-use Prim.Native.Nat.{ℕ, ◌≤◌, ◌<◌, ◌-◌, ◌+◌, ◌*◌}
-use mathlib.Core.Path.{◌≡◌}
-use native.Mathlib.Omega.{arith}
-use lib.ListN.{length, length-set, get_or}
-use borrow.Author.Rules.{rules}
 use Rattle.stages.proofs.stage.fill_stage.Goals as goal
 
 pub returns-then-i-eq0 : goal.returns-then-i-eq0

@@ -1,5 +1,4 @@
 -- One test after the other.
-use borrow.Author.Rules.{rules}
 use borrow.Author.Tests.{eq-eqb, ne_eqb, le-leb, lt-leb}
 use mathlib.Core.Path.{ap}
 use Rattle.label.specs.declared.fields.Label.{Label}

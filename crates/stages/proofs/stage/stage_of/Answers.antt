@@ -1,5 +1,4 @@
 -- Where the generation is in range, one kind after the other.
-use borrow.Author.Rules.{rules}
 use borrow.Author.Tests.{le-leb, lt-leb}
 use mathlib.Core.Path.{sym, ap, ◌∙◌}
 use Rattle.stages.specs.Stage.{stage_at}
