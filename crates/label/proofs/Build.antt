@@ -1,11 +1,10 @@
 -- The label's bytes as the code writes them, field after field. Assumes nothing.
 use mathlib.Core.Path.{◌≡◌, refl, ap, ap₂, ◌∙◌}
-use mathlib.Core.List.{List, [], ◌∷◌, ◌++◌, append-nil}
+use mathlib.Core.List.{List, [], ◌∷◌, ◌++◌}
 use Prim.Native.Nat.{ℕ, ◌%◌}
-use native.Mathlib.Omega.{arith}
-use lib.ListN.{length, replicate, set, take, drop, drop_of_length-le}
-use lib.Seq.{sets, take-length}
-use Rattle.disk.specs.Number.{with_number, length_with, bytes_of}
+use lib.ListN.{length, replicate, set, take}
+use lib.Seq.{sets}
+use Rattle.disk.specs.Number.{with_number, bytes_of}
 use Rattle.crc32c.specs.Crc.{crc_of}
 use Rattle.label.specs.Bytes.{letters, version, label_bytes, sealed, unsealed}
 use Rattle.label.specs.declared.fields.Label.{Label}
@@ -41,12 +40,9 @@ pub with_sum : (l : Label) (x : ℕ) → with_number 4 (unsealed l) 508 x ≡ la
 unfolding bytes_of with_number label_bytes unsealed
 with_sum l x = refl
 
--- the bytes u with their checksum x, copied over a whole sector
-pub copied : (l : Label) (u s b : List ℕ) (x : ℕ) → u ≡ unsealed l → x ≡ crc_of (take 508 u) → s ≡ with_number 4 u 508 x → length b ≡ 512
-    → take (length s) s ++ drop (length s) b ≡ sealed l
+-- the bytes u with their checksum x
+pub copied : (l : Label) (u s : List ℕ) (x : ℕ) → u ≡ unsealed l → x ≡ crc_of (take 508 u) → s ≡ with_number 4 u 508 x → s ≡ sealed l
 unfolding sealed
-copied l u s b x eu ex es eb =
-    let n : length s ≡ 512 = ap length es ∙ length_with 4 u 508 x ∙ ap length eu ∙ length_unsealed l in
-    ap₂ (λ (p q : List ℕ). p ++ q) (take-length s) (drop_of_length-le b {i = length s} (omega arith)) ∙ append-nil s
-    ∙ es ∙ ap₂ (λ (v : List ℕ) (y : ℕ). with_number 4 v 508 y) eu (ex ∙ ap (λ (v : List ℕ). crc_of (take 508 v)) eu ∙ ap crc_of (before_sum l))
+copied l u s x eu ex es =
+    es ∙ ap₂ (λ (v : List ℕ) (y : ℕ). with_number 4 v 508 y) eu (ex ∙ ap (λ (v : List ℕ). crc_of (take 508 v)) eu ∙ ap crc_of (before_sum l))
     ∙ with_sum l (crc_of (label_bytes l))

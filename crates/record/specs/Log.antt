@@ -1,6 +1,6 @@
 -- A record in its area, c + 1 sectors in a row: its log sectors, when it is complete, and the strip that comes back.
 -- Assumes nothing.
-use Rattle.std.specs.Prelude.{◌≡◌, refl, ◌⊎◌, Bool, true, false, ◌&&◌, cond, not, ltb, eqb, length, take, drop, replicate}
+use Rattle.std.specs.Prelude.{◌≡◌, refl, Bool, true, false, ◌&&◌, cond, not, ltb, eqb, length, take, drop, replicate}
 use Rattle.std.proofs.Common.{sym, ap₂, ◌∙◌, ⊎_elim, eq-or-lt_of_le, le_of_suc-le-suc, suc-mul, length-drop, drop_of_length-le, take_at, drop_at, take-take, take-add, length-take-le, drop-drop, eq-eqb}
 use Rattle.std.proofs.Math.Path.{ap}
 use Rattle.std.proofs.Math.Bool.{and-true, and-false}

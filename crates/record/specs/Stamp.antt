@@ -1,6 +1,6 @@
 -- Stamps: epoch and count, each of 8 bytes, at a sector's beginning; greater stamps are later, the epoch first.
 -- Assumes nothing.
-use Rattle.std.specs.Prelude.{◌≡◌, refl, ◌⊎◌, Bool, true, false, ◌&&◌, ◌||◌, List, [], ◌++◌, ℕ, ◌+◌, ◌≤◌, ◌<◌, ◌^◌, ltb, eqb, length, drop, replicate}
+use Rattle.std.specs.Prelude.{◌≡◌, refl, ◌⊎◌, Bool, true, false, ◌&&◌, ◌||◌, List, [], ◌++◌, ℕ, ◌≤◌, ◌<◌, ◌^◌, ltb, eqb, length, drop, replicate}
 use Rattle.std.proofs.Common.{sym, ap, ap₂, ◌∙◌, inl, inr, ⊎_elim, append_assoc, arith, length-drop, drop-drop, ltb-true, eqb-true, lt-ltb, le-ltb, eq-eqb}
 use Rattle.disk.specs.Limits.{sector_bytes}
 use Rattle.disk.specs.Tests.{and_left, and_right}

@@ -1,6 +1,6 @@
 -- The tail: stamp, stripe, shards, then the last bytes of each of the strip's sectors, then zeros. What can be a write's
 -- tail, and that a tail that was written reads back. Assumes nothing.
-use Rattle.std.specs.Prelude.{◌≡◌, refl, ◌⊎◌, Bool, true, ◌&&◌, cond, not, List, [], ◌++◌, ℕ, zero, suc, ◌+◌, ◌*◌, ◌-◌, ◌≤◌, ◌<◌, ◌^◌, ltb, leb, eqb, length, take, drop, replicate}
+use Rattle.std.specs.Prelude.{◌≡◌, refl, Bool, true, ◌&&◌, cond, not, List, [], ◌++◌, ℕ, zero, suc, ◌+◌, ◌*◌, ◌-◌, ◌≤◌, ◌<◌, ◌^◌, ltb, leb, eqb, length, take, drop, replicate}
 use Rattle.std.proofs.Common.{sym, ap, ap₂, ◌∙◌, ⊎_elim, append_assoc, append-nil, suc-mul, eq-or-lt_of_le, le_of_suc-le-suc, add-one, arith, length-drop, length-append, drop_of_length-le, take_at, drop_at, take_all, length-take-le, drop-drop}
 use Rattle.std.proofs.lemmas.List.{length-replicate}
 use Rattle.std.proofs.Math.Seq.{paste, drop-append-add}

@@ -2,8 +2,7 @@
 use mathlib.Core.Path.{sym, ap, ◌∙◌}
 use Prim.Native.Nat.{◌%◌}
 use native.Mathlib.Omega.{arith}
-use borrow.Author.Tests.{eq-eqb, ne_eqb, not-true, not-false}
-use borrow.Author.Rules.{rules}
+use borrow.Author.Tests.{eq-eqb, ne_eqb}
 use lib.Seq.{length-take-le}
 use Rattle.label.specs.Fields.{fits_of}
 use Rattle.label.specs.Valid.{valid_of, decode_of}

@@ -1,8 +1,7 @@
 -- `label::codec::encode` meets its contract. The checksum of the first 508 bytes goes behind them, and the whole over the sector. Assumes nothing.
 use mathlib.Core.Path.{ap, refl, sym, ◌∙◌}
 use native.Mathlib.Omega.{arith}
-use borrow.Author.Tests.{eq-eqb, ne_eqb, not-true, not-false}
-use borrow.Author.Rules.{rules}
+use borrow.Author.Tests.{eq-eqb, ne_eqb}
 use lib.ListN.{length}
 use lib.Seq.{length-take-le}
 use Rattle.label.proofs.Build.{length_unsealed, copied}
@@ -25,6 +24,6 @@ pub returns : goal.returns
 unfolding encode_answer
 returns c = let a = c.args in (
   simp (eq-eqb _ _ c.if-sector-ne-SECTOR.false, sym c.fits.ensures ∙ c.if-not-fits.false),
-  c.copy_from_slice.ensures.after.1
-      ∙ copied a.l c.unsealed_of-b.result _ a.sector.now c.crc32c-checksum.result c.unsealed_of-b.ensures c.crc32c-checksum.ensures c.put_u32.ensures c.if-sector-ne-SECTOR.false,
+  c.copy_from_slice.ensures.after
+      ∙ copied a.l c.unsealed_of-b.result _ c.crc32c-checksum.result c.unsealed_of-b.ensures c.crc32c-checksum.ensures c.put_u32.ensures,
 )

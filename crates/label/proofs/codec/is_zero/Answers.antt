@@ -1,9 +1,5 @@
-use mathlib.Core.Path.{◌≡◌, refl, sym, ◌∙◌}
-use Prim.Native.Nat.{◌≤◌, ◌-◌}
+use mathlib.Core.Path.{refl, sym, ◌∙◌}
 use native.Mathlib.Omega.{arith}
-use borrow.Author.Rules.{rules}
-use lib.ListN.{length, drop}
-use Rattle.label.specs.Bytes.{all_zero}
 use Rattle.label.proofs.Zeros.{zero_here, zero_on, zero_end}
 use Rattle.label.proofs.codec.is_zero.Goals as goal
 

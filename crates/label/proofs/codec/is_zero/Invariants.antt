@@ -1,11 +1,8 @@
 -- `label::codec::is_zero` meets its contract. The loop's invariant: all is 0 from i on where all is 0. Assumes nothing.
-use mathlib.Core.Path.{◌≡◌, refl, sym, ◌∙◌}
+use mathlib.Core.Path.{◌≡◌}
 use Prim.Native.Nat.{◌≤◌, ◌-◌}
-use native.Mathlib.Omega.{arith}
-use borrow.Author.Rules.{rules}
 use lib.ListN.{length, drop}
 use Rattle.label.specs.Bytes.{all_zero}
-use Rattle.label.proofs.Zeros.{zero_here, zero_on, zero_end}
 use Rattle.label.proofs.codec.is_zero.Given as goal
 
 abbrev pub invariant-loop-i : goal.invariant-loop-i

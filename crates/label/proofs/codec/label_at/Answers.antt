@@ -1,5 +1,4 @@
 -- `label::codec::label_at` meets its contract. Each field is what is read at its offset. Assumes nothing.
-use borrow.Author.Rules.{rules}
 use Rattle.label.specs.Valid.{label_at}
 use Rattle.label.proofs.codec.label_at.Goals as goal
 

@@ -1,7 +1,5 @@
 -- `label::codec::zeros` meets its contract. One part after the other. Assumes nothing.
 use mathlib.Core.Path.{sym, ◌∙◌}
-use borrow.Author.Tests.{not-true, not-false}
-use borrow.Author.Rules.{rules}
 use Rattle.label.specs.Valid.{zeros_of}
 use Rattle.label.proofs.codec.zeros.Goals as goal
 

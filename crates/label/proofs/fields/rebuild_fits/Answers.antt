@@ -1,7 +1,6 @@
 -- `label::fields::rebuild_fits` meets its contract. One test after the other. Assumes nothing.
 use mathlib.Core.Path.{sym, ap, ◌∙◌}
-use borrow.Author.Tests.{eq-eqb, ne_eqb, le-ltb, lt-ltb, not-true, not-false}
-use borrow.Author.Rules.{rules}
+use borrow.Author.Tests.{eq-eqb, ne_eqb, le-ltb, lt-ltb}
 use Rattle.disk.specs.Geometry.{in_range}
 use Rattle.label.specs.Fields.{rebuild_fits}
 use Rattle.label.proofs.fields.rebuild_fits.Goals as goal

@@ -3,7 +3,6 @@ use mathlib.Core.Bool.{Bool, true}
 use mathlib.Core.Path.{◌≡◌, ap, ◌∙◌}
 use Prim.Native.Nat.{ℕ}
 use native.Mathlib.Omega.{arith}
-use borrow.Author.Rules.{rules}
 use Rattle.disk.specs.Geometry.{found, stripes_of}
 use Rattle.label.proofs.fields.stripes_of.Goals as goal
 

@@ -1,6 +1,5 @@
 -- `label::newest::agrees` meets its contract. By cases on the label. Assumes nothing.
 use mathlib.Core.Path.{sym, ap, ◌∙◌}
-use borrow.Author.Rules.{rules}
 use Rattle.label.specs.Newest.{agreeing}
 use Rattle.label.proofs.newest.agrees.Goals as goal
 

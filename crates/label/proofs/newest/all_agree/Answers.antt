@@ -1,9 +1,5 @@
-use mathlib.Core.Bool.{true}
 use mathlib.Core.Path.{◌≡◌, refl, sym, ap, ◌∙◌}
-use Prim.Native.Nat.{◌≤◌, ◌-◌}
 use native.Mathlib.Omega.{arith}
-use borrow.Author.Tests.{not-true, not-false}
-use borrow.Author.Rules.{rules}
 use Rattle.label.specs.Newest.{all_of, standing, agreed}
 use Rattle.label.proofs.Told.{past}
 use Rattle.label.proofs.Counts.{all_turn, all_not}

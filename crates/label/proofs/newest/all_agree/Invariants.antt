@@ -1,13 +1,8 @@
 -- `label::newest::all_agree` meets its contract. The loop's invariant: the slots passed stand. Assumes nothing.
 use mathlib.Core.Bool.{true}
-use mathlib.Core.Path.{◌≡◌, refl, sym, ap, ◌∙◌}
+use mathlib.Core.Path.{◌≡◌}
 use Prim.Native.Nat.{◌≤◌, ◌-◌}
-use native.Mathlib.Omega.{arith}
-use borrow.Author.Tests.{not-true, not-false}
-use borrow.Author.Rules.{rules}
-use Rattle.label.specs.Newest.{all_of, standing, agreed}
-use Rattle.label.proofs.Told.{past}
-use Rattle.label.proofs.Counts.{all_turn, all_not}
+use Rattle.label.specs.Newest.{all_of, standing}
 use Rattle.label.proofs.newest.all_agree.Given as goal
 
 abbrev pub invariant-loop-d : goal.invariant-loop-d

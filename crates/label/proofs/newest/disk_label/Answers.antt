@@ -2,7 +2,6 @@
 use mathlib.Core.Path.{ap, ap₂, ◌∙◌}
 use mathlib.Core.List.{List}
 use Prim.Native.Nat.{ℕ}
-use borrow.Author.Rules.{rules}
 use Rattle.label.specs.Valid.{decode_of}
 use Rattle.label.specs.Newest.{newer, newest_of, copy_of, disk_label}
 use Rattle.label.proofs.newest.disk_label.Goals as goal

@@ -1,7 +1,6 @@
 -- `label::newest::newer_of` meets its contract. By cases on both, and on the generations. Assumes nothing.
 use mathlib.Core.Path.{sym, ap₂, ◌∙◌}
 use borrow.Author.Tests.{lt-ltb, le-ltb}
-use borrow.Author.Rules.{rules}
 use Rattle.label.specs.Newest.{newer}
 use Rattle.label.proofs.newest.newer_of.Goals as goal
 

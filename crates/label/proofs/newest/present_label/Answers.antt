@@ -1,6 +1,5 @@
 -- `label::newest::present_label` meets its contract. By the bit of the mask. Assumes nothing.
 use mathlib.Core.Path.{sym, ◌∙◌}
-use borrow.Author.Rules.{rules}
 use Rattle.label.specs.Newest.{present_label}
 use Rattle.label.proofs.newest.present_label.Goals as goal
 

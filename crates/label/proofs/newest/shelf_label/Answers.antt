@@ -1,8 +1,5 @@
 use mathlib.Core.Path.{◌≡◌, refl, sym, ap, ap₂, ◌∙◌}
-use Prim.Native.Nat.{◌≤◌, ◌-◌}
 use native.Mathlib.Omega.{arith}
-use borrow.Author.Tests.{not-true, not-false}
-use borrow.Author.Rules.{rules}
 use Rattle.label.specs.Newest.{newer, present_label, newest_of, shelf_label}
 use Rattle.label.proofs.Counts.{newest_turn}
 use Rattle.label.proofs.newest.shelf_label.Goals as goal

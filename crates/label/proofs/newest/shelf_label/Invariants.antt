@@ -1,11 +1,7 @@
 -- `label::newest::shelf_label` meets its contract. The loop's invariant: the newest of the slots passed. Assumes nothing.
-use mathlib.Core.Path.{◌≡◌, refl, sym, ap, ap₂, ◌∙◌}
+use mathlib.Core.Path.{◌≡◌}
 use Prim.Native.Nat.{◌≤◌, ◌-◌}
-use native.Mathlib.Omega.{arith}
-use borrow.Author.Tests.{not-true, not-false}
-use borrow.Author.Rules.{rules}
-use Rattle.label.specs.Newest.{newer, present_label, newest_of, shelf_label}
-use Rattle.label.proofs.Counts.{newest_turn}
+use Rattle.label.specs.Newest.{present_label, newest_of}
 use Rattle.label.proofs.newest.shelf_label.Given as goal
 
 abbrev pub invariant-loop-d : goal.invariant-loop-d

@@ -1,6 +1,5 @@
 -- `label::newest::stands` meets its contract. By the bit of the mask. Assumes nothing.
 use mathlib.Core.Path.{sym, ap, ◌∙◌}
-use borrow.Author.Rules.{rules}
 use Rattle.label.specs.Newest.{agreeing, standing}
 use Rattle.label.proofs.newest.stands.Goals as goal
 

@@ -2,11 +2,7 @@
 use mathlib.Core.Path.{ap, ◌∙◌}
 use Rattle.label.specs.Strange.{strange_in, strange_of}
 use Rattle.label.specs.Valid.{label_at, decode_of}
-use Prim.Native.Nat.{ℕ, ◌≤◌, ◌<◌, ◌-◌, ◌+◌, ◌*◌}
-use mathlib.Core.Path.{◌≡◌}
-use native.Mathlib.Omega.{arith}
-use lib.ListN.{length, length-set, get_or}
-use borrow.Author.Rules.{rules}
+use Prim.Native.Nat.{ℕ}
 use Rattle.label.proofs.strange.strange.Goals as goal
 
 pub returns : goal.returns

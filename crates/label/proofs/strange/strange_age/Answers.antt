@@ -1,11 +1,6 @@
 -- `strange_age` meets its contract. By cases on the copy, and on whose it is. Assumes nothing.
 use mathlib.Core.Path.{sym, ap, ◌∙◌}
 use Rattle.label.specs.Strange.{strange_in}
-use Prim.Native.Nat.{ℕ, ◌≤◌, ◌<◌, ◌-◌, ◌+◌, ◌*◌}
-use mathlib.Core.Path.{◌≡◌}
-use native.Mathlib.Omega.{arith}
-use lib.ListN.{length, length-set, get_or}
-use borrow.Author.Rules.{rules}
 use Rattle.label.proofs.strange.strange_age.Goals as goal
 
 pub returns-then-is_own : goal.returns-then-is_own

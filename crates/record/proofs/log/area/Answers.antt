@@ -1,11 +1,10 @@
 -- The c + 1 sectors lie before the first strip, and so within the image.
-use borrow.Author.Tests.{le-ltb, lt-ltb, not-true, not-false}
+use borrow.Author.Tests.{le-ltb, lt-ltb}
 use mathlib.Core.Path.{◌≡◌, sym, ap, ◌∙◌}
 use mathlib.Core.Bool.{true}
 use native.Mathlib.Omega.{arith}
 use lib.ListN.{length, take, drop}
 use Prim.Native.Nat.{ℕ, ◌≤◌, ◌-◌, ◌+◌, ◌*◌}
-use borrow.Author.Rules.{rules}
 use Rattle.record.specs.Log.{area_of}
 use Rattle.disk.specs.Limits.{sector_bytes, first_log}
 use Rattle.disk.specs.Image.{place, Shape, fits_image, place_fits, fits_image_lem}
@@ -84,6 +83,16 @@ overflow_add-e-2 c =
 pub slice_bounds-result-count : goal.slice_bounds-result-count
 unfolding Shape
 slice_bounds-result-count c =
+    let fits : (let a = c.args in fits_image a.g (length a.image.now) ≡ true) = sym c.fits_image.ensures ∙ c.if-not-fits_image.false in
+    let inside : (let a = c.args in
+    place a.g.sectors a.d first_log + (a.g.c + 1) * sector_bytes ≤ length a.image.now) = let a = c.args in
+    let f = fits_image_lem a.g a.image.now (fits) in
+    omega (arith, f.1, place_fits a.g.n a.g.sectors a.d (first_log + a.g.c) (omega arith) (omega (arith, f.0.room))) in
+    omega (arith, inside)
+
+pub slice_bounds-result-end-2 : goal.slice_bounds-result-end-2
+unfolding Shape
+slice_bounds-result-end-2 c =
     let fits : (let a = c.args in fits_image a.g (length a.image.now) ≡ true) = sym c.fits_image.ensures ∙ c.if-not-fits_image.false in
     let inside : (let a = c.args in
     place a.g.sectors a.d first_log + (a.g.c + 1) * sector_bytes ≤ length a.image.now) = let a = c.args in

@@ -1,9 +1,8 @@
 -- The tests, in a row.
-use borrow.Author.Tests.{ne_eqb, eq-eqb, not-true, not-false}
+use borrow.Author.Tests.{ne_eqb, eq-eqb}
 use mathlib.Core.Path.{◌≡◌, sym, ap, ◌∙◌}
 use mathlib.Core.Bool.{true}
 use native.Mathlib.Omega.{arith}
-use borrow.Author.Rules.{rules}
 use Rattle.record.specs.Stamp.{zero_stamp}
 use Rattle.record.specs.Log.{stamps_same, complete_of}
 use Rattle.disk.specs.Geometry.{strip_length, strip_length_lem}

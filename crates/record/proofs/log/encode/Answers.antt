@@ -6,7 +6,6 @@ use native.Mathlib.Omega.{arith}
 use lib.ListN.{length, take}
 use lib.Seq.{paste, length-take-le}
 use Prim.Native.Nat.{ℕ}
-use borrow.Author.Rules.{rules}
 use Rattle.record.specs.Log.{log_answer, log_built}
 use Rattle.record.specs.Layout.{stamp_length, body}
 use Rattle.disk.specs.Limits.{sector_bytes}

@@ -1,5 +1,5 @@
 -- The tests, in a row; then the first bytes from the log sector, the last ones from the tail.
-use borrow.Author.Tests.{le-ltb, lt-ltb, ne_eqb, eq-eqb, not-true, not-false}
+use borrow.Author.Tests.{le-ltb, lt-ltb, ne_eqb, eq-eqb}
 use mathlib.Core.Path.{◌≡◌, refl, sym, ap, ◌∙◌}
 use mathlib.Core.Bool.{true}
 use mathlib.Core.List.{List}
@@ -7,7 +7,6 @@ use native.Mathlib.Omega.{arith}
 use lib.ListN.{length, take, drop, length-take}
 use lib.Seq.{paste}
 use Prim.Native.Nat.{ℕ, ◌-◌, ◌+◌, ◌*◌}
-use borrow.Author.Rules.{rules}
 use Rattle.record.specs.Log.{restore_answer, restore_built}
 use Rattle.record.specs.Layout.{stamp_length, body, rests_at, rest}
 use Rattle.disk.specs.Limits.{sector_bytes}
@@ -55,6 +54,11 @@ pub fill-requires-2 : goal.fill-requires-2
 fill-requires-2 c = let a = c.args in
     let at : ℕ = a.c * sector_bytes + rests_at + a.s * rest in
     omega (arith, length-take (at + rest - at) (drop at a.area.now))
+
+pub slice_bounds-fill-end-2 : goal.slice_bounds-fill-end-2
+slice_bounds-fill-end-2 c =
+    let ok : (strip_length c.args.c ≡ true) = sym c.strip_length.ensures ∙ c.if-not-strip_length.false in
+    omega (arith, (strip_length_lem _ (ok)).1)
 
 pub returns : goal.returns
 unfolding restore_answer

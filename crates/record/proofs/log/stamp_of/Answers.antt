@@ -3,7 +3,6 @@ use mathlib.Core.Path.{◌≡◌, ap, ◌∙◌}
 use native.Mathlib.Omega.{arith}
 use lib.ListN.{take, drop}
 use Prim.Native.Nat.{ℕ, ◌-◌, ◌+◌, ◌*◌}
-use borrow.Author.Rules.{rules}
 use Rattle.record.specs.Stamp.{stamp_at}
 use Rattle.record.specs.Log.{part}
 use Rattle.disk.specs.Limits.{sector_bytes}

@@ -1,8 +1,6 @@
-use borrow.Author.Tests.{not-true, not-false}
 use mathlib.Core.Path.{◌≡◌, sym, ap, ◌∙◌}
 use native.Mathlib.Omega.{arith}
-use Prim.Native.Nat.{ℕ, ◌≤◌, ◌-◌}
-use borrow.Author.Rules.{rules}
+use Prim.Native.Nat.{ℕ, ◌-◌}
 use Rattle.record.specs.Stamp.{stamp_at, same_stamp}
 use Rattle.record.specs.Log.{part, stamps_same, stamps_off, stamps_on}
 use Rattle.record.specs.declared.stamp.Stamp.{Stamp}

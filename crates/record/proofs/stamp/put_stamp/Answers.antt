@@ -2,7 +2,6 @@
 use mathlib.Core.Path.{ap, ◌∙◌}
 use mathlib.Core.List.{List}
 use Prim.Native.Nat.{ℕ}
-use borrow.Author.Rules.{rules}
 use Rattle.record.specs.Stamp.{with_stamp}
 use Rattle.disk.specs.Number.{with_number}
 use Rattle.record.proofs.stamp.put_stamp.Goals as goal

@@ -1,7 +1,6 @@
 -- One number behind the other.
 use mathlib.Core.Path.{ap₂}
 use Prim.Native.Nat.{ℕ}
-use borrow.Author.Rules.{rules}
 use Rattle.record.specs.Stamp.{stamp_at}
 use Rattle.record.specs.declared.stamp.Stamp.{Stamp}
 use Rattle.record.proofs.stamp.stamp_at.Goals as goal

@@ -1,6 +1,5 @@
 -- The fields, if they may be a tail's.
 use mathlib.Core.Path.{sym, ◌∙◌}
-use borrow.Author.Rules.{rules}
 use Rattle.record.specs.Tail.{decode_of}
 use Rattle.record.proofs.tail.decode.Goals as goal
 

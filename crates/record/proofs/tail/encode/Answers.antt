@@ -1,11 +1,10 @@
 -- The tests, in a row; then zeros, the fields, and the last bytes.
-use borrow.Author.Tests.{ne_eqb, eq-eqb, not-true, not-false}
+use borrow.Author.Tests.{ne_eqb, eq-eqb}
 use mathlib.Core.Path.{◌≡◌, refl, sym, ap, ◌∙◌}
 use mathlib.Core.Bool.{true}
 use mathlib.Core.List.{List}
 use native.Mathlib.Omega.{arith}
 use Prim.Native.Nat.{ℕ}
-use borrow.Author.Rules.{rules}
 use Rattle.record.specs.Tail.{with_tail, pasted, tail_answer, tail_built, zero_filled}
 use Rattle.disk.specs.Geometry.{strip_length, strip_length_lem}
 use Rattle.record.proofs.tail.encode.Goals as goal

@@ -2,7 +2,6 @@
 use borrow.Author.Tests.{le-ltb, lt-ltb, ne_eqb, eq-eqb, lt-leb, le-leb}
 use mathlib.Core.Path.{◌≡◌, sym, ◌∙◌}
 use mathlib.Core.Bool.{false}
-use borrow.Author.Rules.{rules}
 use Rattle.record.specs.Stamp.{zero_stamp}
 use Rattle.record.specs.Tail.{may_be}
 use Rattle.record.proofs.tail.may_be.Goals as goal

@@ -2,7 +2,6 @@
 use mathlib.Core.Path.{ap, ◌∙◌}
 use mathlib.Core.List.{List}
 use Prim.Native.Nat.{ℕ}
-use borrow.Author.Rules.{rules}
 use Rattle.record.specs.Tail.{with_tail}
 use Rattle.record.specs.Layout.{stripe_at, shards_at}
 use Rattle.disk.specs.Number.{with_number}

@@ -2,7 +2,6 @@ use mathlib.Core.Path.{◌≡◌, refl, ap, ◌∙◌}
 use native.Mathlib.Omega.{arith}
 use lib.ListN.{length, take, drop}
 use Prim.Native.Nat.{ℕ, ◌≤◌, ◌-◌, ◌+◌, ◌*◌}
-use borrow.Author.Rules.{rules}
 use Rattle.record.specs.Tail.{pasted, pasted_turn}
 use Rattle.record.specs.Layout.{body, rest}
 use Rattle.disk.specs.Limits.{sector_bytes}

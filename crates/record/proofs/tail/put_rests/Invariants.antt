@@ -1,11 +1,8 @@
 -- The loop's invariant: the last bytes of the first s sectors stand at their places. Its measure is what is left of c.
-use mathlib.Core.Path.{◌≡◌, refl, ap, ◌∙◌}
-use native.Mathlib.Omega.{arith}
-use lib.ListN.{length, take, drop}
-use Prim.Native.Nat.{ℕ, ◌≤◌, ◌-◌, ◌+◌, ◌*◌}
-use borrow.Author.Rules.{rules}
-use Rattle.record.specs.Tail.{pasted, pasted_turn}
-use Rattle.record.specs.Layout.{body, rest}
+use mathlib.Core.Path.{◌≡◌}
+use lib.ListN.{length}
+use Prim.Native.Nat.{◌≤◌, ◌-◌}
+use Rattle.record.specs.Tail.{pasted}
 use Rattle.disk.specs.Limits.{sector_bytes}
 use Rattle.record.proofs.tail.put_rests.Given as goal
 

@@ -1,5 +1,4 @@
 -- One field behind the other.
-use borrow.Author.Rules.{rules}
 use Rattle.record.specs.Tail.{tail_at}
 use Rattle.record.proofs.tail.tail_at.Goals as goal
 
