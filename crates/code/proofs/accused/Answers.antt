@@ -1,10 +1,6 @@
-use Prim.Native.Nat.{ℕ, ◌<◌, ◌-◌, ◌+◌, ◌*◌}
-use mathlib.Core.Path.{◌≡◌, subst, sym, ◌∙◌}
-use borrow.Author.Rules.{rules}
-use lib.ListN.{length}
+use mathlib.Core.Path.{subst, sym, ◌∙◌}
 use borrow.Author.Count.{below_more}
 use native.Mathlib.Omega.{arith}
-use Rattle.code.specs.Stripes.{Accuses}
 use Rattle.code.specs.Blame.{Blamed}
 use Rattle.code.proofs.accused.Goals as goal
 

@@ -1,11 +1,7 @@
 use Prim.Native.Nat.{ℕ, ◌<◌, ◌-◌, ◌+◌, ◌*◌}
-use mathlib.Core.Path.{◌≡◌, subst, sym, ◌∙◌}
-use borrow.Author.Rules.{rules}
+use mathlib.Core.Path.{◌≡◌}
 use lib.ListN.{length}
-use borrow.Author.Count.{below_more}
-use native.Mathlib.Omega.{arith}
 use Rattle.code.specs.Stripes.{Accuses}
-use Rattle.code.specs.Blame.{Blamed}
 use Rattle.code.proofs.accused.Given as goal
 
 abbrev pub invariant-loop-r : goal.invariant-loop-r

@@ -1,8 +1,7 @@
-use Prim.Native.Nat.{◌≤◌, ◌-◌}
-use mathlib.Core.Path.{◌≡◌, refl, ◌∙◌}
+use mathlib.Core.Path.{refl, ◌∙◌}
 use native.Mathlib.Omega.{arith}
 use borrow.Author.Rules.{rules}
-use lib.ListN.{length, length-set, take}
+use lib.ListN.{length-set}
 use Rattle.code.specs.PadTurns.{copy_turn, copy_done}
 use Rattle.code.proofs.copy.Goals as goal
 

@@ -1,6 +1,5 @@
 use mathlib.Core.Path.{◌≡◌, sym, ap, ◌∙◌}
 use native.Mathlib.Omega.{arith}
-use borrow.Author.Rules.{rules}
 use lib.ListN.{length, length-append}
 use lib.Seq.{take_at}
 use Rattle.code.specs.Lists.{size_fits, length_part}

@@ -1,4 +1,4 @@
-use Prim.Native.Nat.{ℕ, ◌-◌, ◌≤◌, ◌<◌, ◌+◌, ◌*◌}
+use Prim.Native.Nat.{ℕ, ◌≤◌, ◌<◌, ◌+◌, ◌*◌}
 use mathlib.Core.Bool.{Bool}
 use mathlib.Core.List.{List}
 use mathlib.Core.Path.{◌≡◌, sym, subst}
@@ -8,7 +8,7 @@ use native.Mathlib.Nat.{mul-le-mul}
 use native.Mathlib.Omega.{arith}
 use Rattle.kernel.specs.Kernel.{Combined, Combines}
 use Rattle.kernel.specs.Fits.{fits_with}
-use Rattle.code.specs.Filling.{FilledTo, filled_to_none, filled_to_turn, filled_to_done}
+use Rattle.code.specs.Filling.{filled_to_none, filled_to_turn, filled_to_done}
 use Rattle.code.specs.Blame.{row_fits}
 use Rattle.solve.specs.Lost.{Lost, Solves}
 use Rattle.solve.specs.Lists.{solvable_is}

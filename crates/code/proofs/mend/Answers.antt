@@ -1,5 +1,4 @@
 use native.Mathlib.Omega.{arith}
-use borrow.Author.Rules.{rules}
 use Rattle.solve.specs.Lists.{lost_one}
 use Rattle.code.specs.Filling.{filled_mends}
 use Rattle.code.proofs.mend.Goals as goal

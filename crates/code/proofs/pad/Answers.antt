@@ -1,10 +1,8 @@
-use Prim.Native.Nat.{◌+◌, ◌-◌, ◌≤◌}
+use Prim.Native.Nat.{◌+◌, ◌≤◌}
 use mathlib.Core.Path.{sym, ◌∙◌}
-use mathlib.Core.Logic.{⊎_elim}
 use native.Mathlib.Omega.{arith}
 use borrow.Author.Rules.{rules}
-use borrow.Author.Tests.{not-true, not-false}
-use Rattle.code.specs.PadTurns.{Padding, padding_first, padding_more, padding_skip, padding_turn, padding_done}
+use Rattle.code.specs.PadTurns.{padding_first, padding_more, padding_skip, padding_turn, padding_done}
 use Rattle.code.proofs.pad.Goals.{then-not-named, else-not-named}
 use Rattle.code.proofs.pad.Goals as goal
 
@@ -44,10 +42,10 @@ pub loop-c-preserved : goal.loop-c-preserved
 loop-c-preserved c = let l = c.loop-c in
     let n = c.named in
     elim c.if-not-named.branch [
-      then-not-named w ↦ rw (w.all-is, w.c-is) (padding_turn c.args.k c.args.m c.args.lost.now c.requires.1 l.c l.i l.all l.invariant (search rules)
-    (sym n.ensures ∙ w.if-not-named.true))
-    | else-not-named w ↦ rw (w.all-is, w.c-is) (padding_skip c.args.k c.args.m c.args.lost.now c.requires.1 l.c l.i l.all l.invariant (search rules)
-    (sym n.ensures ∙ w.if-not-named.false))
+      | then-not-named w ↦ rw (w.all-is, w.c-is) (padding_turn c.args.k c.args.m c.args.lost.now c.requires.1 l.c l.i l.all l.invariant (search rules)
+          (sym n.ensures ∙ w.if-not-named.true))
+      | else-not-named w ↦ rw (w.all-is, w.c-is) (padding_skip c.args.k c.args.m c.args.lost.now c.requires.1 l.c l.i l.all l.invariant (search rules)
+          (sym n.ensures ∙ w.if-not-named.false))
     ]
 
 pub shape_of-all : goal.shape_of-all

@@ -1,10 +1,5 @@
-use Prim.Native.Nat.{◌+◌, ◌-◌, ◌≤◌}
-use mathlib.Core.Path.{sym, ◌∙◌}
-use mathlib.Core.Logic.{⊎_elim}
-use native.Mathlib.Omega.{arith}
-use borrow.Author.Rules.{rules}
-use borrow.Author.Tests.{not-true, not-false}
-use Rattle.code.specs.PadTurns.{Padding, padding_first, padding_more, padding_skip, padding_turn, padding_done}
+use Prim.Native.Nat.{◌+◌, ◌-◌}
+use Rattle.code.specs.PadTurns.{Padding}
 use Rattle.code.proofs.pad.Given as goal
 
 abbrev pub invariant-loop-c : goal.invariant-loop-c

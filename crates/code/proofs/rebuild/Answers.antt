@@ -1,7 +1,5 @@
 use mathlib.Core.Path.{sym, ◌∙◌, ◌≡◌}
 use native.Mathlib.Omega.{arith}
-use borrow.Author.Rules.{rules}
-use borrow.Author.Tests.{not-true, not-false}
 use mathlib.Core.Bool.{true}
 use lib.ListN.{length}
 use Rattle.solve.specs.Lists.{shards_lost}

@@ -1,5 +1,4 @@
 use mathlib.Core.Path.{refl, subst}
-use borrow.Author.Rules.{rules}
 use Rattle.code.specs.Stripes.{Says}
 use Rattle.code.specs.Lists.{shaped_means}
 use Rattle.code.proofs.repair.Goals as goal

@@ -1,12 +1,11 @@
-use Prim.Native.Nat.{◌≤◌, ◌<◌, ◌-◌, ◌*◌}
+use Prim.Native.Nat.{◌≤◌, ◌*◌}
 use mathlib.Core.Path.{subst}
 use mathlib.Core.Bool.{Bool}
 use lib.ListN.{length}
 use native.Mathlib.Omega.{arith}
 use borrow.Author.Rules.{rules}
-use borrow.Author.Tests.{not-true, not-false}
 use native.Mathlib.Nat.{mul-le-mul}
-use Rattle.code.specs.Blame.{ZeroTo, zero_on, row_fits}
+use Rattle.code.specs.Blame.{zero_on, row_fits}
 use Rattle.kernel.specs.Kernel.{RowZero, Tests}
 use Rattle.kernel.specs.Fits.{fits_is}
 use Rattle.code.proofs.rows_zero.Goals as goal

@@ -1,7 +1,6 @@
 use Prim.Native.Nat.{◌+◌, ◌≤◌}
 use Prim.Native.Nat.{◌+◌}
 use native.Mathlib.Omega.{arith}
-use borrow.Author.Rules.{rules}
 use borrow.Author.Tests.{lt-leb, le-leb}
 use native.Mathlib.Nat.{mul-le-mul}
 use Rattle.code.specs.Shape.{shaped_of}
