@@ -4,7 +4,7 @@
 use Rattle.std.specs.Prelude.{◌≡◌, refl, Bool, true, false, cond, List, [], ◌∷◌, ◌≢◌, ℕ, zero, suc, ◌+◌, ◌*◌, ◌≤◌, ◌<◌, eqb, length, set}
 use Rattle.std.proofs.Common.{sym, ap, ◌∙◌, arith, lit<, eqb-true}
 use Rattle.std.proofs.lemmas.Bool.{eqb-false}
-use Rattle.codeword.specs.Stripe.{byte_at, Sound, has, AgreeOff, Agree}
+use Rattle.codeword.specs.Stripe.{byte_at, Sound, AgreeOff, Agree}
 use Rattle.codeword.specs.Unique.{AllBytes}
 use Rattle.codeword.specs.Liars.{Differ, one_accused, innocent, repaired_once, found, first_sum, third_accused, third_alone}
 use Rattle.codeword.specs.Named.{has_not}

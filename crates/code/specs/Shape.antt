@@ -1,8 +1,7 @@
 -- The refusals of document 01, section 7: which shapes and which lists of missing shards are taken. Assumes nothing.
-use Rattle.std.specs.Prelude.{◌≡◌, Bool, true, false, cond, not, ◌&&◌, List, [], ◌∷◌, ℕ, ◌+◌, ◌*◌, ◌≤◌, ◌<◌, eqb, leb, ltb, length, get_or}
-use Rattle.codeword.specs.Stripe.{k_least, k_most, m_least, m_most, len_most, InRange, has}
+use Rattle.std.specs.Prelude.{◌≡◌, Bool, cond, ◌&&◌, List, ℕ, ◌+◌, ◌*◌, ◌≤◌, eqb, leb, length}
+use Rattle.codeword.specs.Stripe.{k_least, k_most, m_least, m_most, len_most, InRange}
 use Rattle.solve.specs.Lost.{shards_of}
-use Rattle.field.specs.declared.Refusal.{Refusal}
 use Rattle.field.specs.declared.Refusal.TheVariants.{BadShape, TooMany, BadShard}
 use Rattle.field.specs.declared.Answer.{Answer}
 use Rattle.field.specs.declared.Answer.TheVariants.{Done, Refused}

@@ -4,7 +4,7 @@ use Rattle.field.specs.declared.Answer.{Answer}
 use Rattle.field.specs.declared.Answer.TheVariants.{Done, Refused}
 use Rattle.field.specs.declared.Refusal.{Refusal}
 use Rattle.field.specs.declared.Refusal.TheVariants.{BadShape}
-use Rattle.codeword.specs.Stripe.{byte_at, Holds, Sound, has, AgreeOff, Agree}
+use Rattle.codeword.specs.Stripe.{byte_at, Holds, Sound, AgreeOff, Agree}
 use Rattle.codeword.specs.Unique.{AllBytes}
 use Rattle.codeword.specs.Mend.{put}
 use Rattle.code.specs.Padded.{padded}

@@ -1,18 +1,18 @@
 -- Row operations on tables of n columns, row after row in a list: what they change, and that a table keeps saying the same.
 -- Assumes nothing.
-use Rattle.std.specs.Prelude.{◌≡◌, refl, Bool, true, false, cond, List, [], ◌∷◌, ◌≢◌, ◌⊎◌, ℕ, ◌+◌, ◌-◌, ◌*◌, ◌/◌, ◌%◌, ◌<◌, eqb, length}
+use Rattle.std.specs.Prelude.{◌≡◌, refl, Bool, true, false, cond, List, [], ◌∷◌, ◌≢◌, ◌⊎◌, ℕ, ◌+◌, ◌*◌, ◌/◌, ◌%◌, ◌<◌, eqb, length}
 use Rattle.std.proofs.Common.{sym, ap, ap₂, ◌∙◌, subst, inl, inr, ⊎_elim, lit<, eqb-true, eq-eqb, ne_eqb}
 use Rattle.std.specs.Int.Bits.{bit_xor}
 use Rattle.std.proofs.Math.Arith.{digits_div, digits_mod}
 use Rattle.std.proofs.lemmas.Bool.{eqb-false}
-use Rattle.algebra.specs.Ring.{one, zer, ◌⊕◌, ◌⊗◌, none, given}
+use Rattle.algebra.specs.Ring.{◌⊕◌, ◌⊗◌}
 use Rattle.algebra.specs.Field.{X, Y, Z, P}
 use Rattle.field.specs.Field.{mul_of}
 use Rattle.field.specs.Bytes.{bytes}
-use Rattle.field.specs.Solve.{solve, solve_from, eqn}
+use Rattle.field.specs.Solve.{solve}
 use Rattle.codeword.specs.Sum.{total_ext, total_byte, total_add, total_mul}
-use Rattle.codeword.specs.Table.{unit, entry, row_sum, AllZero, Equivalent}
-use Rattle.codeword.specs.Unit.{one_times, zero_times, sum_zero, unit_same, unit_other}
+use Rattle.codeword.specs.Table.{entry, row_sum, AllZero, Equivalent}
+use Rattle.codeword.specs.Unit.{zero_times, sum_zero}
 
 -- ---- what is meant
 

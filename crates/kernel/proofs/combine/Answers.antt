@@ -1,9 +1,9 @@
 use mathlib.Core.Path.{◌≡◌, refl, sym, ap₂, ◌∙◌, subst}
-use mathlib.Core.Bool.{Bool, true, false, ◌&&◌}
+use mathlib.Core.Bool.{Bool, true, ◌&&◌}
 use lib.Dec.{ltb}
 use lib.ListN.{length}
 use borrow.Author.Rules.{rules}
-use borrow.Author.Tests.{not-true, not-false, le-ltb}
+use borrow.Author.Tests.{le-ltb}
 use Rattle.kernel.specs.Kernel.{fits_of, Combines}
 use Rattle.kernel.specs.Fits.{fits_shards, fits_row, fits_with}
 use Rattle.kernel.proofs.combine.Goals as goal

@@ -1,8 +1,6 @@
 use mathlib.Core.Path.{◌≡◌, refl, sym, ◌∙◌, subst}
 use mathlib.Core.Bool.{Bool, true, false}
 use lib.ListN.{length}
-use borrow.Author.Rules.{rules}
-use borrow.Author.Tests.{not-true, not-false}
 use Rattle.kernel.specs.Kernel.{fits_of, Tests}
 use Rattle.kernel.specs.Fits.{fits_shards, fits_row}
 use Rattle.kernel.proofs.row_zero.Goals as goal

@@ -1,10 +1,9 @@
-use Prim.Native.Nat.{◌-◌, ◌+◌, ◌*◌}
+use Prim.Native.Nat.{◌+◌, ◌*◌}
 use mathlib.Core.Path.{ap}
 use native.Mathlib.Omega.{arith}
-use borrow.Author.Rules.{rules}
 use lib.ListN.{get_or}
 use lib.Bits.{bit_xor}
-use Rattle.solve.specs.SolveTurns.{Adding, adding_none, adding_first, adding_turn, adding_done}
+use Rattle.solve.specs.SolveTurns.{adding_none, adding_first, adding_turn, adding_done}
 use Rattle.solve.proofs.add_row.Goals as goal
 
 pub returns-then-c-eq0 : goal.returns-then-c-eq0
@@ -26,7 +25,7 @@ pub loop-i-preserved : goal.loop-i-preserved
 loop-i-preserved c = let l = c.loop-i in
     let a = c.args in
     adding_turn a.n a.dst a.src a.c _ l.i _ l.e l.invariant
-    c.loop-i-test.true c.requires.0
+    c.loop-i-test.true c.requires.n_in_bounds
     (ap (bit_xor (get_or l.e (a.dst * a.n + l.i) 0)) c.mul.ensures)
 
 pub shape_of-e : goal.shape_of-e

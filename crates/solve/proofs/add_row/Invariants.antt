@@ -1,10 +1,5 @@
-use Prim.Native.Nat.{◌-◌, ◌+◌, ◌*◌}
-use mathlib.Core.Path.{ap}
-use native.Mathlib.Omega.{arith}
-use borrow.Author.Rules.{rules}
-use lib.ListN.{get_or}
-use lib.Bits.{bit_xor}
-use Rattle.solve.specs.SolveTurns.{Adding, adding_none, adding_first, adding_turn, adding_done}
+use Prim.Native.Nat.{◌-◌}
+use Rattle.solve.specs.SolveTurns.{Adding}
 use Rattle.solve.proofs.add_row.Given as goal
 
 abbrev pub invariant-loop-i : goal.invariant-loop-i

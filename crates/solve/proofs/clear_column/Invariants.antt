@@ -1,10 +1,5 @@
 use Prim.Native.Nat.{◌≤◌, ◌-◌}
-use mathlib.Core.Path.{ap, ◌∙◌}
-use native.Mathlib.Omega.{arith}
-use borrow.Author.Rules.{rules}
-use lib.Bits.{bit_xor}
-use Rattle.codeword.specs.Table.{entry}
-use Rattle.solve.specs.SolveTurns.{Clearing, clearing_first, clearing_turn, clearing_done, entry_in, row_end}
+use Rattle.solve.specs.SolveTurns.{Clearing}
 use Rattle.solve.proofs.clear_column.Given as goal
 
 abbrev pub invariant-loop-j : goal.invariant-loop-j

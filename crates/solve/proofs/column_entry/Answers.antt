@@ -1,6 +1,5 @@
 use Prim.Native.Nat.{◌+◌}
 use mathlib.Core.Path.{ap, sym, ◌∙◌}
-use borrow.Author.Rules.{rules}
 use mathlib.Core.Bool.{Bool, cond}
 use borrow.Author.Tests.{lt-ltb, le-ltb}
 use Rattle.codeword.specs.Stripe.{coef}

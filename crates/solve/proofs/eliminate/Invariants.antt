@@ -1,8 +1,6 @@
 use Prim.Native.Nat.{◌-◌}
-use mathlib.Core.Path.{◌∙◌, sym}
-use borrow.Author.Rules.{rules}
 use lib.ListN.{length}
-use Rattle.solve.specs.Solving.{SolvedTo, solved_none, solved_last}
+use Rattle.solve.specs.Solving.{SolvedTo}
 use Rattle.solve.proofs.eliminate.Given as goal
 
 abbrev pub invariant-loop-c : goal.invariant-loop-c

@@ -1,10 +1,6 @@
-use Prim.Native.Nat.{◌-◌, ◌<◌, ◌*◌, ◌+◌}
-use mathlib.Core.Path.{refl}
-use native.Mathlib.Omega.{arith}
-use borrow.Author.Rules.{rules}
-use lib.ListN.{length, length-set}
-use native.Mathlib.Nat.{div-lt_iff_lt-mul}
-use Rattle.solve.specs.SolveTurns.{Filling, filling_turn, filling_done}
+use Prim.Native.Nat.{◌-◌}
+use lib.ListN.{length}
+use Rattle.solve.specs.SolveTurns.{Filling}
 use Rattle.solve.proofs.fill.Given as goal
 
 abbrev pub invariant-loop-p : goal.invariant-loop-p

@@ -1,9 +1,6 @@
-use Prim.Native.Nat.{◌-◌}
-use mathlib.Core.Path.{◌≡◌, refl, sym, ◌∙◌}
+use mathlib.Core.Path.{refl, sym, ◌∙◌}
 use borrow.Author.Rules.{rules}
-use lib.ListN.{length, drop}
 use Rattle.solve.specs.Lists.{has_here, has_on, has_end}
-use Rattle.codeword.specs.Stripe.{has}
 use Rattle.solve.proofs.named.Goals as goal
 
 pub loop-i-init : goal.loop-i-init

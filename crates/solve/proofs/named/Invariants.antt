@@ -1,8 +1,6 @@
 use Prim.Native.Nat.{◌-◌}
-use mathlib.Core.Path.{◌≡◌, refl, sym, ◌∙◌}
-use borrow.Author.Rules.{rules}
+use mathlib.Core.Path.{◌≡◌}
 use lib.ListN.{length, drop}
-use Rattle.solve.specs.Lists.{has_here, has_on, has_end}
 use Rattle.codeword.specs.Stripe.{has}
 use Rattle.solve.proofs.named.Given as goal
 

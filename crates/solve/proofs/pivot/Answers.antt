@@ -1,4 +1,4 @@
-use Prim.Native.Nat.{ℕ, ◌≤◌, ◌<◌, ◌-◌}
+use Prim.Native.Nat.{◌≤◌}
 use mathlib.Core.Path.{◌≡◌}
 use native.Mathlib.Omega.{arith}
 use borrow.Author.Rules.{rules}
@@ -12,14 +12,14 @@ loop-j-init c = (omega arith, omega arith, λ i h l. absurd (omega arith))
 
 pub overflow_mul-j : goal.overflow_mul-j
 overflow_mul-j c = let a = c.args in let p = c.requires in
-    omega (arith, entry_in a.m a.n c.loop-j.j a.a a.e.now p.0 (omega arith) (omega arith))
+    omega (arith, entry_in a.m a.n c.loop-j.j a.a a.e.now p.e_len (omega arith) (omega arith))
 
 pub overflow_add-j : goal.overflow_add-j
 overflow_add-j c = let a = c.args in let p = c.requires in
-    omega (arith, entry_in a.m a.n c.loop-j.j a.a a.e.now p.0 (omega arith) (omega arith))
+    omega (arith, entry_in a.m a.n c.loop-j.j a.a a.e.now p.e_len (omega arith) (omega arith))
 
 pub bounds-e-j : goal.bounds-e-j
-bounds-e-j c = entry_in c.args.m c.args.n c.loop-j.j c.args.a c.args.e.now c.requires.0 (omega arith) (omega arith)
+bounds-e-j c = entry_in c.args.m c.args.n c.loop-j.j c.args.a c.args.e.now c.requires.e_len (omega arith) (omega arith)
 
 pub returns-then-e-j-ne0 : goal.returns-then-e-j-ne0
 returns-then-e-j-ne0 c = let l = c.loop-j in

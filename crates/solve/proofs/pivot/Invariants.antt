@@ -1,10 +1,6 @@
 use Prim.Native.Nat.{ℕ, ◌≤◌, ◌<◌, ◌-◌}
 use mathlib.Core.Path.{◌≡◌}
-use native.Mathlib.Omega.{arith}
-use borrow.Author.Rules.{rules}
-use borrow.Author.Count.{below_more}
 use Rattle.codeword.specs.Table.{entry}
-use Rattle.solve.specs.SolveTurns.{entry_in}
 use Rattle.solve.proofs.pivot.Given as goal
 
 abbrev pub invariant-loop-j : goal.invariant-loop-j

@@ -1,10 +1,7 @@
-use Prim.Native.Nat.{◌-◌}
-use mathlib.Core.Path.{◌≡◌, refl, sym, ◌∙◌}
+use mathlib.Core.Path.{refl, sym, ◌∙◌}
 use native.Mathlib.Omega.{arith}
 use borrow.Author.Rules.{rules}
-use lib.ListN.{length, drop}
 use Rattle.solve.specs.Lists.{shards_great, shards_again, shards_on, shards_end}
-use Rattle.solve.specs.Lost.{shards_of}
 use Rattle.solve.proofs.shards.Goals as goal
 
 pub loop-i-init : goal.loop-i-init

@@ -1,8 +1,7 @@
 use Prim.Native.Nat.{◌+◌, ◌≤◌}
-use mathlib.Core.Path.{◌≡◌, sym, ◌∙◌}
+use mathlib.Core.Path.{sym, ◌∙◌}
 use native.Mathlib.Omega.{arith}
-use borrow.Author.Rules.{rules}
-use borrow.Author.Tests.{lt-leb, le-leb, not-true, not-false}
+use borrow.Author.Tests.{lt-leb, le-leb}
 use native.Mathlib.Nat.{mul-le-mul}
 use Rattle.solve.specs.Lost.{solvable_of}
 use Rattle.solve.proofs.solvable.Goals as goal

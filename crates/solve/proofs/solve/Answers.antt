@@ -1,8 +1,6 @@
 use mathlib.Core.Path.{◌≡◌, refl, sym, ◌∙◌, subst}
-use mathlib.Core.Bool.{Bool, true, false}
+use mathlib.Core.Bool.{Bool, true}
 use lib.ListN.{length}
-use borrow.Author.Rules.{rules}
-use borrow.Author.Tests.{not-true, not-false}
 use Rattle.solve.specs.Lost.{solvable_of, Solves}
 use Rattle.solve.specs.Lists.{solvable_means}
 use Rattle.solve.proofs.solve.Goals as goal
@@ -15,7 +13,7 @@ returns-then-not-solvable c = let a = c.args in
 pub eliminate-requires : goal.eliminate-requires
 eliminate-requires c =
     let yes : (let a = c.args in solvable_of a.k a.m a.lost.now (length a.e.now) ≡ true) = let f = c.solvable in sym f.ensures ∙ c.if-not-solvable.false in
-    let w = solvable_means _ _ _ _ (yes) in (w.range, (w.lost, w.whole))
+    let w = solvable_means _ _ _ _ (yes) in record { in_range = w.range; lost = w.lost; e_len = w.whole }
 
 pub returns : goal.returns
 returns c =

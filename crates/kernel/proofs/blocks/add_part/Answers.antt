@@ -1,11 +1,9 @@
-use Prim.Native.Nat.{◌≤◌, ◌-◌}
 use mathlib.Core.Path.{ap, sym, ◌∙◌}
 use native.Mathlib.Omega.{arith}
-use borrow.Author.Rules.{rules}
 use lib.ListN.{get_or, drop}
 use lib.Bits.{bit_xor}
 use lib.Seq.{get_or-drop}
-use Rattle.field.specs.Turns.{Begun, each_first, each_turn}
+use Rattle.field.specs.Turns.{each_first, each_turn}
 use Rattle.kernel.proofs.blocks.add_part.Goals as goal
 
 pub loop-j-init : goal.loop-j-init

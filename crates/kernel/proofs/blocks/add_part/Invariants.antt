@@ -1,11 +1,7 @@
 use Prim.Native.Nat.{◌≤◌, ◌-◌}
-use mathlib.Core.Path.{ap, sym, ◌∙◌}
-use native.Mathlib.Omega.{arith}
-use borrow.Author.Rules.{rules}
-use lib.ListN.{get_or, drop}
+use lib.ListN.{drop}
 use lib.Bits.{bit_xor}
-use lib.Seq.{get_or-drop}
-use Rattle.field.specs.Turns.{Begun, each_first, each_turn}
+use Rattle.field.specs.Turns.{Begun}
 use Rattle.kernel.proofs.blocks.add_part.Given as goal
 
 abbrev pub invariant-loop-j : goal.invariant-loop-j

@@ -1,7 +1,5 @@
-use Prim.Native.Nat.{◌≤◌, ◌-◌}
 use native.Mathlib.Omega.{arith}
-use borrow.Author.Rules.{rules}
-use Rattle.kernel.specs.StepsTurns.{Summed, summed_none, summed_turn}
+use Rattle.kernel.specs.StepsTurns.{summed_none, summed_turn}
 use Rattle.kernel.proofs.blocks.all_zero.Goals as goal
 
 pub loop-j-init : goal.loop-j-init

@@ -1,7 +1,5 @@
 use Prim.Native.Nat.{◌≤◌, ◌-◌}
-use native.Mathlib.Omega.{arith}
-use borrow.Author.Rules.{rules}
-use Rattle.kernel.specs.StepsTurns.{Summed, summed_none, summed_turn}
+use Rattle.kernel.specs.StepsTurns.{Summed}
 use Rattle.kernel.proofs.blocks.all_zero.Given as goal
 
 abbrev pub invariant-loop-j : goal.invariant-loop-j

@@ -1,10 +1,9 @@
-use Prim.Native.Nat.{◌≤◌, ◌-◌, ◌+◌}
+use Prim.Native.Nat.{◌+◌}
 use mathlib.Core.Path.{◌≡◌, ap, ◌∙◌, refl}
 use native.Mathlib.Omega.{arith}
-use borrow.Author.Rules.{rules}
-use lib.ListN.{length, get_or-replicate}
+use lib.ListN.{get_or-replicate}
 use Rattle.codeword.specs.Stripe.{byte_at}
-use Rattle.kernel.specs.Steps.{columns, Are, made_by}
+use Rattle.kernel.specs.Steps.{made_by}
 use Rattle.kernel.specs.StepsTurns.{block_turn}
 use Rattle.kernel.proofs.blocks.block.Goals as goal
 

@@ -1,11 +1,8 @@
 use Prim.Native.Nat.{◌≤◌, ◌-◌, ◌+◌}
-use mathlib.Core.Path.{◌≡◌, ap, ◌∙◌, refl}
-use native.Mathlib.Omega.{arith}
-use borrow.Author.Rules.{rules}
-use lib.ListN.{length, get_or-replicate}
+use mathlib.Core.Path.{◌≡◌}
+use lib.ListN.{length}
 use Rattle.codeword.specs.Stripe.{byte_at}
 use Rattle.kernel.specs.Steps.{columns, Are, made_by}
-use Rattle.kernel.specs.StepsTurns.{block_turn}
 use Rattle.kernel.proofs.blocks.block.Given as goal
 
 abbrev pub invariant-loop-i : goal.invariant-loop-i

@@ -1,4 +1,4 @@
-use Prim.Native.Nat.{ℕ, ◌≤◌, ◌<◌, ◌-◌, ◌*◌}
+use Prim.Native.Nat.{ℕ, ◌*◌}
 use mathlib.Core.Path.{sym}
 use native.Mathlib.Omega.{arith}
 use borrow.Author.Rules.{rules}
@@ -8,7 +8,7 @@ use Rattle.codeword.specs.Sum.{total}
 use Rattle.codeword.specs.Stripe.{byte_at}
 use Rattle.kernel.specs.Kernel.{weight}
 use Rattle.kernel.specs.KernelTurns.{shard_le}
-use Rattle.kernel.specs.StepsTurns.{Filled, filled_none, filled_turn, filled_done, block_is}
+use Rattle.kernel.specs.StepsTurns.{filled_none, filled_turn, filled_done, block_is}
 use Rattle.kernel.proofs.blocks.combine_blocks.Goals as goal
 
 pub loop-p-init : goal.loop-p-init

@@ -1,14 +1,10 @@
 use Prim.Native.Nat.{ℕ, ◌≤◌, ◌<◌, ◌-◌, ◌*◌}
-use mathlib.Core.Path.{sym}
-use native.Mathlib.Omega.{arith}
-use borrow.Author.Rules.{rules}
 use lib.ListN.{get_or}
 use Rattle.field.specs.Field.{mul_of}
 use Rattle.codeword.specs.Sum.{total}
 use Rattle.codeword.specs.Stripe.{byte_at}
 use Rattle.kernel.specs.Kernel.{weight}
-use Rattle.kernel.specs.KernelTurns.{shard_le}
-use Rattle.kernel.specs.StepsTurns.{Filled, filled_none, filled_turn, filled_done, block_is}
+use Rattle.kernel.specs.StepsTurns.{Filled}
 use Rattle.kernel.proofs.blocks.combine_blocks.Given as goal
 
 abbrev pub invariant-loop-p : goal.invariant-loop-p

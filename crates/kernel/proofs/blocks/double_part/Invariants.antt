@@ -1,9 +1,7 @@
 use Prim.Native.Nat.{◌≤◌, ◌-◌}
-use native.Mathlib.Omega.{arith}
-use borrow.Author.Rules.{rules}
 use mathlib.Core.List.{[]}
 use Rattle.field.specs.Field.{mul_of, g}
-use Rattle.field.specs.Turns.{Begun, each_first, each_turn}
+use Rattle.field.specs.Turns.{Begun}
 use Rattle.kernel.proofs.blocks.double_part.Given as goal
 
 abbrev pub invariant-loop-j : goal.invariant-loop-j

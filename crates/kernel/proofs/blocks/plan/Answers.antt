@@ -2,7 +2,6 @@ use Prim.Native.Nat.{ℕ, ◌<◌}
 use mathlib.Core.Path.{◌∙◌}
 use native.Mathlib.Omega.{arith}
 use lib.ListN.{get_or}
-use borrow.Author.Rules.{rules}
 use Rattle.kernel.specs.StepsTurns.{above_none, above_turn, above_done}
 use Rattle.kernel.proofs.blocks.plan.Goals as goal
 

@@ -1,10 +1,6 @@
-use Prim.Native.Nat.{ℕ, ◌≤◌, ◌-◌, ◌/◌, ◌%◌}
-use mathlib.Core.Path.{◌≡◌, ap, subst}
-use native.Mathlib.Omega.{arith}
-use borrow.Author.Rules.{rules}
+use Prim.Native.Nat.{◌≤◌, ◌-◌}
 use lib.Bits.{bit_xor}
 use Rattle.kernel.specs.Steps.{Pushed, chosen}
-use Rattle.kernel.specs.StepsTurns.{shards_none, shards_turn}
 use Rattle.kernel.proofs.blocks.push_shards.Given as goal
 
 abbrev pub invariant-loop-r : goal.invariant-loop-r

@@ -1,9 +1,6 @@
-use Prim.Native.Nat.{◌≤◌, ◌-◌}
 use mathlib.Core.Path.{refl}
 use native.Mathlib.Omega.{arith}
-use borrow.Author.Rules.{rules}
 use lib.ListN.{get_or}
-use Rattle.kernel.specs.Kernel.{Replaced}
 use Rattle.kernel.specs.KernelTurns.{replaced_none, replaced_turn, replaced_done}
 use Rattle.kernel.proofs.blocks.put_block.Goals as goal
 

@@ -1,11 +1,6 @@
 use Prim.Native.Nat.{ℕ, ◌≤◌, ◌<◌, ◌-◌}
-use mathlib.Core.Path.{◌≡◌, sym, subst}
-use native.Mathlib.Omega.{arith}
-use borrow.Author.Rules.{rules}
-use mathlib.Core.Bool.{Bool, true, false}
+use mathlib.Core.Path.{◌≡◌}
 use Rattle.kernel.specs.Kernel.{row_at}
-use Rattle.kernel.specs.Steps.{columns, Zeros}
-use Rattle.kernel.specs.StepsTurns.{block_row, rows_turn, rows_left, not_of}
 use Rattle.kernel.proofs.blocks.row_zero_blocks.Given as goal
 
 abbrev pub invariant-loop-p : goal.invariant-loop-p

@@ -1,5 +1,4 @@
 use native.Mathlib.Omega.{arith}
-use borrow.Author.Rules.{rules}
 use Rattle.kernel.specs.KernelTurns.{shard_le}
 use Rattle.kernel.specs.StepsTurns.{step_add, step_twice}
 use Rattle.kernel.proofs.blocks.take_step.Goals as goal

@@ -1,6 +1,5 @@
 use Prim.Native.Nat.{◌*◌}
 use native.Mathlib.Omega.{arith}
-use borrow.Author.Rules.{rules}
 use Rattle.kernel.specs.KernelTurns.{shard_le, shard_parts, added_zero}
 use Rattle.kernel.proofs.bytes.add_shard.Goals as goal
 

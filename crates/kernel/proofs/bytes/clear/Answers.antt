@@ -1,8 +1,5 @@
-use Prim.Native.Nat.{◌≤◌, ◌-◌}
 use mathlib.Core.Path.{refl}
 use native.Mathlib.Omega.{arith}
-use borrow.Author.Rules.{rules}
-use Rattle.kernel.specs.Kernel.{Cleared}
 use Rattle.kernel.specs.KernelTurns.{replaced_none, replaced_turn, replaced_done}
 use Rattle.kernel.proofs.bytes.clear.Goals as goal
 

@@ -1,10 +1,7 @@
-use Prim.Native.Nat.{ℕ, ◌≤◌, ◌-◌, ◌*◌}
+use Prim.Native.Nat.{ℕ}
 use mathlib.Core.Path.{◌≡◌, refl, sym, subst, ◌∙◌}
 use native.Mathlib.Omega.{arith}
-use borrow.Author.Rules.{rules}
-use lib.ListN.{length}
-use mathlib.Core.List.{List}
-use Rattle.kernel.specs.Kernel.{Cleared, Combined}
+use Rattle.kernel.specs.Kernel.{Combined}
 use Rattle.kernel.specs.KernelTurns.{shard_le, weight_own, combined_none, combined_turn}
 use Rattle.kernel.proofs.bytes.combine_bytes.Goals as goal
 

@@ -1,7 +1,6 @@
-use Prim.Native.Nat.{◌≤◌, ◌-◌, ◌+◌}
 use native.Mathlib.Omega.{arith}
 use borrow.Author.Rules.{rules}
-use Rattle.kernel.specs.Kernel.{added, MulAdded}
+use Rattle.kernel.specs.Kernel.{added}
 use Rattle.kernel.specs.KernelTurns.{replaced_none, replaced_done, added_turn}
 use Rattle.kernel.proofs.bytes.mul_add_within.Goals as goal
 
@@ -15,7 +14,7 @@ loop-i-preserved c = let l = c.loop-i in
     let a = c.args in (
       omega arith,
       added_turn a.c a.dst a.src a.len l.i c.times.result m.result a.buf.now l.buf c.requires
-          (omega arith) (search rules) m.ensures (omega (arith, c.type_inv.buf (a.src + l.i))) c.times.ensures l.invariant.1,
+          (omega arith) (search rules) m.ensures (omega (arith)) c.times.ensures l.invariant.1,
     )
 
 pub returns : goal.returns

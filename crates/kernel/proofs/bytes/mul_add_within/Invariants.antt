@@ -1,8 +1,5 @@
-use Prim.Native.Nat.{◌≤◌, ◌-◌, ◌+◌}
-use native.Mathlib.Omega.{arith}
-use borrow.Author.Rules.{rules}
-use Rattle.kernel.specs.Kernel.{added, MulAdded}
-use Rattle.kernel.specs.KernelTurns.{replaced_none, replaced_done, added_turn}
+use Prim.Native.Nat.{◌≤◌, ◌-◌}
+use Rattle.kernel.specs.Kernel.{MulAdded}
 use Rattle.kernel.proofs.bytes.mul_add_within.Given as goal
 
 abbrev pub invariant-loop-i : goal.invariant-loop-i

@@ -1,13 +1,6 @@
-use Prim.Native.Nat.{◌≤◌, ◌-◌, ℕ, ◌+◌}
-use mathlib.Core.Path.{◌≡◌, refl, ap, ◌∙◌}
-use borrow.Author.Rules.{rules}
-use native.Mathlib.Omega.{arith}
-use lib.ListN.{get_or}
+use Prim.Native.Nat.{◌≤◌, ◌-◌}
+use mathlib.Core.Path.{◌≡◌}
 use Rattle.kernel.specs.Kernel.{row_at}
-use Rattle.field.specs.Field.{mul_of}
-use Rattle.codeword.specs.Sum.{total}
-use Rattle.codeword.specs.Stripe.{byte_at}
-use Rattle.kernel.specs.KernelTurns.{shard_lt, shard_le, row_turn}
 use Rattle.kernel.proofs.bytes.row_at.Given as goal
 
 abbrev pub invariant-loop-r : goal.invariant-loop-r

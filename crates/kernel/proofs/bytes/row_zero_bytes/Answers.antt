@@ -1,9 +1,6 @@
-use Prim.Native.Nat.{ℕ, ◌≤◌, ◌<◌, ◌-◌}
-use mathlib.Core.Path.{◌≡◌, sym, ◌∙◌}
+use mathlib.Core.Path.{sym, ◌∙◌}
 use native.Mathlib.Omega.{arith}
-use borrow.Author.Rules.{rules}
 use borrow.Author.Count.{below_more}
-use Rattle.kernel.specs.Kernel.{row_at}
 use Rattle.kernel.proofs.bytes.row_zero_bytes.Goals as goal
 
 pub returns-then-row_at-ne0 : goal.returns-then-row_at-ne0

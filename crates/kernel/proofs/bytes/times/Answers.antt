@@ -1,4 +1,3 @@
-use borrow.Author.Rules.{rules}
 use Rattle.kernel.specs.Kernel.{times_of}
 use Rattle.kernel.proofs.bytes.times.Goals as goal
 

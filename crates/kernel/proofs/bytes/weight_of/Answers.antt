@@ -1,5 +1,4 @@
 use mathlib.Core.Path.{sym}
-use borrow.Author.Rules.{rules}
 use Rattle.kernel.specs.KernelTurns.{weight_own, weight_other}
 use Rattle.kernel.proofs.bytes.weight_of.Goals as goal
 
