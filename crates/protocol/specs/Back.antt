@@ -5,7 +5,7 @@ use Rattle.std.proofs.Common.{ap, inl, arith, eq-eqb, ne_eqb}
 use Rattle.std.proofs.lemmas.Bool.{false≢true}
 use Rattle.protocol.specs.World.{slot, update, World, after, Possible, Sane, sane_after, sane_act, always_after}
 use Rattle.protocol.specs.Slots.{slots}
-use Rattle.protocol.specs.Label.{belief, copy, plainly_out_lem, round_batch, prep_places, prep_batch, last_side, expel_batch}
+use Rattle.protocol.specs.Label.{belief, copy, plainly_out, round_batch, prep_places, prep_batch, last_side, expel_batch}
 use Rattle.protocol.specs.Write.{logged_sectors, stored_sectors, involved, log_batch, store_batch}
 use Rattle.protocol.specs.Redo.{compared_sectors, complete_b, whole, forward, marked, kill_batch, redo}
 use Rattle.protocol.specs.Startup.{behind, disowned, gone, level_to, again_to, last_to, rounds}
@@ -13,7 +13,7 @@ use Rattle.protocol.specs.Decide.{in_turn, startup}
 use Rattle.protocol.specs.Rebuild.{wiped_sectors, filled_sectors, wipe_batch, fill_batch, flushed_at_begin, expel_first}
 use Rattle.protocol.specs.Host.{Change, one_block, set_block, replace, table, read, read_through, write_of, rebuilt}
 use Rattle.protocol.specs.Count.{at_most}
-use Rattle.protocol.specs.Program.{nothing, idle, doing, Input, create, start, write, take_out, begin, rebuild_on, step, Reply, accepted, refused, did, safe, done, block, found, mask, change_made, told_to, flushed_first, left_out_lem, program}
+use Rattle.protocol.specs.Program.{nothing, idle, doing, Input, create, start, write, take_out, begin, rebuild_on, step, Reply, accepted, refused, did, safe, done, block, found, mask, change_made, told_to, flushed_first, left_out, program}
 use Rattle.protocol.specs.Machine.{at, effect, Event, cut, swap, ask, View, sure, Views}
 use Rattle.protocol.specs.Promise.{Zeros}
 use Rattle.protocol.specs.Exchange as Exchange
@@ -90,20 +90,20 @@ again_risen = steps 30 (react last_back (start (λ d. false)))
 -- whether the settled label calls slot 0 plainly out
 abbrev out_now : Room Sector → Bool
 out_now (room w nothing x) = false
-out_now (room w (idle o) x) = plainly_out_lem o.now 0
+out_now (room w (idle o) x) = plainly_out o.now 0
 out_now (room w (doing k l o o') x) = false
 
 mended_seen : (seen filled 0 ≡ datum 7) × (seen filled 1 ≡ datum 8) × (seen mended 0 ≡ datum 9) × (seen mended 1 ≡ datum 8) × (out_now mended ≡ false)
-unfolding update after belief copy round_batch prep_batch slots logged_sectors stored_sectors compared_sectors involved log_batch store_batch complete_b whole forward marked kill_batch redo gone level_to again_to last_to rounds in_turn behind disowned last_side expel_batch expel_first prep_places startup wiped_sectors filled_sectors wipe_batch fill_batch flushed_at_begin set_block replace table read read_through write_of change_made rebuilt at_most mask told_to flushed_first left_out_lem program quorum code medium
+unfolding update after belief copy round_batch prep_batch slots logged_sectors stored_sectors compared_sectors involved log_batch store_batch complete_b whole forward marked kill_batch redo gone level_to again_to last_to rounds in_turn behind disowned last_side expel_batch expel_first prep_places startup wiped_sectors filled_sectors wipe_batch fill_batch flushed_at_begin set_block replace table read read_through write_of change_made rebuilt at_most mask told_to flushed_first left_out program quorum code medium
 mended_seen = (refl, refl, refl, refl, refl)
 
 -- THE OLD DISK, WITH THE OLD BLOCK, IS NOTICED
 pub returned_seen : (familiar returned ≡ true) × (out_now risen ≡ true) × (seen risen 0 ≡ datum 9) × (seen risen 1 ≡ datum 8)
-unfolding update after belief copy round_batch prep_batch slots logged_sectors stored_sectors compared_sectors involved log_batch store_batch complete_b whole forward marked kill_batch redo gone level_to again_to last_to rounds in_turn behind disowned last_side expel_batch expel_first prep_places startup wiped_sectors filled_sectors wipe_batch fill_batch flushed_at_begin set_block replace table read read_through write_of change_made rebuilt at_most mask told_to flushed_first left_out_lem program quorum code medium
+unfolding update after belief copy round_batch prep_batch slots logged_sectors stored_sectors compared_sectors involved log_batch store_batch complete_b whole forward marked kill_batch redo gone level_to again_to last_to rounds in_turn behind disowned last_side expel_batch expel_first prep_places startup wiped_sectors filled_sectors wipe_batch fill_batch flushed_at_begin set_block replace table read read_through write_of change_made rebuilt at_most mask told_to flushed_first left_out program quorum code medium
 returned_seen = (refl, refl, refl, refl)
 
 pub again_seen : (out_now again_risen ≡ true) × (seen again_risen 0 ≡ datum 9) × (seen again_risen 1 ≡ datum 8)
-unfolding update after belief copy round_batch prep_batch slots logged_sectors stored_sectors compared_sectors involved log_batch store_batch complete_b whole forward marked kill_batch redo gone level_to again_to last_to rounds in_turn behind disowned last_side expel_batch expel_first prep_places startup wiped_sectors filled_sectors wipe_batch fill_batch flushed_at_begin set_block replace table read read_through write_of change_made rebuilt at_most mask told_to flushed_first left_out_lem program quorum code medium
+unfolding update after belief copy round_batch prep_batch slots logged_sectors stored_sectors compared_sectors involved log_batch store_batch complete_b whole forward marked kill_batch redo gone level_to again_to last_to rounds in_turn behind disowned last_side expel_batch expel_first prep_places startup wiped_sectors filled_sectors wipe_batch fill_batch flushed_at_begin set_block replace table read read_through write_of change_made rebuilt at_most mask told_to flushed_first left_out program quorum code medium
 again_seen = (refl, refl, refl)
 
 -- A slot is taken out, another disk comes into it, and its rebuild begins: the label is one generation newer than that of the disk that was taken out. Power is off, and that disk is back. It is
@@ -115,7 +115,7 @@ abbrev disowning : Room Sector
 disowning = steps 30 (react (disk_in 0 (cut_now begun_again)) (start (λ d. false)))
 
 pub disowned_seen : (out_now begun_again ≡ false) × (out_now disowning ≡ true) × (seen disowning 0 ≡ datum 7) × (seen disowning 1 ≡ datum 8)
-unfolding update after belief copy round_batch prep_batch slots logged_sectors stored_sectors compared_sectors involved log_batch store_batch complete_b whole forward marked kill_batch redo gone level_to again_to last_to rounds in_turn behind disowned last_side expel_batch expel_first prep_places startup wiped_sectors filled_sectors wipe_batch fill_batch flushed_at_begin set_block replace table read read_through write_of change_made rebuilt at_most mask told_to flushed_first left_out_lem program quorum code medium
+unfolding update after belief copy round_batch prep_batch slots logged_sectors stored_sectors compared_sectors involved log_batch store_batch complete_b whole forward marked kill_batch redo gone level_to again_to last_to rounds in_turn behind disowned last_side expel_batch expel_first prep_places startup wiped_sectors filled_sectors wipe_batch fill_batch flushed_at_begin set_block replace table read read_through write_of change_made rebuilt at_most mask told_to flushed_first left_out program quorum code medium
 disowned_seen = (refl, refl, refl, refl)
 
 -- THIS HISTORY IS ONE OF THOSE THAT THE PROMISE IS ABOUT: the events that lead to a room from the empty one, each with what is asked of the world
@@ -195,14 +195,14 @@ came_disk i (room w m x) e n h = (
 )
 
 filled_came : Came filled
-unfolding update after belief copy round_batch prep_batch slots logged_sectors stored_sectors compared_sectors involved log_batch store_batch complete_b whole forward marked kill_batch redo gone level_to again_to last_to rounds in_turn behind disowned last_side expel_batch expel_first prep_places startup wiped_sectors filled_sectors wipe_batch fill_batch flushed_at_begin set_block replace table read read_through write_of change_made rebuilt at_most mask told_to flushed_first left_out_lem program quorum code medium
+unfolding update after belief copy round_batch prep_batch slots logged_sectors stored_sectors compared_sectors involved log_batch store_batch complete_b whole forward marked kill_batch redo gone level_to again_to last_to rounds in_turn behind disowned last_side expel_batch expel_first prep_places startup wiped_sectors filled_sectors wipe_batch fill_batch flushed_at_begin set_block replace table read read_through write_of change_made rebuilt at_most mask told_to flushed_first left_out program quorum code medium
 filled_came =
     let a = came_steps 10 (react empty create) (came_ask empty create (λ p. inl (λ q. refl {a = true})) ([], Exchange.stays, sane_after (λ k. blank))) in
     let b = came_steps 12 (react made (write 0 (one_block 0 (λ j. datum 7)))) (came_ask made (write 0 (one_block 0 (λ j. datum 7))) (fair_write made 0 (one_block 0 (λ j. datum 7))) a) in
     came_steps 12 (react first (write 0 (one_block 1 (λ j. datum 8)))) (came_ask first (write 0 (one_block 1 (λ j. datum 8))) (fair_write first 0 (one_block 1 (λ j. datum 8))) b)
 
 mended_came : Came mended
-unfolding update after belief copy round_batch prep_batch slots logged_sectors stored_sectors compared_sectors involved log_batch store_batch complete_b whole forward marked kill_batch redo gone level_to again_to last_to rounds in_turn behind disowned last_side expel_batch expel_first prep_places startup wiped_sectors filled_sectors wipe_batch fill_batch flushed_at_begin set_block replace table read read_through write_of change_made rebuilt at_most mask told_to flushed_first left_out_lem program quorum code medium
+unfolding update after belief copy round_batch prep_batch slots logged_sectors stored_sectors compared_sectors involved log_batch store_batch complete_b whole forward marked kill_batch redo gone level_to again_to last_to rounds in_turn behind disowned last_side expel_batch expel_first prep_places startup wiped_sectors filled_sectors wipe_batch fill_batch flushed_at_begin set_block replace table read read_through write_of change_made rebuilt at_most mask told_to flushed_first left_out program quorum code medium
 mended_came =
     let a = came_disk 1 filled (refl {a = true}) (λ q. omega (arith, q)) filled_came in
     let b = came_steps 30 (react strange (start (λ d. eqb d 0))) (came_ask strange (start (λ d. eqb d 0)) (λ p. inl (λ q. refl {a = true})) a) in
@@ -211,7 +211,7 @@ mended_came =
     came_steps 12 (react whole_again (write 0 (one_block 0 (λ j. datum 9)))) (came_ask whole_again (write 0 (one_block 0 (λ j. datum 9))) (fair_write whole_again 0 (one_block 0 (λ j. datum 9))) d)
 
 pub again_came : Came again_risen
-unfolding update after belief copy round_batch prep_batch slots logged_sectors stored_sectors compared_sectors involved log_batch store_batch complete_b whole forward marked kill_batch redo gone level_to again_to last_to rounds in_turn behind disowned last_side expel_batch expel_first prep_places startup wiped_sectors filled_sectors wipe_batch fill_batch flushed_at_begin set_block replace table read read_through write_of change_made rebuilt at_most mask told_to flushed_first left_out_lem program quorum code medium
+unfolding update after belief copy round_batch prep_batch slots logged_sectors stored_sectors compared_sectors involved log_batch store_batch complete_b whole forward marked kill_batch redo gone level_to again_to last_to rounds in_turn behind disowned last_side expel_batch expel_first prep_places startup wiped_sectors filled_sectors wipe_batch fill_batch flushed_at_begin set_block replace table read read_through write_of change_made rebuilt at_most mask told_to flushed_first left_out program quorum code medium
 again_came =
     let a = came_disk 0 mended (refl {a = true}) (λ q. omega (arith, q)) mended_came in
     let b = came_steps 30 (react returned (start (λ d. false))) (came_ask returned (start (λ d. false)) (λ p. inl (λ q. refl {a = true})) a) in

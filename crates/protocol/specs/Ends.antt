@@ -22,7 +22,7 @@ use Rattle.protocol.specs.Decide.{in_turn, settled, startup}
 use Rattle.protocol.specs.Rebuild.{begun, raised, healed, wipe, wipe_batch, wiped_sectors, flushed_at_begin, expel_first, beginning}
 use Rattle.protocol.specs.Host.{Code}
 use Rattle.protocol.specs.Program as Program
-use Rattle.protocol.specs.Program.{Stamps, Medium, Own, Kind, creating, starting, logging, storing, labelling, idle, doing, step, did, safe, done, present, flushed_first, at_least_one_lem, last_batch, asked_on_lem, program}
+use Rattle.protocol.specs.Program.{Stamps, Medium, Own, Kind, creating, starting, logging, storing, labelling, idle, doing, step, did, safe, done, present, flushed_first, at_least_one, last_batch, asked_on, program}
 use Rattle.protocol.specs.Machine.{Machine, at, Event, ask, from_host, Runs, stays, goes}
 
 -- the steps that carry out a list of actions, and then those of r
@@ -238,23 +238,23 @@ module _ {X : Type 0} (z : Size) (W : Quorum z.n) (C : LabelCodec X z.n) (K : Re
 
   -- REBUILD ON raises the mark by at least one strip, or the slot is healthy
   abbrev pub after_on : Own → ℕ → Label
-  after_on o b = cond (last_batch z W C K E S R o b) (healed z.n o.now) (raised o.now (o.now.mark + at_least_one_lem z W C K E S R b))
+  after_on o b = cond (last_batch z W C K E S R o b) (healed z.n o.now) (raised o.now (o.now.mark + at_least_one z W C K E S R b))
 
-  pub on_ends : (o : Own) (f : Image X) (b : ℕ) → (l : List (Action X)) × (asked_on_lem z W C K E S R o f b ≡ doing labelling l o (record { now = after_on o b; absent = o.absent; epoch = o.epoch; count = o.count }))
+  pub on_ends : (o : Own) (f : Image X) (b : ℕ) → (l : List (Action X)) × (asked_on z W C K E S R o f b ≡ doing labelling l o (record { now = after_on o b; absent = o.absent; epoch = o.epoch; count = o.count }))
   on_ends o f b = go (last_batch z W C K E S R o b)
     where
-      go : (y : Bool) → (l : List (Action X)) × (cond y (Program.asked_heal z W C K E S R o f) (Program.asked_raise z W C K E S R o f (at_least_one_lem z W C K E S R b)) ≡ doing labelling l o (record { now = cond y (healed z.n o.now) (raised o.now (o.now.mark + at_least_one_lem z W C K E S R b)); absent = o.absent; epoch = o.epoch; count = o.count }))
+      go : (y : Bool) → (l : List (Action X)) × (cond y (Program.asked_heal z W C K E S R o f) (Program.asked_raise z W C K E S R o f (at_least_one z W C K E S R b)) ≡ doing labelling l o (record { now = cond y (healed z.n o.now) (raised o.now (o.now.mark + at_least_one z W C K E S R b)); absent = o.absent; epoch = o.epoch; count = o.count }))
       go true = (_, refl)
       go false = (_, refl)
 
-  at_least : (b : ℕ) → 1 ≤ at_least_one_lem z W C K E S R b
+  at_least : (b : ℕ) → 1 ≤ at_least_one z W C K E S R b
   at_least zero = omega arith
   at_least (suc b) = omega arith
 
   pub on_raises : (o : Own) (b : ℕ) → ((after_on o b).rebuilding ≡ z.n) ⊎ (((after_on o b).rebuilding ≡ o.now.rebuilding) × (o.now.mark < (after_on o b).mark))
   on_raises o b = go (last_batch z W C K E S R o b)
     where
-      go : (y : Bool) → ((cond y (healed z.n o.now) (raised o.now (o.now.mark + at_least_one_lem z W C K E S R b))).rebuilding ≡ z.n) ⊎ (((cond y (healed z.n o.now) (raised o.now (o.now.mark + at_least_one_lem z W C K E S R b))).rebuilding ≡ o.now.rebuilding) × (o.now.mark < (cond y (healed z.n o.now) (raised o.now (o.now.mark + at_least_one_lem z W C K E S R b))).mark))
+      go : (y : Bool) → ((cond y (healed z.n o.now) (raised o.now (o.now.mark + at_least_one z W C K E S R b))).rebuilding ≡ z.n) ⊎ (((cond y (healed z.n o.now) (raised o.now (o.now.mark + at_least_one z W C K E S R b))).rebuilding ≡ o.now.rebuilding) × (o.now.mark < (cond y (healed z.n o.now) (raised o.now (o.now.mark + at_least_one z W C K E S R b))).mark))
       go true = inl refl
       go false = inr (refl, omega (arith, at_least b))
 
@@ -280,6 +280,6 @@ module _ {X : Type 0} (z : Size) (W : Quorum z.n) (C : LabelCodec X z.n) (K : Re
       go r false e y q = ltb-false o.now.rebuilding z.n e
       go r true e true q = resting j (rw q (omega arith))
       go r true e false q =
-          let g = leb-false z.T (o.now.mark + at_least_one_lem z W C K E S R b) q in
-          let m : (after_on o b).mark ≡ o.now.mark + at_least_one_lem z W C K E S R b = rw q in
+          let g = leb-false z.T (o.now.mark + at_least_one z W C K E S R b) q in
+          let m : (after_on o b).mark ≡ o.now.mark + at_least_one z W C K E S R b = rw q in
           r (omega (arith, g, m)) (omega (arith, m, at_least b)) (omega (arith, g, h, at_least b))

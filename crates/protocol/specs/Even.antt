@@ -11,11 +11,11 @@ use mathlib.Core.List.Memᴰ
 use mathlib.Core.List.{List, [], ◌∷◌, Memᴰ, ◌++◌}
 use Rattle.protocol.specs.World.{Image, World}
 use Rattle.protocol.specs.Log.{RecordCodec}
-use Rattle.protocol.specs.Label.{plainly_out_lem, Size, Quorum, LabelCodec}
+use Rattle.protocol.specs.Label.{plainly_out, Size, Quorum, LabelCodec}
 use Rattle.protocol.specs.Startup.{labelled, M}
 use Rattle.protocol.specs.Request.{outed}
 use Rattle.protocol.specs.Host.{Code}
-use Rattle.protocol.specs.Program.{Stamps, Medium, Refusal, NO_LABEL, TOO_FEW, BAD_BLOCK, BUSY, NOT_NOW, Verdict, clear, because, first, Own, Memory, nothing, idle, doing, Input, create, start, read_block, write, take_out, begin, rebuild_on, scrub_stripe, repair, step, Reply, accepted, refused, did, safe, done, block, found, beyond, mask, left_out_lem, may_start, may, generations_left, answer, asked_start, asked_out, from_nothing, from_idle, from_doing, unseen, program}
+use Rattle.protocol.specs.Program.{Stamps, Medium, Refusal, NO_LABEL, TOO_FEW, BAD_BLOCK, BUSY, NOT_NOW, Verdict, clear, because, first, Own, Memory, nothing, idle, doing, Input, create, start, read_block, write, take_out, begin, rebuild_on, scrub_stripe, repair, step, Reply, accepted, refused, did, safe, done, block, found, beyond, mask, left_out, may_start, may, generations_left, answer, asked_start, asked_out, from_nothing, from_idle, from_doing, unseen, program}
 use Rattle.protocol.specs.Machine as Machine
 use Rattle.protocol.specs.Machine.{Machine, at, effect, Event, ask, Outside, Runs, View, Views, next}
 
@@ -59,7 +59,7 @@ module _ {X : Type 0} (z : Size) (W : Quorum z.n) (C : LabelCodec X z.n) (K : Re
   may_start_by A f =
       first
       (record { why = NO_LABEL; holds = not (labelled z C A f) }
-      ∷ record { why = TOO_FEW; holds = not (test (left_out_lem z W C K E S R A f)) }
+      ∷ record { why = TOO_FEW; holds = not (test (left_out z W C K E S R A f)) }
       ∷ record { why = NOT_NOW; holds = not (leb (suc (suc (M z C A f))) R.greatest) }
       ∷ [])
 
@@ -69,7 +69,7 @@ module _ {X : Type 0} (z : Size) (W : Quorum z.n) (C : LabelCodec X z.n) (K : Re
       (record { why = TOO_FEW; holds = not (test (outed z.n o.now d).out) }
       ∷ record { why = BAD_BLOCK; holds = not (ltb d z.n) }
       ∷ record { why = BUSY; holds = b }
-      ∷ record { why = NOT_NOW; holds = plainly_out_lem o.now d || not (generations_left z W C K E S R o) }
+      ∷ record { why = NOT_NOW; holds = plainly_out o.now d || not (generations_left z W C K E S R o) }
       ∷ [])
 
   -- it is asked in two places; every other request goes as before
@@ -117,7 +117,7 @@ module _ {X : Type 0} (z : Size) (W : Quorum z.n) (C : LabelCodec X z.n) (K : Re
   -- the set of slots that a request leaves out, if it is accepted: those that start-up's label will call out, those that are out after a take_out; the other requests leave none out
   abbrev pub leaves_nothing : Image X → Input X → List (ℕ → Bool)
   leaves_nothing f create = []
-  leaves_nothing f (start A) = left_out_lem z W C K E S R (beyond z.n A) (mask z W C K E S R (beyond z.n A) f) ∷ []
+  leaves_nothing f (start A) = left_out z W C K E S R (beyond z.n A) (mask z W C K E S R (beyond z.n A) f) ∷ []
   leaves_nothing f (read_block t i) = []
   leaves_nothing f (write t ch) = []
   leaves_nothing f (take_out d) = []
@@ -193,7 +193,7 @@ module _ {X : Type 0} (z : Size) (W : Quorum z.n) (C : LabelCodec X z.n) (K : Re
   sight A f = mask z W C K E S R (beyond z.n A) f
 
   abbrev set_start : (ℕ → Bool) → Image X → ℕ → Bool
-  set_start A f = left_out_lem z W C K E S R (beyond z.n A) (sight A f)
+  set_start A f = left_out z W C K E S R (beyond z.n A) (sight A f)
 
   abbrev some_label : (ℕ → Bool) → Image X → Bool
   some_label A f = labelled z C (beyond z.n A) (sight A f)
@@ -202,7 +202,7 @@ module _ {X : Type 0} (z : Size) (W : Quorum z.n) (C : LabelCodec X z.n) (K : Re
   some_room A f = leb (suc (suc (M z C (beyond z.n A) (sight A f)))) R.greatest
 
   abbrev no_need : Own → ℕ → Bool
-  no_need o d = plainly_out_lem o.now d || not (generations_left z W C K E S R o)
+  no_need o d = plainly_out o.now d || not (generations_left z W C K E S R o)
 
   -- the program's own test holds of whatever it accepts
   pub passed : (m : Memory X) (f : Image X) (i : Input X) → Common test m f i

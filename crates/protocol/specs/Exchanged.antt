@@ -20,7 +20,7 @@ use Rattle.protocol.specs.Decide.{Accepted, Rest, few_absent, some_seen, quiet_f
 use Rattle.protocol.specs.Spare.{Spares}
 use Rattle.protocol.specs.Host.{Host, blames, Code, proper, table}
 use Rattle.protocol.specs.Request.{outed}
-use Rattle.protocol.specs.Program.{Stamps, Medium, BAD_BLOCK, BUSY, TOO_FEW, Verdict, clear, because, Own, Kind, creating, starting, logging, storing, labelling, Memory, nothing, idle, doing, Input, create, start, read_block, write, take_out, begin, rebuild_on, scrub_stripe, repair, step, Reply, accepted, beyond, mask, unseen, finding, also, may, may_repair, may_start, may_create, asked_start, asked_create, asked_write, asked_repair, asked_out, asked_begin_lem, asked_on_lem, asked_heal, asked_raise, at_least_one_lem, last_batch, answer, from_idle, from_doing, one_step, meanwhile, scrubbed, program}
+use Rattle.protocol.specs.Program.{Stamps, Medium, BAD_BLOCK, BUSY, TOO_FEW, Verdict, clear, because, Own, Kind, creating, starting, logging, storing, labelling, Memory, nothing, idle, doing, Input, create, start, read_block, write, take_out, begin, rebuild_on, scrub_stripe, repair, step, Reply, accepted, beyond, mask, unseen, finding, also, may, may_repair, may_start, may_create, asked_start, asked_create, asked_write, asked_repair, asked_out, asked_begin, asked_on, asked_heal, asked_raise, at_least_one, last_batch, answer, from_idle, from_doing, one_step, meanwhile, scrubbed, program}
 use Rattle.protocol.specs.Machine.{at, effect, Event, swap, ask, power_cut, program_dies, from_outside, from_host, View, sure, open_write, kept_write, Goes, Views, same, next}
 use Rattle.protocol.specs.Invariant.{Ghost, Left, Pends, Ready, Ends, Busy, Invariant}
 use Rattle.protocol.specs.Promise.{ready_early, beyond_in, beyond_none, mask_present, accept_f, same_label_lem, spared, start_safe, create_tests, Zeros, zeros_off, zeros_same, copy_zeros, simulate}
@@ -297,10 +297,10 @@ module _ {X : Type 0} (z : Size) (W : Quorum z.n) (C : LabelCodec X z.n) (K : Re
   kin_idle x o f (read_block t i) h = kin_answer x (idle o) (idle o) (may z W C K E S R false o (read_block t i)) _ h h
   kin_idle x o f (write t ch) h = kin_answer x (idle o) (asked_write z W C K E S R o f t ch) (may z W C K E S R false o (write t ch)) accepted h (record { at_home = h.at_home; born = h.born; rises = omega arith; lying = h.lying; lying' = h.lying })
   kin_idle x o f (take_out d) h = kin_answer x (idle o) (asked_out z W C K E S R o d) (may z W C K E S R false o (take_out d)) accepted h (kin_next x o _ refl h)
-  kin_idle x o f (begin d) h = kin_answer x (idle o) (asked_begin_lem z W C K E S R o f d) (may z W C K E S R false o (begin d)) accepted h (kin_next x o _ refl h)
-  kin_idle x o f (rebuild_on b) h = kin_answer x (idle o) (asked_on_lem z W C K E S R o f b) (may z W C K E S R false o (rebuild_on b)) accepted h (go (last_batch z W C K E S R o b))
+  kin_idle x o f (begin d) h = kin_answer x (idle o) (asked_begin z W C K E S R o f d) (may z W C K E S R false o (begin d)) accepted h (kin_next x o _ refl h)
+  kin_idle x o f (rebuild_on b) h = kin_answer x (idle o) (asked_on z W C K E S R o f b) (may z W C K E S R false o (rebuild_on b)) accepted h (go (last_batch z W C K E S R o b))
     where
-      go : (y : Bool) → KinOf x (cond y (asked_heal z W C K E S R o f) (asked_raise z W C K E S R o f (at_least_one_lem z W C K E S R b)))
+      go : (y : Bool) → KinOf x (cond y (asked_heal z W C K E S R o f) (asked_raise z W C K E S R o f (at_least_one z W C K E S R b)))
       go true = kin_next x o _ refl h
       go false = kin_next x o _ refl h
   kin_idle x o f (repair t) h = kin_answer x (idle o) (asked_repair z W C K E S R o f t) (may_repair z W C K E S R false o f t) accepted h (record { at_home = h.at_home; born = h.born; rises = omega arith; lying = h.lying; lying' = h.lying })

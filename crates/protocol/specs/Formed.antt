@@ -20,7 +20,7 @@ use Rattle.protocol.specs.Rebuild.{begun, raised, healed, wipe, wipe_batch, wipe
 use Rattle.protocol.specs.Spare.{startup_spares, round_spares, present_in}
 use Rattle.protocol.specs.Restart.{restart}
 use Rattle.protocol.specs.Host.{Host, Code, read, rebuilt, accused_slot, repair_of, write_of}
-use Rattle.protocol.specs.Program.{Stamps, Medium, Verdict, clear, because, Own, Kind, creating, starting, logging, storing, labelling, Memory, nothing, idle, doing, Input, create, start, read_block, write, take_out, begin, rebuild_on, scrub_stripe, repair, step, Reply, accepted, block, found, scrubbed, new_label, beyond, mask, flushed_first, created, started, told_to, back_in, filling, at_least_one_lem, relabelled, asked_create, may_create, asked_start, may_start, ask_log, finding, change_made, asked_write, asked_repair, may_repair, asked_out, asked_begin_lem, asked_on_lem, asked_heal, asked_raise, last_batch, may, answer, one_step, meanwhile, from_nothing, from_idle, from_doing, unseen, program}
+use Rattle.protocol.specs.Program.{Stamps, Medium, Verdict, clear, because, Own, Kind, creating, starting, logging, storing, labelling, Memory, nothing, idle, doing, Input, create, start, read_block, write, take_out, begin, rebuild_on, scrub_stripe, repair, step, Reply, accepted, block, found, scrubbed, new_label, beyond, mask, flushed_first, created, started, told_to, back_in, filling, at_least_one, relabelled, asked_create, may_create, asked_start, may_start, ask_log, finding, change_made, asked_write, asked_repair, may_repair, asked_out, asked_begin, asked_on, asked_heal, asked_raise, last_batch, may, answer, one_step, meanwhile, from_nothing, from_idle, from_doing, unseen, program}
 use Rattle.protocol.specs.Invariant.{Ready, Invariant}
 use Rattle.protocol.specs.Promise as Promise
 use Rattle.protocol.specs.Promise.{beyond_in, beyond_none, proper_without, proper_begun, proper_raised, proper_healed, proper_new, Zeros, zeros_same, create_tests, out_tests, begin_tests, on_tests}
@@ -286,7 +286,7 @@ module _ {X : Type 0} (z : Size) (W : Quorum z.n) (C : LabelCodec X z.n) (K : Re
       let N = outed z.n o.now d in
       change_shape o (relabelled z W C K E S R o N) [] refl refl (R.fits N (proper_without z o.now (λ x. eqb x d) (suc o.now.generation) (λ x j. ne_eqb x d (λ q. omega (arith, t.0))) r.sound) (omega arith) t.2) w s tt h)
   shaped_idle w o (begin d) v s r h =
-      verdict w (idle o) h (may z W C K E S R false o (begin d)) (asked_begin_lem z W C K E S R o (mask z W C K E S R (back_in z W C K E S R o.absent d) w.cur) d)
+      verdict w (idle o) h (may z W C K E S R false o (begin d)) (asked_begin z W C K E S R o (mask z W C K E S R (back_in z W C K E S R o.absent d) w.cur) d)
       (λ e.
       let t = begin_tests z W C K E S R o d e in
       let back = back_in z W C K E S R o.absent d in
@@ -302,14 +302,14 @@ module _ {X : Type 0} (z : Size) (W : Quorum z.n) (C : LabelCodec X z.n) (K : Re
       split x true p false q y = absurd (true≢false (sym (rw (p, q)) ∙ y))
       split x false p c q y = inr p
   shaped_idle w o (rebuild_on b) v s r h =
-      verdict w (idle o) h (may z W C K E S R false o (rebuild_on b)) (asked_on_lem z W C K E S R o (mask z W C K E S R o.absent w.cur) b) (λ e. let t = on_tests z W C K E S R o b e in on b t.0 t.1 (last_batch z W C K E S R o b) refl)
+      verdict w (idle o) h (may z W C K E S R false o (rebuild_on b)) (asked_on z W C K E S R o (mask z W C K E S R o.absent w.cur) b) (λ e. let t = on_tests z W C K E S R o b e in on b t.0 t.1 (last_batch z W C K E S R o b) refl)
     where
-      on : (b : ℕ) → o.now.rebuilding < z.n → suc o.now.generation ≤ R.greatest → (y : Bool) → last_batch z W C K E S R o b ≡ y → Shaped (at w (cond y (asked_heal z W C K E S R o (mask z W C K E S R o.absent w.cur)) (asked_raise z W C K E S R o (mask z W C K E S R o.absent w.cur) (at_least_one_lem z W C K E S R b))))
+      on : (b : ℕ) → o.now.rebuilding < z.n → suc o.now.generation ≤ R.greatest → (y : Bool) → last_batch z W C K E S R o b ≡ y → Shaped (at w (cond y (asked_heal z W C K E S R o (mask z W C K E S R o.absent w.cur)) (asked_raise z W C K E S R o (mask z W C K E S R o.absent w.cur) (at_least_one z W C K E S R b))))
       on b i room true e =
           let N = healed z.n o.now in
           change_shape o (relabelled z W C K E S R o N) (filling z W C K E S R o (mask z W C K E S R o.absent w.cur) (z.T - o.now.mark)) refl refl (R.fits N (proper_healed z o.now r.sound) (omega arith) room) w s (fill_data o.now (z.T - o.now.mark) (rebuilt z W K E o.now (mask z W C K E S R o.absent w.cur) o.now.rebuilding)) h
       on b i room false e =
-          let more = at_least_one_lem z W C K E S R b in
+          let more = at_least_one z W C K E S R b in
           let N = raised o.now (o.now.mark + more) in
           change_shape o (relabelled z W C K E S R o N) (filling z W C K E S R o (mask z W C K E S R o.absent w.cur) more) refl refl (R.fits N (proper_raised z o.now (o.now.mark + more) i (omega (arith, leb-false z.T (o.now.mark + more) e)) r.sound) (omega arith) room) w s (fill_data o.now more (rebuilt z W K E o.now (mask z W C K E S R o.absent w.cur) o.now.rebuilding)) h
   shaped_idle w o (repair t) v s r h =

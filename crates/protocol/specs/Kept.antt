@@ -28,10 +28,10 @@ abbrev pub slot_of : {X : Type 0} → Action X → ℕ
 slot_of (put k x) = slot k
 slot_of (flush d) = d
 
-abbrev pub is_label_lem : Place → Bool
-is_label_lem (label d b) = true
-is_label_lem (log d j) = false
-is_label_lem (strip d t j) = false
+abbrev pub is_label : Place → Bool
+is_label (label d b) = true
+is_label (log d j) = false
+is_label (strip d t j) = false
 
 module _ {X : Type 0} (z : Size) (W : Quorum z.n) (C : LabelCodec X z.n) (K : RecordCodec X) (E : Code X z.n K.c W) (S : Stamps) (R : Medium z W C K E S) where
   -- FROM ZEROS ON. A shelf begins with disks of zeros and no program; whatever happens then, in any order and as often as it likes (create, start-ups,
@@ -384,7 +384,7 @@ module _ {X : Type 0} (z : Size) (W : Quorum z.n) (C : LabelCodec X z.n) (K : Re
 
   -- BEFORE THE LOG IS DECIDED START-UP PUTS LABEL SECTORS ONLY (named wrong answer 5)
   abbrev Labelled : Place → Type 0
-  Labelled k = is_label_lem k ≡ true
+  Labelled k = is_label k ≡ true
 
   abbrev Any : ℕ → Type 0
   Any d = Unit {0}
@@ -397,7 +397,7 @@ module _ {X : Type 0} (z : Size) (W : Quorum z.n) (C : LabelCodec X z.n) (K : Re
   unfolding prep_batch
   prep_labels f g l ds = each_batch Labelled Any (prep_batch C f g l ds) (λ k m. let y = of_prep C g (keep (λ d. not (prepared C f g d)) ds) k m in rw y.2) (λ d m. tt)
 
-  pub labels_first : (A : ℕ → Bool) (f : Image X) → (startup z C K A f ≡ rounds z C A f ++ redo K (belief z (settled z C K A f)) f) × Each (λ k. is_label_lem k ≡ true) (λ d. Unit {0}) (rounds z C A f)
+  pub labels_first : (A : ℕ → Bool) (f : Image X) → (startup z C K A f ≡ rounds z C A f ++ redo K (belief z (settled z C K A f)) f) × Each (λ k. is_label k ≡ true) (λ d. Unit {0}) (rounds z C A f)
   unfolding startup in_turn rounds
   labels_first A f =
       let m = M z C A f in

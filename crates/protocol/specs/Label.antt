@@ -28,8 +28,8 @@ abbrev pub again : Label → ℕ → Label
 again l g = record { generation = g; out = l.out; rebuilding = l.rebuilding; mark = l.mark }
 
 -- called out, and not being rebuilt
-abbrev pub plainly_out_lem : Label → ℕ → Bool
-plainly_out_lem l d = l.out d && not (eqb d l.rebuilding)
+abbrev pub plainly_out : Label → ℕ → Bool
+plainly_out l d = l.out d && not (eqb d l.rebuilding)
 
 -- n slots, T stripes
 pub record Size : Type 0 where
@@ -38,7 +38,7 @@ pub record Size : Type 0 where
 
 -- the belief under a label: tails of the slots that are not plainly out; all strips of those not out, strips below the mark of the one being rebuilt
 abbrev pub looked : Size → Label → ℕ → Bool
-looked z l d = ltb d z.n && not (plainly_out_lem l d)
+looked z l d = ltb d z.n && not (plainly_out l d)
 
 abbrev pub believed : Size → Label → ℕ → ℕ → Bool
 believed z l d t = looked z l d && (ltb t z.T && (not (l.out d) || ltb t l.mark))
@@ -73,7 +73,7 @@ or_is false m h = refl
 -- in other words
 module _ (z : Size) (l : Label) (d : ℕ) where
   pub look_of : looked z l d ≡ true → (d < z.n) × ((l.out d ≡ false) ⊎ (d ≡ l.rebuilding))
-  look_of h = let p = both (ltb d z.n) (not (plainly_out_lem l d)) h in (ltb-true d z.n p.0, go (l.out d) refl (eqb d l.rebuilding) refl p.1)
+  look_of h = let p = both (ltb d z.n) (not (plainly_out l d)) h in (ltb-true d z.n p.0, go (l.out d) refl (eqb d l.rebuilding) refl p.1)
     where
       go : (o : Bool) → l.out d ≡ o → (e : Bool) → eqb d l.rebuilding ≡ e → not (o && not e) ≡ true → (l.out d ≡ false) ⊎ (d ≡ l.rebuilding)
       go true a true b q = inr (eqb-true d l.rebuilding b)
@@ -81,7 +81,7 @@ module _ (z : Size) (l : Label) (d : ℕ) where
       go false a e b q = inl a
 
   pub look_is : d < z.n → (l.out d ≡ false) ⊎ (d ≡ l.rebuilding) → looked z l d ≡ true
-  look_is i h = and_is (ltb d z.n) (not (plainly_out_lem l d)) (lt-ltb d z.n i) (⊎_elim (λ q. nand_l (l.out d) (eqb d l.rebuilding) q) (λ q. nand_r (l.out d) (eqb d l.rebuilding) (eq-eqb d l.rebuilding q)) h)
+  look_is i h = and_is (ltb d z.n) (not (plainly_out l d)) (lt-ltb d z.n i) (⊎_elim (λ q. nand_l (l.out d) (eqb d l.rebuilding) q) (λ q. nand_r (l.out d) (eqb d l.rebuilding) (eq-eqb d l.rebuilding q)) h)
 
   pub believe_of : (t : ℕ) → believed z l d t ≡ true → (d < z.n) × (t < z.T) × ((l.out d ≡ false) ⊎ ((d ≡ l.rebuilding) × (t < l.mark)))
   believe_of t h =

@@ -12,7 +12,7 @@ use Rattle.protocol.specs.Log.{RecordCodec}
 use Rattle.protocol.specs.Write.{both}
 use Rattle.protocol.specs.Label.{Size, Quorum, LabelCodec}
 use Rattle.protocol.specs.Host.{Blocks, Code, read, read_through, write_of, whole_change, repair_of, rebuilt}
-use Rattle.protocol.specs.Program.{Stamps, Medium, Memory, nothing, idle, doing, Input, create, start, read_block, write, take_out, begin, rebuild_on, scrub_stripe, repair, step, Reply, mask, change_made, left_out_lem, flushed_first, told_to}
+use Rattle.protocol.specs.Program.{Stamps, Medium, Memory, nothing, idle, doing, Input, create, start, read_block, write, take_out, begin, rebuild_on, scrub_stripe, repair, step, Reply, mask, change_made, left_out, flushed_first, told_to}
 use Rattle.protocol.specs.Machine as Machine
 use Rattle.protocol.specs.Machine.{Machine, at, effect, Event, ask, Outside}
 use Rattle.protocol.specs.Promise.{Zeros}
@@ -193,7 +193,7 @@ module _ {X : Type 0} (z : Size) (C : LabelCodec X z.n) (K : RecordCodec X) (E :
           fits = R.fits;
           is_proper = R.is_proper;
           fits_record = R.fits_record;
-          is_zeros_lem = R.is_zeros_lem;
+          is_zeros = R.is_zeros;
           zeros_of = R.zeros_of;
           zeros_are = R.zeros_are;
           same_zeros = R.same_zeros;
@@ -203,7 +203,7 @@ module _ {X : Type 0} (z : Size) (C : LabelCodec X z.n) (K : RecordCodec X) (E :
 
     -- THE FAMILY IS NO PART OF THE PROGRAM
     pub same_by : (m : Memory X) (f : Image X) (i : Input X) → program_by z (no_sets z.n) C K E S R test m f i ≡ program_by z W C K code_of S medium_for test m f i
-    unfolding program_by mask left_out_lem flushed_first told_to read read_through write_of change_made whole_change repair_of rebuilt
+    unfolding program_by mask left_out flushed_first told_to read read_through write_of change_made whole_change repair_of rebuilt
     same_by nothing f create = refl
     same_by nothing f (start A) = refl
     same_by nothing f (read_block t i) = refl
@@ -236,7 +236,7 @@ module _ {X : Type 0} (z : Size) (C : LabelCodec X z.n) (K : RecordCodec X) (E :
     same_by (doing k l o o') f step = refl
 
     pub same_leaves : (m : Memory X) (f : Image X) (i : Input X) → leaves z (no_sets z.n) C K E S R test m f i ≡ leaves z W C K code_of S medium_for test m f i
-    unfolding mask left_out_lem
+    unfolding mask left_out
     same_leaves nothing f create = refl
     same_leaves nothing f (start A) = refl
     same_leaves nothing f (read_block t i) = refl

@@ -9,7 +9,7 @@ use Rattle.protocol.specs.Batch.{flushes}
 use Rattle.protocol.specs.Slots.{from, slots, every}
 use Rattle.protocol.specs.Log.{Write, RecordCodec}
 use Rattle.protocol.specs.Write.{log_write, store}
-use Rattle.protocol.specs.Label.{Label, plainly_out_lem, Size, believed, belief, Quorum, LabelCodec, round}
+use Rattle.protocol.specs.Label.{Label, plainly_out, Size, believed, belief, Quorum, LabelCodec, round}
 use Rattle.protocol.specs.Startup.{labelled, gone, L, M}
 use Rattle.protocol.specs.Decide.{settled, startup}
 use Rattle.protocol.specs.Request.{outed}
@@ -36,9 +36,9 @@ pub record Medium {X : Type 0} (z : Size) (W : Quorum z.n) (C : LabelCodec X z.n
   pub fits : (l : Label) → Proper z l → 0 < l.generation → l.generation ≤ greatest → C.Fits l
   pub is_proper : (l : Label) → C.Fits l → Proper z l × (l.generation ≤ greatest)
   pub fits_record : (σ : ℕ) (w : Write X) → σ < S.base (suc greatest) → w.stripe < z.T → ((d : ℕ) → w.changes d ≡ true → d < z.n) → K.Fits σ w
-  pub is_zeros_lem : X → Bool
-  pub zeros_of : (x : X) → is_zeros_lem x ≡ true → x ≡ K.zeros
-  pub zeros_are : is_zeros_lem K.zeros ≡ true
+  pub is_zeros : X → Bool
+  pub zeros_of : (x : X) → is_zeros x ≡ true → x ≡ K.zeros
+  pub zeros_are : is_zeros K.zeros ≡ true
   pub same_zeros : C.zeros ≡ K.zeros
   pub zeros_label : (d : ℕ) (b : Bool) → (C.decode d b K.zeros).generation ≡ 0
   pub zeros_shard : (t d j : ℕ) → d < z.n → j < K.c → E.shard t (λ i l. K.zeros) d j ≡ K.zeros
@@ -132,8 +132,8 @@ module _ {X : Type 0} (z : Size) (W : Quorum z.n) (C : LabelCodec X z.n) (K : Re
   -- CREATE, on an image that is zeros throughout: label 1 to every slot
   abbrev pub blank_slot : Image X → ℕ → Bool
   blank_slot f d =
-      (R.is_zeros_lem (f (label d false)) && R.is_zeros_lem (f (label d true)))
-      && (every (λ j. R.is_zeros_lem (f (log d j))) (from 0 (suc K.c)) && every (λ t. every (λ j. R.is_zeros_lem (f (strip d t j))) (from 0 K.c)) (from 0 z.T))
+      (R.is_zeros (f (label d false)) && R.is_zeros (f (label d true)))
+      && (every (λ j. R.is_zeros (f (log d j))) (from 0 (suc K.c)) && every (λ t. every (λ j. R.is_zeros (f (strip d t j))) (from 0 K.c)) (from 0 z.T))
 
   abbrev pub blank : Image X → Bool
   blank f = every (blank_slot f) (from 0 z.n)
@@ -155,15 +155,15 @@ module _ {X : Type 0} (z : Size) (W : Quorum z.n) (C : LabelCodec X z.n) (K : Re
   asked_start A f = doing starting (flushes (flushed_first A) ++ startup z C K A f) (started A f) (started A f)
 
   -- the slots that the settled label will call out
-  unfoldable pub left_out_lem : (ℕ → Bool) → Image X → ℕ → Bool
-  left_out_lem A f d = (L z C A f).out d || gone z C A f d
+  unfoldable pub left_out : (ℕ → Bool) → Image X → ℕ → Bool
+  left_out A f d = (L z C A f).out d || gone z C A f d
 
   -- document 03's table: a present disk without a valid label; more than m slots absent or out (or stale); and no generations left
   abbrev pub may_start : (ℕ → Bool) → Image X → Verdict
   may_start A f =
       first
       (record { why = NO_LABEL; holds = not (labelled z C A f) }
-      ∷ record { why = TOO_FEW; holds = not (W.few (left_out_lem A f)) }
+      ∷ record { why = TOO_FEW; holds = not (W.few (left_out A f)) }
       ∷ record { why = NOT_NOW; holds = not (leb (suc (suc (M z C A f))) R.greatest) }
       ∷ [])
 
@@ -212,14 +212,14 @@ module _ {X : Type 0} (z : Size) (W : Quorum z.n) (C : LabelCodec X z.n) (K : Re
   abbrev pub back_in : (ℕ → Bool) → ℕ → ℕ → Bool
   back_in absent d e = absent e && not (eqb e d)
 
-  abbrev pub asked_begin_lem : Own → Image X → ℕ → Memory X
-  asked_begin_lem o f d =
+  abbrev pub asked_begin : Own → Image X → ℕ → Memory X
+  asked_begin o f d =
       doing labelling (beginning K C f o.now d (told_to (back_in o.absent d))) o
       (record { now = begun o.now d; absent = back_in o.absent d; epoch = o.epoch; count = o.count })
 
-  abbrev pub at_least_one_lem : ℕ → ℕ
-  at_least_one_lem zero = 1
-  at_least_one_lem (suc b) = suc b
+  abbrev pub at_least_one : ℕ → ℕ
+  at_least_one zero = 1
+  at_least_one (suc b) = suc b
 
   abbrev pub filling : Own → Image X → ℕ → List (Action X)
   filling o f more = fill K o.now more (rebuilt z W K E o.now f o.now.rebuilding)
@@ -232,10 +232,10 @@ module _ {X : Type 0} (z : Size) (W : Quorum z.n) (C : LabelCodec X z.n) (K : Re
 
   -- the batch of strips reaches the end: then the slot is healthy
   abbrev pub last_batch : Own → ℕ → Bool
-  last_batch o b = leb z.T (o.now.mark + at_least_one_lem b)
+  last_batch o b = leb z.T (o.now.mark + at_least_one b)
 
-  abbrev pub asked_on_lem : Own → Image X → ℕ → Memory X
-  asked_on_lem o f b = cond (last_batch o b) (asked_heal o f) (asked_raise o f (at_least_one_lem b))
+  abbrev pub asked_on : Own → Image X → ℕ → Memory X
+  asked_on o f b = cond (last_batch o b) (asked_heal o f) (asked_raise o f (at_least_one b))
 
   -- whether a request is refused. busy: another changing request is under way
   abbrev pub generations_left : Own → Bool
@@ -256,7 +256,7 @@ module _ {X : Type 0} (z : Size) (W : Quorum z.n) (C : LabelCodec X z.n) (K : Re
       (record { why = TOO_FEW; holds = not (W.few (outed z.n o.now d).out) }
       ∷ record { why = BAD_BLOCK; holds = not (ltb d z.n) }
       ∷ record { why = BUSY; holds = b }
-      ∷ record { why = NOT_NOW; holds = plainly_out_lem o.now d || not (generations_left o) }
+      ∷ record { why = NOT_NOW; holds = plainly_out o.now d || not (generations_left o) }
       ∷ [])
   may b o (begin d) =
       first
@@ -315,8 +315,8 @@ module _ {X : Type 0} (z : Size) (W : Quorum z.n) (C : LabelCodec X z.n) (K : Re
   from_idle o f (read_block t i) = answer (idle o) (may false o (read_block t i)) (idle o) (block (read z W K E o.now f t i))
   from_idle o f (write t ch) = answer (idle o) (may false o (write t ch)) (asked_write o f t ch) accepted
   from_idle o f (take_out d) = answer (idle o) (may false o (take_out d)) (asked_out o d) accepted
-  from_idle o f (begin d) = answer (idle o) (may false o (begin d)) (asked_begin_lem o f d) accepted
-  from_idle o f (rebuild_on b) = answer (idle o) (may false o (rebuild_on b)) (asked_on_lem o f b) accepted
+  from_idle o f (begin d) = answer (idle o) (may false o (begin d)) (asked_begin o f d) accepted
+  from_idle o f (rebuild_on b) = answer (idle o) (may false o (rebuild_on b)) (asked_on o f b) accepted
   from_idle o f (scrub_stripe t) = answer (idle o) (may false o (scrub_stripe t)) (idle o) (found (E.scrub t (λ d j. f (strip d t j))))
   from_idle o f (repair t) = answer (idle o) (may_repair false o f t) (asked_repair o f t) accepted
   from_idle o f step = answer (idle o) (may false o step) (idle o) accepted

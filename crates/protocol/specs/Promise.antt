@@ -14,7 +14,7 @@ use Rattle.protocol.specs.Slots.{from, in_from, of_from, in_slots, every, every_
 use Rattle.protocol.specs.Log.{Write, RecordCodec, Belief, Table, Wrote, Complete, Old, New, Quiet, within_self, Agrees, old_frame, new_frame}
 use Rattle.protocol.specs.Write.{both, log_write, store, Mid}
 use Rattle.protocol.specs.Redo.{decision}
-use Rattle.protocol.specs.Label.{Label, again, plainly_out_lem, Size, looked, believed, belief, look_of, look_is, believe_of, believe_is, Quorum, LabelCodec, copy, Aged, round, Labels}
+use Rattle.protocol.specs.Label.{Label, again, plainly_out, Size, looked, believed, belief, look_of, look_is, believe_of, believe_is, Quorum, LabelCodec, copy, Aged, round, Labels}
 use Rattle.protocol.specs.Startup.{Framed, without, without_narrow, without_gone, Shelf, labelled, gone, stale, gone_absent, L, M, M_positive, L_valid}
 use Rattle.protocol.specs.Decide.{settled, startup, Accepted, quiet_framed, mid_framed, new_framed, Rest, Met, meets_shelf, base_below, start_quiet, start_mid, start_new, done_above}
 use Rattle.protocol.specs.Request.{log_rest, store_rest, outed, relabel}
@@ -26,7 +26,7 @@ use Rattle.protocol.specs.Blind.{startup_blind, settled_same, accepted_same, sta
 use Rattle.protocol.specs.Restart.{restart}
 use Rattle.protocol.specs.Host.{Host, Finding, blames, unsound, all_sound, scrub_believed, scrub_old, scrub_new, Change, replace, Code, table, missing, few_missing, proper, reached_n, reached_broad, read, read_through, read_old, read_new, read_right, rebuilt, rebuilt_right, write_of, whole_change, write_right}
 use Rattle.protocol.specs.Program as Program
-use Rattle.protocol.specs.Program.{Stamps, Proper, Medium, NO_LABEL, TOO_FEW, BAD_BLOCK, BUSY, NOT_NOW, Verdict, clear, because, Test, first, Own, Kind, creating, starting, logging, storing, labelling, Memory, nothing, idle, doing, Input, create, start, read_block, write, take_out, begin, rebuild_on, scrub_stripe, repair, step, Reply, accepted, block, found, scrubbed, new_label, beyond, mask, present, flushed_first, left_out_lem, blank_slot, blank, created, asked_create, may_create, started, asked_start, may_start, ask_log, all_in, finding, change_made, all_believed, asked_write, asked_repair, also, may_repair, relabelled, told_to, asked_out, back_in, asked_begin_lem, at_least_one_lem, filling, asked_raise, asked_heal, last_batch, asked_on_lem, generations_left, may, answer, from_nothing, from_idle, one_step, meanwhile, from_doing, unseen, program}
+use Rattle.protocol.specs.Program.{Stamps, Proper, Medium, NO_LABEL, TOO_FEW, BAD_BLOCK, BUSY, NOT_NOW, Verdict, clear, because, Test, first, Own, Kind, creating, starting, logging, storing, labelling, Memory, nothing, idle, doing, Input, create, start, read_block, write, take_out, begin, rebuild_on, scrub_stripe, repair, step, Reply, accepted, block, found, scrubbed, new_label, beyond, mask, present, flushed_first, left_out, blank_slot, blank, created, asked_create, may_create, started, asked_start, may_start, ask_log, all_in, finding, change_made, all_believed, asked_write, asked_repair, also, may_repair, relabelled, told_to, asked_out, back_in, asked_begin, at_least_one, filling, asked_raise, asked_heal, last_batch, asked_on, generations_left, may, answer, from_nothing, from_idle, one_step, meanwhile, from_doing, unseen, program}
 use Rattle.protocol.specs.Machine.{Machine, at, effect, Event, swap, ask, Outside, power_cut, program_dies, disk_swapped, Happens, from_outside, from_host, Runs, stays, goes, View, sure, open_write, kept_write, Goes, Views, same, next}
 use Rattle.protocol.specs.Invariant.{Ghost, Under, Left, Pending, Pends, Off, Dark, Ready, Readable, Reads, Ends, Busy, Invariant}
 
@@ -200,15 +200,15 @@ module _ {X : Type 0} (z : Size) (W : Quorum z.n) (C : LabelCodec X z.n) (K : Re
 
   -- START-UP
   module _ (A : ℕ → Bool) (seen : Image X) (ok : may_start z W C K E S R A seen ≡ clear) where
-    test1 : (not (labelled z C A seen) ≡ false) × (first (record { why = TOO_FEW; holds = not (W.few (left_out_lem z W C K E S R A seen)) } ∷ record { why = NOT_NOW; holds = not (leb (suc (suc (M z C A seen))) R.greatest) } ∷ []) ≡ clear)
-    test1 = first_clear (record { why = NO_LABEL; holds = not (labelled z C A seen) }) (record { why = TOO_FEW; holds = not (W.few (left_out_lem z W C K E S R A seen)) } ∷ record { why = NOT_NOW; holds = not (leb (suc (suc (M z C A seen))) R.greatest) } ∷ []) ok
+    test1 : (not (labelled z C A seen) ≡ false) × (first (record { why = TOO_FEW; holds = not (W.few (left_out z W C K E S R A seen)) } ∷ record { why = NOT_NOW; holds = not (leb (suc (suc (M z C A seen))) R.greatest) } ∷ []) ≡ clear)
+    test1 = first_clear (record { why = NO_LABEL; holds = not (labelled z C A seen) }) (record { why = TOO_FEW; holds = not (W.few (left_out z W C K E S R A seen)) } ∷ record { why = NOT_NOW; holds = not (leb (suc (suc (M z C A seen))) R.greatest) } ∷ []) ok
 
-    test2 : (not (W.few (left_out_lem z W C K E S R A seen)) ≡ false) × (first (record { why = NOT_NOW; holds = not (leb (suc (suc (M z C A seen))) R.greatest) } ∷ []) ≡ clear)
-    test2 = first_clear (record { why = TOO_FEW; holds = not (W.few (left_out_lem z W C K E S R A seen)) }) (record { why = NOT_NOW; holds = not (leb (suc (suc (M z C A seen))) R.greatest) } ∷ []) test1.1
+    test2 : (not (W.few (left_out z W C K E S R A seen)) ≡ false) × (first (record { why = NOT_NOW; holds = not (leb (suc (suc (M z C A seen))) R.greatest) } ∷ []) ≡ clear)
+    test2 = first_clear (record { why = TOO_FEW; holds = not (W.few (left_out z W C K E S R A seen)) }) (record { why = NOT_NOW; holds = not (leb (suc (suc (M z C A seen))) R.greatest) } ∷ []) test1.1
 
     enough : W.few (λ d. (L z C A seen).out d || gone z C A seen d) ≡ true
-    unfolding left_out_lem
-    enough = yes_of (W.few (left_out_lem z W C K E S R A seen)) test2.0
+    unfolding left_out
+    enough = yes_of (W.few (left_out z W C K E S R A seen)) test2.0
 
     room : suc (suc (M z C A seen)) ≤ R.greatest
     room = leb-true (suc (suc (M z C A seen))) R.greatest (yes_of (leb (suc (suc (M z C A seen))) R.greatest) (first_clear (record { why = NOT_NOW; holds = not (leb (suc (suc (M z C A seen))) R.greatest) }) [] test2.1).0)
@@ -346,25 +346,25 @@ module _ {X : Type 0} (z : Size) (W : Quorum z.n) (C : LabelCodec X z.n) (K : Re
       one d i = every_of (blank_slot z W C K E S R f) (from 0 z.n) h d (in_from z.n 0 d (omega arith) (omega arith))
 
       logs_b : ℕ → Bool
-      logs_b d = every (λ j. R.is_zeros_lem (f (log d j))) (from 0 (suc K.c))
+      logs_b d = every (λ j. R.is_zeros (f (log d j))) (from 0 (suc K.c))
 
       strips_b : ℕ → Bool
-      strips_b d = every (λ t. every (λ j. R.is_zeros_lem (f (strip d t j))) (from 0 K.c)) (from 0 z.T)
+      strips_b d = every (λ t. every (λ j. R.is_zeros (f (strip d t j))) (from 0 K.c)) (from 0 z.T)
 
-      parts : (d : ℕ) → d < z.n → ((R.is_zeros_lem (f (label d false)) && R.is_zeros_lem (f (label d true))) ≡ true) × ((logs_b d && strips_b d) ≡ true)
-      parts d i = both (R.is_zeros_lem (f (label d false)) && R.is_zeros_lem (f (label d true))) (logs_b d && strips_b d) (one d i)
+      parts : (d : ℕ) → d < z.n → ((R.is_zeros (f (label d false)) && R.is_zeros (f (label d true))) ≡ true) × ((logs_b d && strips_b d) ≡ true)
+      parts d i = both (R.is_zeros (f (label d false)) && R.is_zeros (f (label d true))) (logs_b d && strips_b d) (one d i)
 
       lab : (d : ℕ) (b : Bool) → d < z.n → f (label d b) ≡ K.zeros
-      lab d true i = R.zeros_of (f (label d true)) (both (R.is_zeros_lem (f (label d false))) (R.is_zeros_lem (f (label d true))) (parts d i).0).1
-      lab d false i = R.zeros_of (f (label d false)) (both (R.is_zeros_lem (f (label d false))) (R.is_zeros_lem (f (label d true))) (parts d i).0).0
+      lab d true i = R.zeros_of (f (label d true)) (both (R.is_zeros (f (label d false))) (R.is_zeros (f (label d true))) (parts d i).0).1
+      lab d false i = R.zeros_of (f (label d false)) (both (R.is_zeros (f (label d false))) (R.is_zeros (f (label d true))) (parts d i).0).0
 
       lg : (d j : ℕ) → d < z.n → j ≤ K.c → f (log d j) ≡ K.zeros
-      lg d j i e = R.zeros_of (f (log d j)) (every_of (λ y. R.is_zeros_lem (f (log d y))) (from 0 (suc K.c)) (both (logs_b d) (strips_b d) (parts d i).1).0 j (in_from (suc K.c) 0 j (omega arith) (omega arith)))
+      lg d j i e = R.zeros_of (f (log d j)) (every_of (λ y. R.is_zeros (f (log d y))) (from 0 (suc K.c)) (both (logs_b d) (strips_b d) (parts d i).1).0 j (in_from (suc K.c) 0 j (omega arith) (omega arith)))
 
       st : (d t j : ℕ) → d < z.n → t < z.T → j < K.c → f (strip d t j) ≡ K.zeros
       st d t j i e g =
-          let x = every_of (λ y. every (λ l. R.is_zeros_lem (f (strip d y l))) (from 0 K.c)) (from 0 z.T) (both (logs_b d) (strips_b d) (parts d i).1).1 t (in_from z.T 0 t (omega arith) (omega arith)) in
-          R.zeros_of (f (strip d t j)) (every_of (λ l. R.is_zeros_lem (f (strip d t l))) (from 0 K.c) x j (in_from K.c 0 j (omega arith) (omega arith)))
+          let x = every_of (λ y. every (λ l. R.is_zeros (f (strip d y l))) (from 0 K.c)) (from 0 z.T) (both (logs_b d) (strips_b d) (parts d i).1).1 t (in_from z.T 0 t (omega arith) (omega arith)) in
+          R.zeros_of (f (strip d t j)) (every_of (λ l. R.is_zeros (f (strip d t l))) (from 0 K.c) x j (in_from K.c 0 j (omega arith) (omega arith)))
 
   pub zeros_same : (f g : Image X) → ((k : Place) → slot k < z.n → g k ≡ f k) → Zeros f → Zeros g
   zeros_same f g h o = record { labels = λ d b i. h (label d b) i ∙ o.labels d b i; logs = λ d j i e. h (log d j) i ∙ o.logs d j i e; strips = λ d t j i e y. h (strip d t j) i ∙ o.strips d t j i e y }
@@ -715,12 +715,12 @@ module _ {X : Type 0} (z : Size) (W : Quorum z.n) (C : LabelCodec X z.n) (K : Re
         go e t j k q true x = inl (believe_is z o.now e t j k (inr (q, ltb-true t o.now.mark x)))
         go e t j k q false x = inr (q, ltb-false t o.now.mark x, omega arith)
 
-    on_busy : (b : ℕ) → o.now.rebuilding < z.n → suc o.now.generation ≤ R.greatest → Invariant z W C K E S R (at w (asked_on_lem z W C K E S R o seen_o b)) (sure v)
+    on_busy : (b : ℕ) → o.now.rebuilding < z.n → suc o.now.generation ≤ R.greatest → Invariant z W C K E S R (at w (asked_on z W C K E S R o seen_o b)) (sure v)
     on_busy b i room = go (last_batch z W C K E S R o b) refl
       where
-        go : (y : Bool) → last_batch z W C K E S R o b ≡ y → Invariant z W C K E S R (at w (cond y (asked_heal z W C K E S R o seen_o) (asked_raise z W C K E S R o seen_o (at_least_one_lem z W C K E S R b)))) (sure v)
+        go : (y : Bool) → last_batch z W C K E S R o b ≡ y → Invariant z W C K E S R (at w (cond y (asked_heal z W C K E S R o seen_o) (asked_raise z W C K E S R o seen_o (at_least_one z W C K E S R b)))) (sure v)
         go true e = heal_busy (z.T - o.now.mark) i (omega (arith, h.sound.mark_T)) room
-        go false e = raise_busy (at_least_one_lem z W C K E S R b) i (omega (arith, leb-false z.T (o.now.mark + at_least_one_lem z W C K E S R b) e)) room
+        go false e = raise_busy (at_least_one z W C K E S R b) i (omega (arith, leb-false z.T (o.now.mark + at_least_one z W C K E S R b) e)) room
 
   pub in_range_lem : (t i : ℕ) (b : Bool) (o : Own) → may z W C K E S R b o (read_block t i) ≡ clear → (t < z.T) × (i < E.k)
   in_range_lem t i b o e =
@@ -733,13 +733,13 @@ module _ {X : Type 0} (z : Size) (W : Quorum z.n) (C : LabelCodec X z.n) (K : Re
   out_tests o d e =
       let N = outed z.n o.now d in
       let left = generations_left z W C K E S R o in
-      let r3 : List Test = record { why = NOT_NOW; holds = plainly_out_lem o.now d || not left } ∷ [] in
+      let r3 : List Test = record { why = NOT_NOW; holds = plainly_out o.now d || not left } ∷ [] in
       let r2 : List Test = record { why = BUSY; holds = false } ∷ r3 in
       let r1 : List Test = record { why = BAD_BLOCK; holds = not (ltb d z.n) } ∷ r2 in
       let a = first_clear (record { why = TOO_FEW; holds = not (W.few N.out) }) r1 e in
       let b = first_clear (record { why = BAD_BLOCK; holds = not (ltb d z.n) }) r2 a.1 in
-      let c = first_clear (record { why = NOT_NOW; holds = plainly_out_lem o.now d || not left }) [] (first_clear (record { why = BUSY; holds = false }) r3 b.1).1 in
-      (ltb-true d z.n (yes_of (ltb d z.n) b.0), yes_of (W.few N.out) a.0, leb-true (suc o.now.generation) R.greatest (yes_of left (neither (plainly_out_lem o.now d) (not left) c.0).1))
+      let c = first_clear (record { why = NOT_NOW; holds = plainly_out o.now d || not left }) [] (first_clear (record { why = BUSY; holds = false }) r3 b.1).1 in
+      (ltb-true d z.n (yes_of (ltb d z.n) b.0), yes_of (W.few N.out) a.0, leb-true (suc o.now.generation) R.greatest (yes_of left (neither (plainly_out o.now d) (not left) c.0).1))
 
   pub begin_tests : (o : Own) (d : ℕ) → may z W C K E S R false o (begin d) ≡ clear → (d < z.n) × (o.now.out d ≡ true) × (suc o.now.generation ≤ R.greatest)
   begin_tests o d e =
@@ -874,11 +874,11 @@ module _ {X : Type 0} (z : Size) (W : Quorum z.n) (C : LabelCodec X z.n) (K : Re
       (λ e. let t = out_tests o d e in (sure v, refl, out_busy v w o s h d t.0 t.1 t.2))
   sim_idle w o (begin d) v s h =
       let seen = mask z W C K E S R (back_in z W C K E S R o.absent d) w.cur in
-      verdict w (idle o) (begin d) (sure v) (s, h) (may z W C K E S R false o (begin d)) (asked_begin_lem z W C K E S R o seen d) accepted
+      verdict w (idle o) (begin d) (sure v) (s, h) (may z W C K E S R false o (begin d)) (asked_begin z W C K E S R o seen d) accepted
       (λ e. let t = begin_tests o d e in (sure v, refl, begin_busy v w o s h d t.0 t.1 t.2 seen))
   sim_idle w o (rebuild_on b) v s h =
       let seen = mask z W C K E S R o.absent w.cur in
-      verdict w (idle o) (rebuild_on b) (sure v) (s, h) (may z W C K E S R false o (rebuild_on b)) (asked_on_lem z W C K E S R o seen b) accepted
+      verdict w (idle o) (rebuild_on b) (sure v) (s, h) (may z W C K E S R false o (rebuild_on b)) (asked_on z W C K E S R o seen b) accepted
       (λ e. let t = on_tests o b e in (sure v, refl, on_busy v w o s h b t.0 t.1))
   sim_idle w o (scrub_stripe t) v s h =
       let seen = mask z W C K E S R o.absent w.cur in

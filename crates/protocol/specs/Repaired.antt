@@ -18,7 +18,7 @@ use Rattle.protocol.specs.Redo.{key, lead, whole, complete_b, redone, forward, m
 use Rattle.protocol.specs.Label.{Label, copy, prep_batch, Size, believed, believe_is, belief, Quorum, LabelCodec}
 use Rattle.protocol.specs.Startup.{Shelf, gone, level_to, again_to, last_to, rounds}
 use Rattle.protocol.specs.Host.{Host, accused, Code, table, repair_of}
-use Rattle.protocol.specs.Program.{Stamps, Medium, clear, Own, idle, beyond, mask, left_out_lem, flushed_first, may_start, finding}
+use Rattle.protocol.specs.Program.{Stamps, Medium, clear, Own, idle, beyond, mask, left_out, flushed_first, may_start, finding}
 use Rattle.protocol.specs.Machine.{sure}
 use Rattle.protocol.specs.Promise.{mask_present, accept_f, same_label_lem, alike}
 use Rattle.protocol.specs.Veil.{Rot, Agree, Veiled, veiled_act, veiled_run, cleaned, cleaned_agrees, cleaned_possible}
@@ -109,7 +109,7 @@ during_after P w (a ∷ l) r h = during_after P (act w a) l r h.1
 module _ {X : Type 0} (z : Size) (W : Quorum z.n) (C : LabelCodec X z.n) (K : RecordCodec X) (E : Code X z.n K.c W) (S : Stamps) (R : Medium z W C K E S) where
   -- start-up looks at labels and log sectors alone
   may_bones : (A : ℕ → Bool) (f : Image X) → may_start z W C K E S R A f ≡ may_start z W C K E S R A (bones z W C K E S R f)
-  unfolding copy gone left_out_lem
+  unfolding copy gone left_out
   may_bones A f = refl
 
   settled_bones : (A : ℕ → Bool) (f : Image X) → settled z C K A f ≡ settled z C K A (bones z W C K E S R f)

@@ -22,7 +22,7 @@ use Rattle.protocol.specs.Decide.{in_turn, startup, Rest}
 use Rattle.protocol.specs.Request.{outed}
 use Rattle.protocol.specs.Swap.{Swapped}
 use Rattle.protocol.specs.Host.{Host, Blocks, Finding, blames, unsound, all_sound, accused, several, Change, one_block, all_blocks, changed, set_block, replace, Code, table, few_missing, proper, reached, read, read_through, read_right, write_of, strips_of, mend, accused_slot, repair_of, whole_change, missing}
-use Rattle.protocol.specs.Program.{Stamps, Medium, Refusal, TOO_FEW, BAD_BLOCK, BUSY, NOT_NOW, Verdict, clear, because, Own, Kind, creating, starting, logging, storing, labelling, Memory, nothing, idle, doing, Input, create, start, read_block, write, take_out, begin, rebuild_on, scrub_stripe, repair, step, Reply, accepted, refused, did, safe, done, block, found, new_label, Proper, mask, left_out_lem, beyond, ask_log, all_in, finding, change_made, all_believed, asked_create, may_create, asked_start, may_start, asked_out, asked_begin_lem, asked_on_lem, asked_heal, asked_raise, at_least_one_lem, last_batch, asked_write, asked_repair, may, also, may_repair, answer, from_nothing, from_idle, one_step, meanwhile, scrubbed, unseen, back_in, program}
+use Rattle.protocol.specs.Program.{Stamps, Medium, Refusal, TOO_FEW, BAD_BLOCK, BUSY, NOT_NOW, Verdict, clear, because, Own, Kind, creating, starting, logging, storing, labelling, Memory, nothing, idle, doing, Input, create, start, read_block, write, take_out, begin, rebuild_on, scrub_stripe, repair, step, Reply, accepted, refused, did, safe, done, block, found, new_label, Proper, mask, left_out, beyond, ask_log, all_in, finding, change_made, all_believed, asked_create, may_create, asked_start, may_start, asked_out, asked_begin, asked_on, asked_heal, asked_raise, at_least_one, last_batch, asked_write, asked_repair, may, also, may_repair, answer, from_nothing, from_idle, one_step, meanwhile, scrubbed, unseen, back_in, program}
 use Rattle.protocol.specs.Machine.{Machine, at, effect, Event, cut, dies, swap, ask, disk_swapped, from_outside, from_host, View, sure, open_write, kept_write, list_of, Accepting, Saved, Ended, Gives, Answered}
 use Rattle.protocol.specs.Invariant.{Dark, Ready, Invariant, Off}
 use Rattle.protocol.specs.Promise.{simulate, in_range_lem, scrub_tests, repair_tests, ready_off, off_cut, memory_off, quiet_seen, found_sound, made_as_asked, may_repair_tests}
@@ -66,7 +66,7 @@ module _ {X : Type 0} (z : Size) (W : Quorum z.n) (C : LabelCodec X z.n) (K : Re
         go false = same k e
 
   start_bones : (A : ℕ → Bool) (f : Image X) → from_nothing z W C K E S R f (start A) ≡ from_nothing z W C K E S R (bones f) (start A)
-  unfolding copy gone left_out_lem startup in_turn rounds level_to again_to last_to prep_batch redo whole complete_b forward marked kill_batch store_batch
+  unfolding copy gone left_out startup in_turn rounds level_to again_to last_to prep_batch redo whole complete_b forward marked kill_batch store_batch
   start_bones A f = refl
 
   begin_bones : (o : Own) (d : ℕ) (f : Image X) → from_idle z W C K E S R o f (begin d) ≡ from_idle z W C K E S R o (bones f) (begin d)
@@ -361,15 +361,15 @@ module _ {X : Type 0} (z : Size) (W : Quorum z.n) (C : LabelCodec X z.n) (K : Re
   rot_after rot (doing labelling l o o') r = rot
 
   -- the label that reads go by
-  abbrev pub label_of_lem : Memory X → Label
-  label_of_lem nothing = new_label z.n 0
-  label_of_lem (idle o) = o.now
-  label_of_lem (doing k l o o') = o.now
+  abbrev pub label_of : Memory X → Label
+  label_of nothing = new_label z.n 0
+  label_of (idle o) = o.now
+  label_of (doing k l o o') = o.now
 
   -- what follows an answer
   pub record Follows (rot : Rot) (w : World X) (m : Memory X) (i : Input X) (p : View X) (x : Memory X × Reply X) : Type 1 where
     pub view : View X
-    pub told : RotAnswered rot (label_of_lem m) i x.1 p view
+    pub told : RotAnswered rot (label_of m) i x.1 p view
     pub rests : Rotten (rot_after rot m x.1) (effect w x.1) x.0 view
 
   -- EVENTS
@@ -404,10 +404,10 @@ module _ {X : Type 0} (z : Size) (W : Quorum z.n) (C : LabelCodec X z.n) (K : Re
   plain_idle o f (read_block t i) w c = plain_answer (idle o) (may z W C K E S R false o (read_block t i)) (idle o) (block (read z W K E o.now f t i)) w c tt tt
   plain_idle o f (write t ch) w c = plain_answer (idle o) (may z W C K E S R false o (write t ch)) (asked_write z W C K E S R o f t ch) accepted w c tt tt
   plain_idle o f (take_out d) w c = plain_answer (idle o) (may z W C K E S R false o (take_out d)) (asked_out z W C K E S R o d) accepted w c tt tt
-  plain_idle o f (begin d) w c = plain_answer (idle o) (may z W C K E S R false o (begin d)) (asked_begin_lem z W C K E S R o f d) accepted w c tt tt
-  plain_idle o f (rebuild_on b) w c = plain_answer (idle o) (may z W C K E S R false o (rebuild_on b)) (asked_on_lem z W C K E S R o f b) accepted w c tt (go (last_batch z W C K E S R o b))
+  plain_idle o f (begin d) w c = plain_answer (idle o) (may z W C K E S R false o (begin d)) (asked_begin z W C K E S R o f d) accepted w c tt tt
+  plain_idle o f (rebuild_on b) w c = plain_answer (idle o) (may z W C K E S R false o (rebuild_on b)) (asked_on z W C K E S R o f b) accepted w c tt (go (last_batch z W C K E S R o b))
     where
-      go : (y : Bool) → Stores (cond y (asked_heal z W C K E S R o f) (asked_raise z W C K E S R o f (at_least_one_lem z W C K E S R b))) w c
+      go : (y : Bool) → Stores (cond y (asked_heal z W C K E S R o f) (asked_raise z W C K E S R o f (at_least_one z W C K E S R b))) w c
       go true = tt
       go false = tt
   plain_idle o f (scrub_stripe t) w c = plain_answer (idle o) (may z W C K E S R false o (scrub_stripe t)) (idle o) (found (E.scrub t (λ d j. f (strip d t j)))) w c tt tt
@@ -424,7 +424,7 @@ module _ {X : Type 0} (z : Size) (W : Quorum z.n) (C : LabelCodec X z.n) (K : Re
       subst (Follows rot w nothing i p) (sym e)
       (record {
         view = s.0;
-        told = answered_rot rot (label_of_lem nothing) i x.1 p s.0 s.1;
+        told = answered_rot rot (label_of nothing) i x.1 p s.0 s.1;
         rests = record { clean = effect c x.1; veil = veiled_effect rot w c x.1 h.veil; one = h.one; stores = plain_nothing (mask z W C K E S R (unseen z W C K E S R nothing i) c.cur) i (effect w x.1) (effect c x.1); holds = inv_holds x.0 s.0 (effect c x.1) s.2 };
       })
 
@@ -1249,7 +1249,7 @@ module _ {X : Type 0} (z : Size) (W : Quorum z.n) (C : LabelCodec X z.n) (K : Re
   RotGoes (cut_off f q) p p' = p' ≡ p
   RotGoes died p p' = p' ≡ p
   RotGoes (swapped d a s) p p' = p' ≡ p
-  RotGoes (asked {rot = rot} {w = w} {m = m} i a) p p' = RotAnswered rot (label_of_lem m) i (program z W C K E S R m w.cur i).1 p p'
+  RotGoes (asked {rot = rot} {w = w} {m = m} i a) p p' = RotAnswered rot (label_of m) i (program z W C K E S R m w.cur i).1 p p'
 
   abbrev pub RotViews : {rot rot' : Rot} {m m' : Machine X} → RotRuns rot m rot' m' → View X → View X → Type 0
   RotViews stays p q = q ≡ p

@@ -11,7 +11,7 @@ use Rattle.protocol.specs.Startup.{behind, disowned, gone, level_to, again_to, l
 use Rattle.protocol.specs.Decide.{in_turn, startup}
 use Rattle.protocol.specs.Host.{one_block, set_block, replace, table, read, read_through, write_of}
 use Rattle.protocol.specs.Count.{at_most}
-use Rattle.protocol.specs.Program.{nothing, Input, create, start, read_block, write, step, Reply, accepted, refused, did, safe, done, block, found, mask, change_made, told_to, flushed_first, left_out_lem, program}
+use Rattle.protocol.specs.Program.{nothing, Input, create, start, read_block, write, step, Reply, accepted, refused, did, safe, done, block, found, mask, change_made, told_to, flushed_first, left_out, program}
 use Rattle.protocol.specs.Machine.{Machine, at, effect}
 use Rattle.protocol.specs.Toy.{Sector, blank, datum, size, labels, records, quorum, code, stamps, medium}
 
@@ -56,14 +56,14 @@ abbrev risen : Machine Sector
 risen = steps 19 (react torn (start (λ d. eqb d 1)))
 
 made_reads : ask_block made 0 ≡ blank
-unfolding update after belief copy round_batch prep_batch slots logged_sectors stored_sectors compared_sectors involved log_batch store_batch complete_b whole forward marked kill_batch redo gone level_to again_to last_to rounds in_turn behind disowned prep_places startup set_block replace table read read_through write_of change_made at_most mask told_to flushed_first left_out_lem program quorum code medium
+unfolding update after belief copy round_batch prep_batch slots logged_sectors stored_sectors compared_sectors involved log_batch store_batch complete_b whole forward marked kill_batch redo gone level_to again_to last_to rounds in_turn behind disowned prep_places startup set_block replace table read read_through write_of change_made at_most mask told_to flushed_first left_out program quorum code medium
 made_reads = refl
 
 filled_reads : (ask_block filled 0 ≡ datum 7) × (ask_block filled 1 ≡ datum 8)
-unfolding update after belief copy round_batch prep_batch slots logged_sectors stored_sectors compared_sectors involved log_batch store_batch complete_b whole forward marked kill_batch redo gone level_to again_to last_to rounds in_turn behind disowned prep_places startup set_block replace table read read_through write_of change_made at_most mask told_to flushed_first left_out_lem program quorum code medium
+unfolding update after belief copy round_batch prep_batch slots logged_sectors stored_sectors compared_sectors involved log_batch store_batch complete_b whole forward marked kill_batch redo gone level_to again_to last_to rounds in_turn behind disowned prep_places startup set_block replace table read read_through write_of change_made at_most mask told_to flushed_first left_out program quorum code medium
 filled_reads = (refl, refl)
 
 -- THE NEW ONE, AND THE ONE THAT NOBODY WAS WRITING
 pub risen_reads : (ask_block risen 0 ≡ datum 9) × (ask_block risen 1 ≡ datum 8)
-unfolding update after belief copy round_batch prep_batch slots logged_sectors stored_sectors compared_sectors involved log_batch store_batch complete_b whole forward marked kill_batch redo gone level_to again_to last_to rounds in_turn behind disowned prep_places startup set_block replace table read read_through write_of change_made at_most mask told_to flushed_first left_out_lem program quorum code medium
+unfolding update after belief copy round_batch prep_batch slots logged_sectors stored_sectors compared_sectors involved log_batch store_batch complete_b whole forward marked kill_batch redo gone level_to again_to last_to rounds in_turn behind disowned prep_places startup set_block replace table read read_through write_of change_made at_most mask told_to flushed_first left_out program quorum code medium
 risen_reads = (refl, refl)

@@ -15,7 +15,7 @@ use Rattle.protocol.specs.World.{label, log, strip, Image, update_other, World, 
 use Rattle.protocol.specs.Slots.{from, in_from, slots, in_slots, of_slots, every, every_of, leader, leader_top, leader_below}
 use Rattle.protocol.specs.Log.{Belief, Within, within_trans, Agrees}
 use Rattle.protocol.specs.Write.{both}
-use Rattle.protocol.specs.Label.{Label, again, plainly_out_lem, Size, looked, belief, look_of, Quorum, LabelCodec, copy, Aged, prep, round, round_keeps, MayRule, Labels, Only, Bare, prep_safe, round_safe, only_start, only_put, rules_self, labels_settle}
+use Rattle.protocol.specs.Label.{Label, again, plainly_out, Size, looked, belief, look_of, Quorum, LabelCodec, copy, Aged, prep, round, round_keeps, MayRule, Labels, Only, Bare, prep_safe, round_safe, only_start, only_put, rules_self, labels_settle}
 use Rattle.protocol.specs.Bays.{front, front_in, Aside, Bays, aged_in, bays_cap, bays_fine, bays_put, bays_rise}
 
 -- the label that goes on from l without the slots that are gone
@@ -34,14 +34,14 @@ behind own newest = ltb (suc own) newest
 
 -- or if its own label calls it plainly out and the newest one does not.
 unfoldable pub disowned : Label → Label → ℕ → Bool
-disowned own newest d = plainly_out_lem own d && not (plainly_out_lem newest d)
+disowned own newest d = plainly_out own d && not (plainly_out newest d)
 
 pub behind_false : (own newest : ℕ) → behind own newest ≡ false → newest ≤ suc own
 unfolding behind
 behind_false own newest e = ltb-false (suc own) newest e
 
 -- a label that calls its slot plainly out is noticed by one that does not
-pub disowned_is : (own newest : Label) (d : ℕ) → plainly_out_lem own d ≡ true → plainly_out_lem newest d ≡ false → disowned own newest d ≡ true
+pub disowned_is : (own newest : Label) (d : ℕ) → plainly_out own d ≡ true → plainly_out newest d ≡ false → disowned own newest d ≡ true
 unfolding disowned
 disowned_is own newest d p q = ap₂ (λ (a b : Bool). a && not b) p q
 
@@ -126,7 +126,7 @@ without_narrow z l gone g =
     }
   where
     below : (d : ℕ) → looked z (without z.n l gone g) d ≡ true → d < z.n
-    below d h = ltb-true d z.n (both (ltb d z.n) (not (plainly_out_lem (without z.n l gone g) d)) h).0
+    below d h = ltb-true d z.n (both (ltb d z.n) (not (plainly_out (without z.n l gone g) d)) h).0
 
 unmasked : (a b c : Bool) → a ≡ true → (a && (b || c)) ≡ false → b ≡ false
 unmasked true true c p h = h
@@ -175,15 +175,15 @@ pub record Settles (z : Size) (odd : ℕ → Bool) (Q N : Label) (top : ℕ) (S 
   pub inner : (d : ℕ) → looked z S d ≡ true → (looked z Q d ≡ true) ⊎ (looked z N d ≡ true)
 
 -- who is not looked at is plainly out, and who is looked at is not
-dark_out : (z : Size) (l : Label) (d : ℕ) → d < z.n → (looked z l d ≡ true → ⊥) → plainly_out_lem l d ≡ true
-dark_out z l d i h = go (plainly_out_lem l d) refl
+dark_out : (z : Size) (l : Label) (d : ℕ) → d < z.n → (looked z l d ≡ true → ⊥) → plainly_out l d ≡ true
+dark_out z l d i h = go (plainly_out l d) refl
   where
-    go : (b : Bool) → plainly_out_lem l d ≡ b → plainly_out_lem l d ≡ true
+    go : (b : Bool) → plainly_out l d ≡ b → plainly_out l d ≡ true
     go true e = e
     go false e = absurd (h (rw (lt-ltb d z.n i, e)))
 
-lit_in : (z : Size) (l : Label) (d : ℕ) → looked z l d ≡ true → plainly_out_lem l d ≡ false
-lit_in z l d h = not-true (plainly_out_lem l d) (both (ltb d z.n) (not (plainly_out_lem l d)) h).1
+lit_in : (z : Size) (l : Label) (d : ℕ) → looked z l d ≡ true → plainly_out l d ≡ false
+lit_in z l d h = not-true (plainly_out l d) (both (ltb d z.n) (not (plainly_out l d)) h).1
 
 -- strips and records are what they were
 pub record Same {X : Type 0} (f0 f : Image X) : Type 0 where

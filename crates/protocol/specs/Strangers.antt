@@ -163,16 +163,16 @@ module _ {X : Type 0} {n n' : ℕ} (C : LabelCodec X n) (C' : LabelCodec X n') (
       rest_put : (f : Image X) (e : ℕ) (b : Bool) (x : X) → Rest f → Rest (update f (label e b) x)
       rest_put f e b x r = ((λ j. update_other f (label e b) x (log d j) (λ q. log_not d j e b q) ∙ r.0 j), λ t j. update_other f (label e b) x (strip d t j) (λ q. strip_not d t j e b q) ∙ r.1 t j)
         where
-          is_label_lem : Place → Bool
-          is_label_lem (label x y) = true
-          is_label_lem (log x y) = false
-          is_label_lem (strip x y v) = false
+          is_label : Place → Bool
+          is_label (label x y) = true
+          is_label (log x y) = false
+          is_label (strip x y v) = false
 
           log_not : (d j e : ℕ) (b : Bool) → log d j ≡ label e b → ⊥
-          log_not d j e b q = false≢true (ap is_label_lem q)
+          log_not d j e b q = false≢true (ap is_label q)
 
           strip_not : (d t j e : ℕ) (b : Bool) → strip d t j ≡ label e b → ⊥
-          strip_not d t j e b q = false≢true (ap is_label_lem q)
+          strip_not d t j e b q = false≢true (ap is_label q)
 
       -- zeros over sector b, while a statement O about the other sector stands
       expels : (b : Bool) (O : Image X → Type 0) → ((f : Image X) → O f → O (update f (label d b) C.zeros)) → (v : World X) → Sane v → Always v (λ f. Rest f × O f × Kept_side f b) → During v (expel C f0 b (d ∷ [])) (λ f. Rest f × O f × Half f b) × Always (run v (expel C f0 b (d ∷ []))) (λ f. Rest f × O f × ((old f b).generation ≡ 0))

@@ -473,7 +473,7 @@ medium =
       fits = λ l p h g. record { sound = p; low = g };
       is_proper = λ l f. (f.sound, f.low);
       fits_record = λ σ w a b c. c;
-      is_zeros_lem = zero_sector;
+      is_zeros = zero_sector;
       zeros_of = zero_sector_of;
       zeros_are = refl;
       same_zeros = refl;

@@ -28,7 +28,7 @@ use Rattle.rounds.proofs.Plans.{survey_grounds}
 use Rattle.protocol.specs.World.{Place, log, strip, slot, Image, World, always_cur}
 use Rattle.protocol.specs.Slots.{from, every, every_all}
 use Rattle.protocol.specs.Log.{Belief, Logs, Quiet, within_self}
-use Rattle.protocol.specs.Label.{Label, plainly_out_lem, looked, belief}
+use Rattle.protocol.specs.Label.{Label, plainly_out as plainly_out', looked, belief}
 use Rattle.protocol.specs.Startup as startup
 use Rattle.protocol.specs.Startup.{Framed, same_self, settled_D}
 use Rattle.protocol.specs.Decide.{settled, Accepted, Met, meets_shelf, done_above}
@@ -37,7 +37,7 @@ use Rattle.protocol.specs.Write.{Mid}
 use Rattle.protocol.specs.Invariant.{Ghost, Under, Off}
 use Rattle.protocol.specs.Promise.{under_framed, accept_f, same_label_lem}
 use Rattle.protocol.specs.Request as protocol
-use Rattle.protocol.specs.Program.{TOO_FEW, BAD_BLOCK, BUSY, NOT_NOW, Verdict, clear, first, Own, nothing, idle, accepted, create, start, take_out, beyond, blank, mask, left_out_lem, may_create, may_start, asked_create, asked_start, asked_out, answer}
+use Rattle.protocol.specs.Program.{TOO_FEW, BAD_BLOCK, BUSY, NOT_NOW, Verdict, clear, first, Own, nothing, idle, accepted, create, start, take_out, beyond, blank, mask, left_out, may_create, may_start, asked_create, asked_start, asked_out, answer}
 use Rattle.protocol.specs.Even.{program_by, may_start_by, may_out_by}
 use Rattle.protocol.specs.Pairs.{no_sets}
 use Rattle.codecs.specs.Sector.{Sector, zeros, sector_path}
@@ -78,7 +78,7 @@ eqb_swap a b = go (eqb b a) refl
     go false e = ne_eqb a b (λ q. eqb-false b a e (sym q))
 
 -- out and not being rebuilt: the two tests
-pub plain_is : (z : Shelf) (l : bytes.Label) (d : ℕ) → d < slots z → plainly_out_lem (label_of z l) d ≡ plainly_out l d
+pub plain_is : (z : Shelf) (l : bytes.Label) (d : ℕ) → d < slots z → plainly_out' (label_of z l) d ≡ plainly_out l d
 unfolding plainly_out
 plain_is z l d there =
     ap (λ (b : Bool). in_mask l.out d && not b) (slot_test z l.rebuilding d there ∙ eqb_swap d l.rebuilding) ∙ and_swap (in_mask l.out d) (not (eqb l.rebuilding d))
@@ -179,7 +179,7 @@ module _ (z : Shelf) (img : List ℕ) where
 
     pub start_leaves : leaves_of z nothing (cur_of z img) (start (in_mask absent)) ≡ in_mask p.next.out ∷ []
     start_leaves =
-        ap (λ (f : Image Sector). left_out_lem (size z) (no_sets (slots z)) (labels z) (records z) (any_code z) stamps (any_sectors z) A f ∷ []) (seen_mask z A img)
+        ap (λ (f : Image Sector). left_out (size z) (no_sets (slots z)) (labels z) (records z) (any_code z) stamps (any_sectors z) A f ∷ []) (seen_mask z A img)
         ∙ ap (λ (x : ℕ → Bool). x ∷ []) (fun_ext (left_out_is z img absent A l led) ∙ sym next_out)
 
     pub start_few : few_of z (in_mask p.next.out) ≡ true
@@ -283,7 +283,7 @@ module _ (z : Shelf) (img : List ℕ) where
         ap (λ (x : Label). few_of z x.out) (sym (out_label z img disks s own d there)) ∙ ap (λ (x : ℕ). few_of z (in_mask x)) out_is ∙ few_mask z (with_slot now.out d) big
         ∙ le-leb (ones (with_slot now.out d)) z.m (omega (arith, m, ap ones w, can.few))
 
-    not_plain : plainly_out_lem (label_of z now) d ≡ false
+    not_plain : plainly_out' (label_of z now) d ≡ false
     not_plain = plain_is z now d there ∙ can.not_plain
 
     left : leb (suc now.generation) (any_sectors z).greatest ≡ true

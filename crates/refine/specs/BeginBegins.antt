@@ -18,7 +18,7 @@ use Rattle.label.specs.declared.fields.Label as bytes
 use Rattle.label.proofs.Fits.{fits_says}
 use Rattle.protocol.specs.World.{Image}
 use Rattle.protocol.specs.Label as protocol
-use Rattle.protocol.specs.Program.{BAD_BLOCK, BUSY, NOT_NOW, Verdict, clear, first, Own, Memory, idle, doing, labelling, accepted, begin, asked_begin_lem, may, answer}
+use Rattle.protocol.specs.Program.{BAD_BLOCK, BUSY, NOT_NOW, Verdict, clear, first, Own, Memory, idle, doing, labelling, accepted, begin, asked_begin as asked_begin', may, answer}
 use Rattle.protocol.specs.Even.{program_by}
 use Rattle.protocol.specs.Pairs.{no_sets}
 use Rattle.codecs.specs.Sector.{Sector}
@@ -152,7 +152,7 @@ module _ (z : Shelf) (img : List ℕ) (disks : Disks z img) (s : State) (own : o
       (tells z l own goes.fits) (tells z (begun_label l d) begun_ours h))
 
   -- WHAT THE PROGRAM REMEMBERS OF IT is what is left of it, what it knew before, and what it will know
-  pub begin_asked : (work : List ℕ) → asked_begin_lem (size z) (no_sets (slots z)) (labels z) (records z) (any_code z) stamps (any_sectors z) o (f z img disks s own d there) d
+  pub begin_asked : (work : List ℕ) → asked_begin' (size z) (no_sets (slots z)) (labels z) (records z) (any_code z) stamps (any_sectors z) o (f z img disks s own d there) d
       ≡ doing labelling (to_do z t' work img) o (own_of z t' t'.next)
   begin_asked work =
       let N = begun_label_lem z img disks s own d there is_out in
@@ -190,7 +190,7 @@ module _ (z : Shelf) (img : List ℕ) (disks : Disks z img) (s : State) (own : o
   unfolding program_by
   begin_accepted work =
       ap₂ (λ (v : Verdict) (m : Memory Sector). answer (size z) (no_sets (slots z)) (labels z) (records z) (any_code z) stamps (any_sectors z) (idle o) v m accepted) begin_clear
-      (ap (λ (x : Image Sector). asked_begin_lem (size z) (no_sets (slots z)) (labels z) (records z) (any_code z) stamps (any_sectors z) o x d) (seen_mask z (A z img disks s own d there) img) ∙ begin_asked work)
+      (ap (λ (x : Image Sector). asked_begin' (size z) (no_sets (slots z)) (labels z) (records z) (any_code z) stamps (any_sectors z) o x d) (seen_mask z (A z img disks s own d there) img) ∙ begin_asked work)
 
   -- BEGIN, accepted at rest
   pub begin_begins : (work : List ℕ)

@@ -20,7 +20,7 @@ use Rattle.rounds.specs.Survey.{survey_of}
 use Rattle.rounds.specs.declared.plan.Survey.{Survey}
 use Rattle.rounds.specs.declared.plan.Survey.TheVariants as survey
 use Rattle.protocol.specs.World.{Action, World, Possible, Sane, Always, always_cur}
-use Rattle.protocol.specs.Label.{copy, Aged, plainly_out_lem}
+use Rattle.protocol.specs.Label.{copy, Aged, plainly_out as plainly_out'}
 use Rattle.protocol.specs.Decide.{Rest}
 use Rattle.protocol.specs.Host.{Host, table}
 use Rattle.protocol.specs.Program.{Own, Memory, idle, doing, logging, storing, labelling}
@@ -172,14 +172,14 @@ module _ (z : Shelf) (F : Family z) (first : Machine Sector) (p : View Sector) (
 
       -- every absent slot is plainly out, so what take out asks of a slot is what the protocol's program asks
       pub bound_absent_out : (d : ℕ) → d < slots z → in_mask s.absent d ≡ true → plainly_out s.now d ≡ true
-      bound_absent_out d i a = sym (plain_is z s.now d i) ∙ by (plainly_out_lem (label_of z s.now) d) refl
+      bound_absent_out d i a = sym (plain_is z s.now d i) ∙ by (plainly_out' (label_of z s.now) d) refl
         where
-          by : (b : Bool) → plainly_out_lem (label_of z s.now) d ≡ b → plainly_out_lem (label_of z s.now) d ≡ true
+          by : (b : Bool) → plainly_out' (label_of z s.now) d ≡ b → plainly_out' (label_of z s.now) d ≡ true
           by true q = q
           by false q =
               absurd (rest_dark z F first p w (own_of z s s.now) (subst (chain.Reached z F first p w) (rests z s img e) resting.reached) d (beyond_below (slots z) s.absent d i ∙ a) (ap₂ (λ (x y : Bool). x && not y) (lt-ltb d (slots z) i) q))
 
-      pub bound_same_out : (d : ℕ) → d < slots z → out_now s.now s.absent d ≡ plainly_out_lem (label_of z s.now) d
+      pub bound_same_out : (d : ℕ) → d < slots z → out_now s.now s.absent d ≡ plainly_out' (label_of z s.now) d
       unfolding out_now
       bound_same_out d i = by (in_mask s.absent d) refl ∙ sym (plain_is z s.now d i)
         where

@@ -30,7 +30,7 @@ use Rattle.protocol.specs.Write.{logged, log_batch, log_write, store}
 use Rattle.protocol.specs.Request.{outed}
 use Rattle.protocol.specs.Host.{rebuilt}
 use Rattle.protocol.specs.Rebuild.{raised, healed, fill, fill_batch, filled}
-use Rattle.protocol.specs.Program.{Own, creating, starting, logging, storing, labelling, Memory, nothing, idle, doing, step, new_label, beyond, flushed_first, told_to, back_in, asked_create, asked_start, asked_out, asked_begin_lem, at_least_one_lem, last_batch, asked_raise, asked_heal, asked_on_lem}
+use Rattle.protocol.specs.Program.{Own, creating, starting, logging, storing, labelling, Memory, nothing, idle, doing, step, new_label, beyond, flushed_first, told_to, back_in, asked_create, asked_start, asked_out, asked_begin, at_least_one, last_batch, asked_raise, asked_heal, asked_on}
 use Rattle.protocol.specs.Machine.{effect}
 use Rattle.protocol.specs.Even.{program_by}
 use Rattle.protocol.specs.Pairs.{no_sets}
@@ -197,7 +197,7 @@ module _ (z : Shelf) where
   unfolding wipe_batch
   names_wipe d = names_batch (wipe_batch (records z) d) zeros_named
 
-  pub begin_names : (o : Own) (f0 : Image Sector) (d : ℕ) → Names (left_in (asked_begin_lem (size z) (no_sets (slots z)) (labels z) (records z) (any_code z) stamps (any_sectors z) o f0 d))
+  pub begin_names : (o : Own) (f0 : Image Sector) (d : ℕ) → Names (left_in (asked_begin (size z) (no_sets (slots z)) (labels z) (records z) (any_code z) stamps (any_sectors z) o f0 d))
   unfolding expel_first
   begin_names o f0 d =
       let S = last_side (labels z) f0 d in
@@ -223,11 +223,11 @@ module _ (z : Shelf) where
   names_on : (Q N : Label) (more : ℕ) (v : ℕ → ℕ → Sector) (ds : List ℕ) → Names (fill (records z) Q more v ++ round (labels z) N ds)
   names_on Q N more v ds = names_append (fill (records z) Q more v) (round (labels z) N ds) (names_fill Q more v) (names_round N ds)
 
-  pub on_names : (o : Own) (f : Image Sector) (b : ℕ) → Names (left_in (asked_on_lem (size z) (no_sets (slots z)) (labels z) (records z) (any_code z) stamps (any_sectors z) o f b))
+  pub on_names : (o : Own) (f : Image Sector) (b : ℕ) → Names (left_in (asked_on (size z) (no_sets (slots z)) (labels z) (records z) (any_code z) stamps (any_sectors z) o f b))
   on_names o f b = by (last_batch (size z) (no_sets (slots z)) (labels z) (records z) (any_code z) stamps (any_sectors z) o b)
     where
       more : ℕ
-      more = at_least_one_lem (size z) (no_sets (slots z)) (labels z) (records z) (any_code z) stamps (any_sectors z) b
+      more = at_least_one (size z) (no_sets (slots z)) (labels z) (records z) (any_code z) stamps (any_sectors z) b
 
       ds : List ℕ
       ds = told_to (size z) (no_sets (slots z)) (labels z) (records z) (any_code z) stamps (any_sectors z) o.absent

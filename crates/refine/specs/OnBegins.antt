@@ -28,7 +28,7 @@ use Rattle.protocol.specs.Count.{count_part}
 use Rattle.protocol.specs.Label.{Label, looked, believed, belief, believe_is, round}
 use Rattle.protocol.specs.Host.{missing, rebuilt}
 use Rattle.protocol.specs.Rebuild.{raised, healed, fill}
-use Rattle.protocol.specs.Program.{BUSY, NOT_NOW, first, Own, Memory, idle, doing, labelling, accepted, rebuild_on, beyond, mask, told_to, relabelled, at_least_one_lem, asked_on_lem, answer}
+use Rattle.protocol.specs.Program.{BUSY, NOT_NOW, first, Own, Memory, idle, doing, labelling, accepted, rebuild_on, beyond, mask, told_to, relabelled, at_least_one as at_least_one', asked_on as asked_on', answer}
 use Rattle.protocol.specs.Even.{program_by}
 use Rattle.protocol.specs.Pairs.{no_sets}
 use Rattle.codecs.specs.Sector.{Sector}
@@ -314,7 +314,7 @@ module _ (z : Shelf) (img : List ℕ) (disks : Disks z img) (s : State) (own : o
       o (relabelled (size z) (no_sets (slots z)) (labels z) (records z) (any_code z) stamps (any_sectors z) o N)
 
   abbrev one : ℕ → ℕ
-  one = at_least_one_lem (size z) (no_sets (slots z)) (labels z) (records z) (any_code z) stamps (any_sectors z)
+  one = at_least_one' (size z) (no_sets (slots z)) (labels z) (records z) (any_code z) stamps (any_sectors z)
 
   one_is : (x : ℕ) → at_least_one x ≡ one x
   one_is zero = refl
@@ -345,7 +345,7 @@ module _ (z : Shelf) (img : List ℕ) (disks : Disks z img) (s : State) (own : o
       (fill_list z t work img refl refl one_only A (label_of z (on_label l b)) seen (λ d i. all_say d i ∙ ap not (sym (beyond_below (slots z) s.absent d i))) refl)
 
   -- IT IS THE PROGRAM'S
-  pub on_asked : memory_of z t work img ≡ asked_on_lem (size z) (no_sets (slots z)) (labels z) (records z) (any_code z) stamps (any_sectors z) o (seen_of z A img) b
+  pub on_asked : memory_of z t work img ≡ asked_on' (size z) (no_sets (slots z)) (labels z) (records z) (any_code z) stamps (any_sectors z) o (seen_of z A img) b
   unfolding strips_on on_label last_batch
   on_asked =
       remembered ∙ by (leb (stripes_of (geometry_of l)) (l.mark + at_least_one b))
@@ -361,12 +361,12 @@ module _ (z : Shelf) (img : List ℕ) (disks : Disks z img) (s : State) (own : o
   left = le-leb (suc l.generation) most_generation (omega (arith, one_left))
 
   -- AND THE PROGRAM ACCEPTS
-  pub on_accepted : program_of z (idle o) (cur_of z img) (rebuild_on b) ≡ (asked_on_lem (size z) (no_sets (slots z)) (labels z) (records z) (any_code z) stamps (any_sectors z) o (seen_of z A img) b, accepted)
+  pub on_accepted : program_of z (idle o) (cur_of z img) (rebuild_on b) ≡ (asked_on' (size z) (no_sets (slots z)) (labels z) (records z) (any_code z) stamps (any_sectors z) o (seen_of z A img) b, accepted)
   unfolding program_by mask seen_of
   on_accepted =
       let in_n : ltb Q.rebuilding (slots z) ≡ true = lt-ltb Q.rebuilding (slots z) (omega (arith, r_is, there)) in
       ap₂ (λ (x y : Bool). answer (size z) (no_sets (slots z)) (labels z) (records z) (any_code z) stamps (any_sectors z) (idle o) (first (record { why = BUSY; holds = false } ∷ record { why = NOT_NOW; holds = not x || not y } ∷ []))
-      (asked_on_lem (size z) (no_sets (slots z)) (labels z) (records z) (any_code z) stamps (any_sectors z) o (seen_of z A img) b) accepted) in_n left
+      (asked_on' (size z) (no_sets (slots z)) (labels z) (records z) (any_code z) stamps (any_sectors z) o (seen_of z A img) b) accepted) in_n left
 
 -- A REBUILD THAT GOES ON, at rest: no absent slot is looked at, as the protocol's invariant has it
 pub on_begins : (z : Shelf) (img : List ℕ) → Disks z img → (s : State) → ours z s.now ≡ true → (b : ℕ) (work : List ℕ) → (on_of s b img (length work)).outcome ≡ Done

@@ -26,7 +26,7 @@ use Rattle.label.specs.declared.fields.Label as bytes
 use Rattle.label.specs.declared.codec.Decoded.TheVariants.{Valid}
 use Rattle.redo.specs.Decide.{believed}
 use Rattle.protocol.specs.World.{World, after, Possible}
-use Rattle.protocol.specs.Label.{plainly_out_lem}
+use Rattle.protocol.specs.Label.{plainly_out as plainly_out'}
 use Rattle.protocol.specs.Host.{Host}
 use Rattle.protocol.specs.Machine.{View, sure}
 use Rattle.protocol.specs.Pairs.{AnyTwo}
@@ -150,7 +150,7 @@ module _ (z : Shelf) (first : List ℕ) (disks : Disks z first) (blank : all_zer
     pub absent_out : s.kind ≡ Idle → (d : ℕ) → d < slots z → in_mask s.absent d ≡ true → plainly_out s.now d ≡ true
     absent_out e = let t = tie chain two in bound_absent_out z t.0 (fresh z first disks blank) t.1 w img s work e t.3
 
-    pub same_out : s.kind ≡ Idle → (d : ℕ) → d < slots z → out_now s.now s.absent d ≡ plainly_out_lem (label_of z s.now) d
+    pub same_out : s.kind ≡ Idle → (d : ℕ) → d < slots z → out_now s.now s.absent d ≡ plainly_out' (label_of z s.now) d
     same_out e = let t = tie chain two in bound_same_out z t.0 (fresh z first disks blank) t.1 w img s work e t.3
 
     -- AT REST the image is not zeros, so create is refused, whatever its numbers, and changes nothing

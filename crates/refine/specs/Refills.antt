@@ -12,7 +12,7 @@ use Rattle.label.specs.Fields.{no_slot}
 use Rattle.label.specs.declared.fields.Label as bytes
 use Rattle.protocol.specs.World.{Image, World, Action, Always}
 use Rattle.protocol.specs.Label.{looked}
-use Rattle.protocol.specs.Program.{Own, Memory, idle, doing, labelling, Reply, accepted, rebuild_on, step, beyond, asked_on_lem}
+use Rattle.protocol.specs.Program.{Own, Memory, idle, doing, labelling, Reply, accepted, rebuild_on, step, beyond, asked_on}
 use Rattle.protocol.specs.Machine.{Machine, View, sure, open_write, kept_write, effect, Answered}
 use Rattle.protocol.specs.Pairs.{no_sets}
 use Rattle.protocol.specs.Even.{program_by}
@@ -92,7 +92,7 @@ module _ (z : Shelf) (F : Family z) (first : Machine Sector) where
       after : Memory Sector
       after = doing labelling (to_do z then work img) o (own_of z then then.next)
 
-      asked_is : asked_on_lem (size z) (no_sets (slots z)) (labels z) (records z) (any_code z) stamps (any_sectors z) o (seen_of z (beyond (slots z) (in_mask s.absent)) img) b ≡ after
+      asked_is : asked_on (size z) (no_sets (slots z)) (labels z) (records z) (any_code z) stamps (any_sectors z) o (seen_of z (beyond (slots z) (in_mask s.absent)) img) b ≡ after
       asked_is = sym (on_asked z img t.disks s own b work g.0 dark) ∙ fill_memory z then work img refl
 
       asked : (q : View Sector) × Answered z.c (rebuild_on b) accepted p q × Reached z F first q w after

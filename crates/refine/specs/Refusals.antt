@@ -16,7 +16,7 @@ use Rattle.protocol.specs.World.{Image}
 use Rattle.protocol.specs.Slots.{from, in_from, of_from, every_of, every_all}
 use Rattle.protocol.specs.Label.{Label, copy}
 use Rattle.protocol.specs.Startup.{newest, seen, L, stale, gone, labelled}
-use Rattle.protocol.specs.Program.{NO_LABEL, TOO_FEW, because, left_out_lem}
+use Rattle.protocol.specs.Program.{NO_LABEL, TOO_FEW, because, left_out}
 use Rattle.protocol.specs.Count.{count}
 use Rattle.protocol.specs.Even.{may_start_by}
 use Rattle.protocol.specs.Pairs.{no_sets}
@@ -95,11 +95,11 @@ module _ (z : Shelf) (img : List ℕ) (disks : Disks z img) (absent : ℕ) (A : 
 
   pub all_absent : ((d : ℕ) → d < slots z → in_mask absent d ≡ true)
       → may_start_by (size z) (no_sets (slots z)) (labels z) (records z) (any_code z) stamps (any_sectors z) (few_of z) A f0 ≡ because TOO_FEW
-  unfolding left_out_lem gone
+  unfolding left_out gone
   all_absent h = rw (there, few (few_of z out) refl)
     where
       out : ℕ → Bool
-      out = left_out_lem (size z) (no_sets (slots z)) (labels z) (records z) (any_code z) stamps (any_sectors z) A f0
+      out = left_out (size z) (no_sets (slots z)) (labels z) (records z) (any_code z) stamps (any_sectors z) A f0
 
       there : labelled (size z) (labels z) A f0 ≡ true
       there =

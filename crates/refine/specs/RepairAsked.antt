@@ -100,8 +100,8 @@ module _ (z : Shelf) (img : List ℕ) (i : State) (t : ℕ) where
   abbrev in_order : Bool
   in_order = every (λ d. not (in_mask i.now.out d)) (from 0 (slots z))
 
-  abbrev stamp_left_lem : Bool
-  stamp_left_lem = ltb (suc (own_of z i i.now).count) (suc i.epoch * counts)
+  abbrev stamp_remains : Bool
+  stamp_remains = ltb (suc (own_of z i i.now).count) (suc i.epoch * counts)
 
   abbrev replies : Bool → Bool → Bool → Bool → Memory Sector × Reply Sector
   replies inside all left blamed =
@@ -111,16 +111,16 @@ module _ (z : Shelf) (img : List ℕ) (i : State) (t : ℕ) where
       (asked_repair (size z) (no_sets (slots z)) (labels z) (records z) (any_code z) stamps (any_sectors z) (own_of z i i.now) seen t) accepted
 
   program_replies : program_of z (idle (own_of z i i.now)) (cur_of z img) (repair t)
-      ≡ replies (ltb t (stripes_of (geometry z))) in_order stamp_left_lem (blames (finding (size z) (no_sets (slots z)) (labels z) (records z) (any_code z) stamps (any_sectors z) seen t))
+      ≡ replies (ltb t (stripes_of (geometry z))) in_order stamp_remains (blames (finding (size z) (no_sets (slots z)) (labels z) (records z) (any_code z) stamps (any_sectors z) seen t))
   unfolding program_by seen_of mask
   program_replies = refl
 
   -- the stamps
-  left_is : stamp_left_lem ≡ stamp_left i.count
+  left_is : stamp_remains ≡ stamp_left i.count
   unfolding stamp_left
   left_is = by (ltb i.count most_count) refl
     where
-      by : (a : Bool) → ltb i.count most_count ≡ a → stamp_left_lem ≡ a
+      by : (a : Bool) → ltb i.count most_count ≡ a → stamp_remains ≡ a
       by true e = lt-ltb (suc (own_of z i i.now).count) (suc i.epoch * counts) (omega (arith, ltb-true i.count most_count e, suc-mul i.epoch counts))
       by false e = le-ltb (suc (own_of z i i.now).count) (suc i.epoch * counts) (omega (arith, ltb-false i.count most_count e, suc-mul i.epoch counts))
 
@@ -373,12 +373,12 @@ module _ (z : Shelf) (img : List ℕ) (disks : Disks z img) (i : State) (own : o
   -- ---- the program's side
 
   outside : ltb t (stripes_of (geometry z)) ≡ false → P (Refused why.BadBlock)
-  outside e = program_replies z img i t ∙ (λ j. replies z img i t (e j) (in_order z img i t) (stamp_left_lem z img i t) blamed)
+  outside e = program_replies z img i t ∙ (λ j. replies z img i t (e j) (in_order z img i t) (stamp_remains z img i t) blamed)
 
   none_in : ltb t (stripes_of (geometry z)) ≡ true → in_order z img i t ≡ false → P (Refused why.NotNow)
-  none_in e a = program_replies z img i t ∙ (λ j. replies z img i t (e j) (a j) (stamp_left_lem z img i t) blamed)
+  none_in e a = program_replies z img i t ∙ (λ j. replies z img i t (e j) (a j) (stamp_remains z img i t) blamed)
 
-  no_stamp : ltb t (stripes_of (geometry z)) ≡ true → stamp_left_lem z img i t ≡ false → P (Refused why.NotNow)
+  no_stamp : ltb t (stripes_of (geometry z)) ≡ true → stamp_remains z img i t ≡ false → P (Refused why.NotNow)
   no_stamp e c = by (in_order z img i t) refl
     where
       by : (a : Bool) → in_order z img i t ≡ a → P (Refused why.NotNow)
@@ -386,9 +386,9 @@ module _ (z : Shelf) (img : List ℕ) (disks : Disks z img) (i : State) (own : o
       by false a = none_in e a
 
   nobody : ltb t (stripes_of (geometry z)) ≡ true → blamed ≡ false → P (Refused why.NotNow)
-  nobody e x = by (in_order z img i t) refl (stamp_left_lem z img i t) refl
+  nobody e x = by (in_order z img i t) refl (stamp_remains z img i t) refl
     where
-      by : (a : Bool) → in_order z img i t ≡ a → (c : Bool) → stamp_left_lem z img i t ≡ c → P (Refused why.NotNow)
+      by : (a : Bool) → in_order z img i t ≡ a → (c : Bool) → stamp_remains z img i t ≡ c → P (Refused why.NotNow)
       by true a true c = program_replies z img i t ∙ (λ j. replies z img i t (e j) (a j) (c j) (x j))
       by true a false c = no_stamp e c
       by false a u c = none_in e a

@@ -30,7 +30,7 @@ use Rattle.protocol.specs.Machine.{Machine, effect, View, sure, open_write, kept
 use Rattle.protocol.specs.Machine as machine
 use Rattle.protocol.specs.Invariant.{Ready}
 use Rattle.protocol.specs.Veil.{Rot, rotten, OneEach, spread, two, cleaned, cleaned_agrees, cleaned_possible, Decayed}
-use Rattle.protocol.specs.Rot.{Fine, label_of_lem, Allowed, stays, decays as decayed, rot_promise, rot_ready}
+use Rattle.protocol.specs.Rot.{Fine, label_of as label_of', Allowed, stays, decays as decayed, rot_promise, rot_ready}
 use Rattle.codecs.specs.Sector.{Sector, Bytes, sector_path}
 use Rattle.codecs.specs.Shelf.{Shelf, slots, geometry, size}
 use Rattle.codecs.specs.Labels.{fields_of, no_label, label_of, labels, ours}
@@ -206,7 +206,7 @@ module _ (z : Shelf) (more : z.m < z.k) where
 
   -- what the program gives of a block that is fine is the list's entry
   fine_entry : (rot : Rot) (w : World Sector) (img : List ℕ) (s : State) (v : Host Sector) → ours z s.now ≡ true → w.cur ≡ cur_of z img → (b : ℕ) (m : Memory Sector) (x : ℕ → Sector) → RottenIn z more rot w m (sure v)
-      → label_of_lem (size z) (quorum z more) (labels z) (records z) (code z more) stamps (sectors z more) m ≡ label_of z s.now
+      → label_of' (size z) (quorum z more) (labels z) (records z) (code z more) stamps (sectors z more) m ≡ label_of z s.now
       → program_of z m (cur_of z img) (read_block (b / s.now.k) (b % s.now.k)) ≡ (m, block x) → FineBlock z rot s b → strip_bytes x z.c ≡ strip_bytes (v (b / z.k) (b % z.k)) z.c
   fine_entry rot w img s v own reads b m x h is e fine =
       let T = b / s.now.k in
@@ -275,7 +275,7 @@ module _ (z : Shelf) (more : z.m < z.k) where
         o' = own_of z s s.next
 
         label_by : Memory Sector → Label
-        label_by = label_of_lem (size z) (quorum z more) (labels z) (records z) (code z more) stamps (sectors z more)
+        label_by = label_of' (size z) (quorum z more) (labels z) (records z) (code z more) stamps (sectors z more)
 
         same : (x : Bool) (l l' : List (Action Sector)) → label_by (cond x (doing (logging wr) l o o') (doing (storing wr) l' o o')) ≡ label_of z s.now
         same true l l' = refl

@@ -28,11 +28,11 @@ use Rattle.rounds.specs.Plans.{Grounds}
 use Rattle.rounds.specs.declared.plan.Plan as plan
 use Rattle.rounds.specs.declared.slot.Question.TheVariants.{Out, Parts, Late, Zeroed, Kept}
 use Rattle.protocol.specs.World.{label, Image}
-use Rattle.protocol.specs.Label.{Label, again, plainly_out_lem, copy, prep_value}
+use Rattle.protocol.specs.Label.{Label, again, plainly_out as plainly_out', copy, prep_value}
 use Rattle.protocol.specs.Label as Label
 use Rattle.protocol.specs.Startup.{M, without, next}
 use Rattle.protocol.specs.Startup as Startup
-use Rattle.protocol.specs.Program.{NO_LABEL, TOO_FEW, NOT_NOW, Verdict, clear, first, beyond, left_out_lem, may_start}
+use Rattle.protocol.specs.Program.{NO_LABEL, TOO_FEW, NOT_NOW, Verdict, clear, first, beyond, left_out as left_out', may_start}
 use Rattle.protocol.specs.Even.{may_start_by}
 use Rattle.protocol.specs.Pairs.{no_sets}
 use Rattle.codecs.specs.Sector.{Sector, Bytes, zeros}
@@ -64,7 +64,7 @@ module _ (z : Shelf) (img : List ℕ) (absent : ℕ) (A : ℕ → Bool) (l : byt
 
   -- ---- who is gone
 
-  plainly_same : (a : bytes.Label) (d : ℕ) → d < slots z → plainly_out_lem (label_of z a) d ≡ plainly_out a d
+  plainly_same : (a : bytes.Label) (d : ℕ) → d < slots z → plainly_out' (label_of z a) d ≡ plainly_out a d
   unfolding plainly_out
   plainly_same a d h = ap (λ (b : Bool). in_mask a.out d && not b) (slot_test z a.rebuilding d h)
 
@@ -145,10 +145,10 @@ module _ (z : Shelf) (img : List ℕ) (absent : ℕ) (A : ℕ → Bool) (l : byt
   -- ---- whether few enough are out
 
   abbrev left_out : ℕ → Bool
-  left_out = left_out_lem (size z) (no_sets (slots z)) (labels z) (records z) (any_code z) stamps (any_sectors z) A f0
+  left_out = left_out' (size z) (no_sets (slots z)) (labels z) (records z) (any_code z) stamps (any_sectors z) A f0
 
   pub left_out_is : (d : ℕ) → left_out d ≡ in_mask (slots_that (geometry z) img absent Out l) d
-  unfolding left_out_lem
+  unfolding left_out'
   left_out_is d = ap (λ (x : Label). x.out d || gone_of d) (L_is z img absent A l led) ∙ out_is d
 
   pub few_is : few_of z left_out ≡ leb (ones (slots_that (geometry z) img absent Out l)) l.m
@@ -276,7 +276,7 @@ module _ (z : Shelf) (img : List ℕ) (absent : ℕ) (A : ℕ → Bool) (l : byt
   -- START-UP MAY GO ON IN A FAMILY in which the slots lie that go out
   pub start_in : (F : Family z) → F.sets.few (in_mask (slots_that (geometry z) img absent Out l)) ≡ true → leb (l.generation + 2) most_generation ≡ true
       → may_start (size z) F.sets (labels z) (records z) (code_in z F) stamps (sectors_in z F) A f0 ≡ clear
-  unfolding any_sectors medium left_out_lem
+  unfolding any_sectors medium left_out'
   start_in F few left =
       let p = labelled_is z img absent A l led in
       let q : F.sets.few left_out ≡ true = ap F.sets.few (fun_ext left_out_is) ∙ few in

@@ -10,7 +10,7 @@ use Rattle.disk.specs.Geometry.{slot_of, strip_length, in_range, splits, in_rang
 use Rattle.protocol.specs.World.{Image, World, Sane, Always}
 use Rattle.protocol.specs.Host.{Code, read, read_through, write_of, whole_change, repair_of, rebuilt}
 use Rattle.protocol.specs.Count.{count_part}
-use Rattle.protocol.specs.Program.{Medium, Memory, nothing, idle, doing, Input, create, start, read_block, write, take_out, begin, rebuild_on, scrub_stripe, repair, step, Reply, mask, change_made, left_out_lem, flushed_first, told_to, program}
+use Rattle.protocol.specs.Program.{Medium, Memory, nothing, idle, doing, Input, create, start, read_block, write, take_out, begin, rebuild_on, scrub_stripe, repair, step, Reply, mask, change_made, left_out, flushed_first, told_to, program}
 use Rattle.protocol.specs.Machine.{Machine, at, Event, View, sure, Views}
 use Rattle.protocol.specs.Promise.{Zeros}
 use Rattle.protocol.specs.Even.{program_by, RunsBy, left_by, all_passed}
@@ -126,7 +126,7 @@ module _ (z : Shelf) where
 
   -- for k > m it is the program that Promise is about
   pub same_program : (more : z.m < z.k) (m : Memory Sector) (f : Image Sector) (i : Input Sector) → shelf_program m f i ≡ program (size z) (quorum z more) (labels z) (records z) (code z more) stamps (sectors z more) m f i
-  unfolding program_by program mask left_out_lem flushed_first told_to read read_through write_of change_made whole_change repair_of rebuilt sectors any_sectors medium
+  unfolding program_by program mask left_out flushed_first told_to read read_through write_of change_made whole_change repair_of rebuilt sectors any_sectors medium
   same_program more nothing f create = refl
   same_program more nothing f (start A) = refl
   same_program more nothing f (read_block t i) = refl
