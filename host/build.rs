@@ -10,15 +10,16 @@ fn main() {
         .parent()
         .expect("the package stands in the repository")
         .to_path_buf();
-    let archive = root.join("target/staticlib/libparitylocker_c.a");
+    let interface = root.join("crates/paritylocker_c");
+    let archive = interface.join("out/libparitylocker_c.a");
     if !archive.exists() {
         let made = Command::new("rt")
-            .args(["staticlib", "paritylocker_c"])
-            .current_dir(&root)
+            .arg("lib")
+            .current_dir(&interface)
             .status();
         assert!(
             made.map(|s| s.success()).unwrap_or(false),
-            "`rt staticlib paritylocker_c` failed"
+            "`rt lib` in crates/paritylocker_c failed"
         );
     }
     println!("cargo:rerun-if-changed={}", archive.display());

@@ -2,7 +2,7 @@
  *
  * Every function takes any value of every number. Of memory it is assumed, as nothing here can test it, that a pointer with a
  * length names that many bytes that are the caller's, and that a buffer that is written overlaps no other buffer of the call.
- * Link with target/staticlib/libparitylocker_c.a (made by `rt staticlib paritylocker_c`).
+ * Link with crates/paritylocker_c/out/libparitylocker_c.a (made by `rt lib` in crates/paritylocker_c).
  */
 #ifndef PARITYLOCKER_H
 #define PARITYLOCKER_H

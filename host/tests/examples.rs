@@ -57,7 +57,7 @@ fn c_example() {
             "-I../include",
             "examples/shelf.c",
         ])
-        .arg("../target/staticlib/libparitylocker_c.a")
+        .arg("../crates/paritylocker_c/out/libparitylocker_c.a")
         .arg("-o")
         .arg(&program)
         .current_dir(here)
