@@ -1,6 +1,6 @@
 -- What is seen and what is shown, byte by byte. A rebuild of what is seen gives what is shown; what lies in slots that are not there
 -- makes no difference. Assumes nothing.
-use Rattle.std.specs.Prelude.{◌≡◌, refl, Bool, true, false, leb, take, drop, replicate}
+use Rattle.std.specs.Prelude.{◌≡◌, Bool, true, false, leb, take, drop, replicate}
 use Rattle.std.proofs.Math.Path.{sym, ap}
 use Rattle.std.proofs.Common.{◌∙◌, length-drop, get_or-take, get_or-drop, length-take-le, le-leb, eq-eqb, leb-true}
 use Rattle.std.proofs.Math.Bool.{cond, not}
@@ -10,7 +10,7 @@ use Rattle.std.proofs.Math.Nat.{mul_assoc, suc-mul, mul-le-mul_right}
 use native.Mathlib.Omega.{arith}
 use Rattle.std.proofs.Math.ListN.{length, get_or, length-replicate, get_or-replicate}
 use Rattle.std.proofs.Math.Seq.{ext_get_or}
-use Rattle.std.proofs.lemmas.Bool.{not-true, not-false}
+use Rattle.std.proofs.lemmas.Bool.{not-false}
 use Rattle.field.specs.declared.Answer.{Answer}
 use Rattle.field.specs.declared.Answer.TheVariants.{Done, Refused}
 use Rattle.field.specs.declared.Refusal.TheVariants.{BadShape, TooMany, BadShard}
@@ -21,10 +21,10 @@ use Rattle.disk.specs.Mask.{in_mask}
 use Rattle.disk.specs.declared.geometry.Geometry.{Geometry}
 use Rattle.codeword.specs.Stripe.{k_least, k_most, m_least, m_most, len_most, InRange, byte_at, has}
 use Rattle.solve.specs.Lost.{shards_of}
-use Rattle.code.specs.Shape.{shaped_of, rebuild_answer}
+use Rattle.code.specs.Shape.{shaped_of}
 use Rattle.code.specs.Stripes.{Rebuilt}
-use Rattle.position.specs.Row.{in_row, row_length, row_at, listed, listed_length, listed_at}
-use Rattle.position.specs.Position.{ascending_has, filled, filled_off, filled_blind}
+use Rattle.position.specs.Row.{row_length, row_at, listed, listed_length, listed_at}
+use Rattle.position.specs.Position.{ascending_has, filled_off, filled_blind}
 use Rattle.position.specs.Lists.{ascending_shards}
 use Rattle.position.specs.Rebuild.{rebuilt_filled}
 use Rattle.strips.specs.Seen.{shard_bytes, lost_of, seen, shown_byte, shard_seen, row_seen, shard_shown}

@@ -1,18 +1,16 @@
 -- What a prepared write has: the stripe is sound, block i is the data, the other data shards are those of the restored stripe; and where
 -- something was lost, the restored stripe is the one that is shown. Assumes nothing.
 use Rattle.std.specs.Prelude.{◌≡◌, refl, Bool, true, false, cond, List, [], ◌≢◌, ◌⊎◌, ℕ, ◌+◌, ◌-◌, ◌*◌, ◌≤◌, ◌<◌, length, get_or, take, drop}
-use Rattle.std.proofs.Common.{sym, ap, ◌∙◌, inl, inr, ⊎_elim, suc-mul, mul-le-mul_right, arith}
+use Rattle.std.proofs.Common.{ap, ◌∙◌, inl, inr, ⊎_elim, suc-mul, mul-le-mul_right, arith}
 use Rattle.std.proofs.Math.Seq.{paste}
 use Rattle.std.proofs.lemmas.List.Edits.{length-paste}
-use Rattle.field.specs.declared.Answer.{Answer}
 use Rattle.field.specs.declared.Answer.TheVariants.{Done, Refused}
 use Rattle.field.specs.declared.Refusal.TheVariants.{BadShape}
-use Rattle.disk.specs.Limits.{sector_bytes}
 use Rattle.disk.specs.Geometry.{InRange, Splits}
 use Rattle.disk.specs.Image.{lt_or_ge, get_or_paste_inside, get_or_paste_other}
 use Rattle.disk.specs.declared.geometry.Geometry.{Geometry}
 use Rattle.codeword.specs.Stripe.{byte_at, Sound}
-use Rattle.code.specs.Stripes.{Encoded, Rebuilt, Repaired, Mends}
+use Rattle.code.specs.Stripes.{Mends}
 use Rattle.code.specs.declared.Verdict.{Verdict}
 use Rattle.code.specs.declared.Verdict.TheVariants as verdict
 use Rattle.strips.specs.Seen.{shard_bytes, shard_shown}

@@ -2,7 +2,7 @@
 -- `there`: the slots whose strip is there and believed. `over`: the slots whose shard is taken from `kept`, a stripe of n shards one
 -- behind the other, instead of the image. A shard whose slot is in `there` is seen; the others are lost, and are filled in.
 -- Assumes nothing.
-use Rattle.std.specs.Prelude.{Bool, cond, not, List, ℕ, ◌+◌, ◌-◌, ◌*◌, get_or}
+use Rattle.std.specs.Prelude.{cond, not, List, ℕ, ◌+◌, ◌-◌, ◌*◌, get_or}
 use Rattle.disk.specs.Limits.{sector_bytes}
 use Rattle.disk.specs.Geometry.{strip_of, slot_of}
 use Rattle.disk.specs.Image.{place}

@@ -1,6 +1,6 @@
 -- A whole stripe: scrubbed, mended, and prepared for a write of one block. What is refused is a function; what is done to the stripe as it
 -- is seen is said in the words of the code's own contracts. Assumes nothing.
-use Rattle.std.specs.Prelude.{◌≡◌, Bool, true, false, cond, ◌&&◌, List, [], ℕ, ◌+◌, ◌-◌, ◌*◌, ◌≤◌, ◌<◌, leb, ltb, eqb, length, get_or, take}
+use Rattle.std.specs.Prelude.{◌≡◌, Bool, true, false, cond, ◌&&◌, List, [], ℕ, ◌+◌, ◌-◌, ◌*◌, ◌≤◌, ◌<◌, ltb, eqb, length, get_or, take}
 use Rattle.std.proofs.Common.{sym, ap, ◌∙◌, mul_assoc, mul-le-mul_left, arith, lit<, length-take-le, ltb-true, eqb-true}
 use Rattle.std.proofs.Math.Seq.{paste}
 use Rattle.field.specs.declared.Answer.{Answer}
@@ -10,16 +10,15 @@ use Rattle.disk.specs.Geometry.{splits, stripes_of, strip_of, slot_of, InRange, 
 use Rattle.disk.specs.Image.{place, fits_image, Shape, fits_image_lem}
 use Rattle.disk.specs.Mask.{in_mask, in_past}
 use Rattle.disk.specs.declared.geometry.Geometry.{Geometry}
-use Rattle.disk.specs.declared.refusal.Refusal.{Refusal}
 use Rattle.disk.specs.declared.refusal.Refusal.TheVariants.{BadImage, TooFew, BadBlock, NotNow, BadBuffer}
 use Rattle.disk.specs.declared.refusal.Outcome.{Outcome}
 use Rattle.disk.specs.declared.refusal.Outcome.TheVariants.{Done, Refused}
-use Rattle.code.specs.Stripes.{Encoded, Rebuilt, Says, Repaired}
+use Rattle.code.specs.Stripes.{Encoded, Rebuilt, Repaired}
 use Rattle.code.specs.declared.Verdict.{Verdict}
 use Rattle.code.specs.declared.Verdict.TheVariants as verdict
 use Rattle.position.specs.Row.{in_row, listed}
 use Rattle.strips.specs.Seen.{shard_bytes, lost_of, seen, shard_seen, row_seen}
-use Rattle.strips.specs.Answers.{part_of, part_means, few_lost, gate, Part}
+use Rattle.strips.specs.Answers.{few_lost, gate, Part}
 use Rattle.strips.specs.declared.whole.Scrubbed.{Scrubbed}
 use Rattle.strips.specs.declared.whole.Scrubbed.TheVariants as scrubbed
 

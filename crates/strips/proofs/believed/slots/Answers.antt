@@ -1,0 +1,28 @@
+use mathlib.Core.Path.{◌≡◌, refl, ap, ◌∙◌}
+use mathlib.Core.Bool.{Bool, ◌&&◌}
+use Prim.Native.Nat.{ℕ}
+use native.Mathlib.Omega.{arith}
+use Rattle.disk.specs.Geometry.{in_range_lem}
+use Rattle.disk.specs.Mask.{mask_of}
+use Rattle.redo.specs.Decide.{believed}
+use Rattle.redo.proofs.Turns.{mask_turn}
+use Rattle.strips.proofs.believed.slots.Goals as goal
+
+pub loop-d-init : goal.loop-d-init
+unfolding mask_of
+loop-d-init c = (omega arith, refl)
+
+pub with_slot_if-mask-requires : goal.with_slot_if-mask-requires
+with_slot_if-mask-requires c = omega (arith, (in_range_lem c.args.g c.requires).few)
+
+pub loop-d-preserved : goal.loop-d-preserved
+loop-d-preserved c = let l = c.loop-d in
+    let a = c.args in
+    let p : ℕ → Bool = λ d. believed a.g a.l d a.t in
+    (omega arith, mask_turn p l.mask l.d c.with_slot_if-mask.result c.believes-yes.result l.invariant.1 (c.believes-yes.ensures ∙ ap (λ (x : Bool). x && p l.d) c.requires) c.with_slot_if-mask.ensures)
+
+pub returns : goal.returns
+returns c = let l = c.loop-d in
+    let a = c.args in
+    let e : l.d ≡ a.g.n = omega arith in
+    l.invariant.1 ∙ ap (mask_of (λ d. believed a.g a.l d a.t)) e

@@ -1,0 +1,10 @@
+-- The count of the list.
+use mathlib.Core.Path.{ap}
+use Prim.Native.Nat.{ℕ}
+use lib.Dec.{eqb}
+use Rattle.strips.specs.Whole.{none_lost}
+use Rattle.strips.proofs.whole.none_lost.Goals as goal
+
+pub returns : goal.returns
+unfolding none_lost
+returns c = ap (λ (i : ℕ). eqb i 0) c.list_lost.ensures.0

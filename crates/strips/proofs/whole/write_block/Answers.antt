@@ -1,0 +1,45 @@
+-- The stripe is restored, the bytes are put at their shard, and the parity is computed.
+use mathlib.Core.Path.{refl, ap, ◌∙◌, subst, ◌≡◌}
+use mathlib.Core.List.{List}
+use Prim.Native.Nat.{ℕ, ◌≤◌, ◌-◌, ◌+◌, ◌*◌}
+use native.Mathlib.Omega.{arith}
+use lib.ListN.{length}
+use borrow.Rule.Slice.PartMut.{put_mid}
+use Rattle.disk.specs.Geometry.{stripes_le}
+use Rattle.disk.specs.Image.{back}
+use Rattle.code.specs.Stripes.{Encoded}
+use Rattle.strips.specs.Seen.{shard_bytes}
+use Rattle.strips.specs.Turns.{row_fits}
+use Rattle.strips.specs.Whole.{Restored}
+use Rattle.strips.proofs.whole.write_block.Goals as goal
+
+pub restore-all-requires : goal.restore-all-requires
+restore-all-requires c = (c.requires.0.range.few, omega (arith, c.requires.1.parity), omega (arith, c.requires.0.stripe, stripes_le c.args.g, c.requires.0.range.most))
+
+pub overflow_mul-at : goal.overflow_mul-at
+overflow_mul-at c = omega (arith, row_fits c.args.g.n c.args.i (shard_bytes c.args.g) (omega (arith, c.requires.1.parity, c.requires.2)), c.requires.4)
+
+pub overflow_add-e : goal.overflow_add-e
+overflow_add-e c = omega (arith, row_fits c.args.g.n c.args.i (shard_bytes c.args.g) (omega (arith, c.requires.1.parity, c.requires.2)), c.requires.4)
+
+pub returns : goal.returns
+returns c =
+    let fits : (let a = c.args in a.i * shard_bytes a.g + shard_bytes a.g ≤ length c.restore-all.new.stripe) = omega (
+      arith,
+      row_fits c.args.g.n c.args.i (shard_bytes c.args.g) (omega (arith, c.requires.1.parity, c.requires.2)),
+      c.requires.4,
+      c.restore-all.auto.stripe,
+      c.gather_stripe.auto.to,
+    ) in
+    let a = c.args in
+    let w : ℕ = shard_bytes a.g in
+    let at : ℕ = a.i * w in
+    let row : List ℕ = c.restore-all.new.stripe in
+    let f : c.copy_from_slice.new.self ≡ a.bytes.now = c.copy_from_slice.ensures.after in
+    let e = ap (put_mid at (at + w - at) row) f ∙ back row a.bytes.now at (at + w) w refl c.requires.3 in
+    record {
+      stripe = row;
+      restored = subst (λ (x : List ℕ). Restored a.g.n a.k a.t a.there w c.restore-all.result x row) c.gather_stripe.ensures c.restore-all.ensures;
+      answer = c.encode.result;
+      encoded = subst (λ (x : List ℕ). Encoded a.k (a.g.n - a.k) w c.encode.result x c.encode.new.stripe) e c.encode.ensures;
+    }
