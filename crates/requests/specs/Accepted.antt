@@ -1,16 +1,16 @@
 -- A refusal leaves the state. What is accepted begins with a state that the steps take, and with labels that can be written on
 -- every slot, so that no step is refused for them. Assumes nothing.
 use Rattle.std.specs.Prelude.{◌≡◌, refl, Bool, true, false, cond, not, ◌&&◌, ◌||◌, List, ℕ, ◌+◌, ◌≤◌, ◌<◌, ◌^◌, leb, ltb, eqb, length}
-use Rattle.std.proofs.Common.{sym, ap, ◌∙◌, true≢false, arith, pow_pos, leb-true, leb-false, ltb-false, le-leb, lt-ltb}
+use Rattle.std.proofs.Common.{sym, ◌∙◌, true≢false, arith, pow_pos, leb-true, leb-false, ltb-false, le-leb, lt-ltb}
 use Rattle.std.specs.Int.Count.{ones}
 use Rattle.disk.specs.Limits.{least_k, most_k, least_m, most_m}
 use Rattle.disk.specs.Tests.{and_left, and_right, both}
-use Rattle.disk.specs.Geometry.{in_range, splits, in_range_with, image_bytes, stripes_of, InRange, in_range_lem}
+use Rattle.disk.specs.Geometry.{in_range, splits, in_range_with, image_bytes, stripes_of, in_range_lem}
 use Rattle.disk.specs.Image.{fits_image}
 use Rattle.disk.specs.Mask.{in_mask, with_slot, in_with, with_lt}
 use Rattle.disk.specs.declared.geometry.Geometry.{Geometry}
 use Rattle.disk.specs.declared.refusal.Refusal.{Refusal}
-use Rattle.disk.specs.declared.refusal.Refusal.TheVariants.{BadImage, NoLabel, TooFew, BadBlock, Busy, NotNow, BadBuffer}
+use Rattle.disk.specs.declared.refusal.Refusal.TheVariants.{BadImage, TooFew, BadBlock, Busy, NotNow}
 use Rattle.disk.specs.declared.refusal.Outcome.{Outcome}
 use Rattle.disk.specs.declared.refusal.Outcome.TheVariants.{Done, Refused}
 use Rattle.label.specs.Fields.{no_slot, most_generation, geometry_of, rebuild_fits, fits_of}
@@ -19,7 +19,7 @@ use Rattle.label.proofs.Fits.{Fits, fits_says}
 use Rattle.label.specs.declared.fields.Label.{Label}
 use Rattle.shelf.specs.Act.{named}
 use Rattle.shelf.specs.Step.{sound}
-use Rattle.requests.specs.Begun.{work_bytes, begun, first}
+use Rattle.requests.specs.Begun.{begun, first}
 use Rattle.requests.specs.Ready.{is_nothing, is_idle, has_shelf, ready_of}
 use Rattle.requests.specs.Create.{shards_fit, shelf_fits, create_answer, first_label, created, create_of}
 use Rattle.requests.specs.TakeOut.{out_with, plainly_out, out_now, out_answer, take_answer, next_label, outed, took_out, take_out_of}

@@ -1,5 +1,5 @@
 -- What a request answers at once: its first state, or a refusal and the state as it was. Assumes nothing.
-use Rattle.std.specs.Prelude.{Bool, false, cond, ◌&&◌, ℕ, zero, suc, ◌*◌, leb}
+use Rattle.std.specs.Prelude.{false, cond, ◌&&◌, ℕ, zero, suc, ◌*◌, leb}
 use Rattle.disk.specs.Limits.{least_n, most_n, sector_bytes}
 use Rattle.disk.specs.Geometry.{strip_length}
 use Rattle.disk.specs.Mask.{in_mask, with_slot}

@@ -1,5 +1,5 @@
 -- The status: eleven numbers, or a refusal. Assumes nothing.
-use Rattle.std.specs.Prelude.{◌≡◌, refl, Bool, cond, List, [], ◌∷◌, ℕ, eqb, length, set}
+use Rattle.std.specs.Prelude.{◌≡◌, refl, cond, List, [], ◌∷◌, ℕ, eqb, length, set}
 use Rattle.std.proofs.Common.{arith}
 use Rattle.disk.specs.declared.refusal.Refusal.TheVariants.{NotNow, BadBuffer}
 use Rattle.disk.specs.declared.refusal.Outcome.{Outcome}

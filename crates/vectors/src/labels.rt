@@ -2,6 +2,7 @@
 use crate::report;
 use disk::refusal::Outcome;
 use label::fields::Label;
+use std::io;
 
 // The label of the document, of slot `slot`.
 fn worked(slot: usize) -> Label {
@@ -26,33 +27,36 @@ fn outcome(o: Outcome) -> u64 {
     }
 }
 
-fn ending(name: &[u8], slot: usize, expected: &[u8]) {
+fn ending(rt: &impl Print, name: &str, slot: usize, expected: &[u8]) -> io::Result<()> {
     let mut sector = [0u8; 512];
     report::count(
+        rt,
         name,
         outcome(label::codec::encode(worked(slot), &mut sector)),
         0,
-    );
-    report::bytes(b"its last four bytes", &sector[508..512], expected);
+    )?;
+    report::bytes(rt, "its last four bytes", &sector[508..512], expected)
 }
 
-pub fn run() {
-    report::heading(b"document 03, section 2");
+pub fn run(rt: &impl Print) -> io::Result<()> {
+    report::heading(rt, "document 03, section 2")?;
     report::number(
-        b"CRC-32C of 123456789",
+        rt,
+        "CRC-32C of 123456789",
         crc32c::crc32c(b"123456789") as u64,
         0xe3069283,
         8,
-    );
+    )?;
     let zeros = [0u8; 512];
     report::number(
-        b"CRC-32C of 512 zero bytes",
+        rt,
+        "CRC-32C of 512 zero bytes",
         crc32c::crc32c(&zeros) as u64,
         0x30fcedc0,
         8,
-    );
+    )?;
     let first = [0x7f, 0x9b, 0x9b, 0xd8];
     let second = [0xcf, 0x6b, 0xad, 0x96];
-    ending(b"the label of slot 0", 0, &first);
-    ending(b"the label of slot 1", 1, &second);
+    ending(rt, "the label of slot 0", 0, &first)?;
+    ending(rt, "the label of slot 1", 1, &second)
 }

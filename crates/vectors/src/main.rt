@@ -2,13 +2,15 @@
 // `stdout`.
 #![tactic(auto)]
 
+use std::io;
+
 mod arithmetic;
 mod labels;
 mod report;
 mod stripe;
 
-fn main() {
-    arithmetic::run();
-    stripe::run();
-    labels::run();
+fn main(rt: HostRuntime) -> io::Result<()> {
+    arithmetic::run(&rt)?;
+    stripe::run(&rt)?;
+    labels::run(&rt)
 }

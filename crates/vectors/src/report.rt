@@ -1,70 +1,48 @@
 // A line for a value: its name, what was computed, what the document says, and whether they are the same.
-use libc::STDOUT_FILENO;
+use std::io;
 
-fn text(bytes: &[u8]) {
-    io::write_all(STDOUT_FILENO, bytes);
+pub fn heading(rt: &impl Print, name: &str) -> io::Result<()> {
+    println!(rt; "{name}")
 }
 
-fn hex(n: u64, width: usize) {
-    text(b"0x");
-    io::print_hex(STDOUT_FILENO, n, width);
-}
-
-pub fn heading(name: &[u8]) {
-    text(name);
-    text(b"\n");
-}
-
-fn verdict(same: bool) {
+fn verdict(rt: &impl Print, same: bool) -> io::Result<()> {
     if same {
-        text(b"  right\n");
+        println!(rt; "  right")
     } else {
-        text(b"  WRONG\n");
+        println!(rt; "  WRONG")
     }
 }
 
 // A number in hexadecimal, with at least `width` digits.
-pub fn number(name: &[u8], computed: u64, expected: u64, width: usize) {
-    text(b"  ");
-    text(name);
-    text(b" = ");
-    hex(computed, width);
-    text(b", expected ");
-    hex(expected, width);
-    verdict(computed == expected);
+pub fn number(
+    rt: &impl Print,
+    name: &str,
+    computed: u64,
+    expected: u64,
+    width: usize,
+) -> io::Result<()> {
+    print!(rt; "  {name} = 0x{computed:0width$x}, expected 0x{expected:0width$x}")?;
+    verdict(rt, computed == expected)
 }
 
 // A number in decimal.
-pub fn count(name: &[u8], computed: u64, expected: u64) {
-    text(b"  ");
-    text(name);
-    text(b" = ");
-    io::print_decimal(STDOUT_FILENO, computed);
-    text(b", expected ");
-    io::print_decimal(STDOUT_FILENO, expected);
-    verdict(computed == expected);
+pub fn count(rt: &impl Print, name: &str, computed: u64, expected: u64) -> io::Result<()> {
+    print!(rt; "  {name} = {computed}, expected {expected}")?;
+    verdict(rt, computed == expected)
 }
 
-fn wide(x: u8) -> u64 {
-    x as u64
-}
-
-fn hex_all(bytes: &[u8]) {
-    let mut i = 0;
-    while i < bytes.len() {
-        text(b" ");
-        io::print_hex(STDOUT_FILENO, wide(bytes[i]), 2);
-        i += 1;
+fn hex_all(rt: &impl Print, bytes: &[u8]) -> io::Result<()> {
+    for b in bytes {
+        print!(rt; " {b:02x}")?;
     }
+    Ok(())
 }
 
 // Bytes in hexadecimal.
-pub fn bytes(name: &[u8], computed: &[u8], expected: &[u8]) {
-    text(b"  ");
-    text(name);
-    text(b" =");
-    hex_all(computed);
-    text(b", expected");
-    hex_all(expected);
-    verdict(check::same(computed, expected));
+pub fn bytes(rt: &impl Print, name: &str, computed: &[u8], expected: &[u8]) -> io::Result<()> {
+    print!(rt; "  {name} =")?;
+    hex_all(rt, computed)?;
+    print!(rt; ", expected")?;
+    hex_all(rt, expected)?;
+    verdict(rt, computed == expected)
 }

@@ -2,6 +2,7 @@
 use crate::report;
 use code::Verdict;
 use field::Answer;
+use std::io;
 
 // "SONAR" and three blanks, "line 417", zeros, and bytes from 0xf8 on; then room for three parity shards.
 fn worked() -> [u8; 56] {
@@ -39,32 +40,34 @@ fn said(v: Verdict) -> u64 {
     }
 }
 
-fn parities(stripe: [u8; 56]) {
+fn parities(rt: &impl Print, stripe: [u8; 56]) -> io::Result<()> {
     let p0 = P0;
     let p1 = P1;
     let p2 = P2;
-    report::bytes(b"p0", &stripe[32..40], &p0);
-    report::bytes(b"p1", &stripe[40..48], &p1);
-    report::bytes(b"p2", &stripe[48..56], &p2);
+    report::bytes(rt, "p0", &stripe[32..40], &p0)?;
+    report::bytes(rt, "p1", &stripe[40..48], &p1)?;
+    report::bytes(rt, "p2", &stripe[48..56], &p2)
 }
 
-fn encoded() {
+fn encoded(rt: &impl Print) -> io::Result<()> {
     let mut stripe = worked();
     report::count(
-        b"encode 4 + 3",
+        rt,
+        "encode 4 + 3",
         answer(code::encode(4, 3, 8, &mut stripe)),
         0,
-    );
-    parities(stripe);
-    report::count(b"scrub, sound", said(code::scrub(4, 3, 8, &stripe)), 256);
+    )?;
+    parities(rt, stripe)?;
+    report::count(rt, "scrub, sound", said(code::scrub(4, 3, 8, &stripe)), 256)?;
     let mut small = [0x01, 0x02, 0x04, 0x08, 0, 0, 0];
     report::count(
-        b"encode 01 02 04 08",
+        rt,
+        "encode 01 02 04 08",
         answer(code::encode(4, 3, 1, &mut small)),
         0,
-    );
+    )?;
     let expected = [0x0f, 0x55, 0x73];
-    report::bytes(b"its parity", &small[4..7], &expected);
+    report::bytes(rt, "its parity", &small[4..7], &expected)
 }
 
 // Twice a byte in the field of ciphers, modulo 0x11b.
@@ -96,7 +99,7 @@ fn weighed(data: [u8; 56], w0: u8, w1: u8, w2: u8, w3: u8) -> [u8; 8] {
 }
 
 // Wrong versions of p1, computed by the slips, against the document's.
-fn slips() {
+fn slips(rt: &impl Print) -> io::Result<()> {
     let data = worked();
     let ciphers = cipher_p1(data);
     let later = weighed(data, 2, 4, 8, 16);
@@ -105,12 +108,13 @@ fn slips() {
     let from_one = [0x30, 0x0c, 0x22, 0x00, 0x5f, 0xfb, 0xdf, 0xd7];
     let from_last = [0xf7, 0x02, 0x15, 0x40, 0xd6, 0x30, 0x27, 0x3e];
     report::bytes(
-        b"the slip of the field modulo 0x11b",
+        rt,
+        "the slip of the field modulo 0x11b",
         &ciphers,
         &other_field,
-    );
-    report::bytes(b"the slip of weights from g^1", &later, &from_one);
-    report::bytes(b"the slip of weights backwards", &backwards, &from_last);
+    )?;
+    report::bytes(rt, "the slip of weights from g^1", &later, &from_one)?;
+    report::bytes(rt, "the slip of weights backwards", &backwards, &from_last)
 }
 
 // The stripe with other bytes in shards 0, 3 and 5.
@@ -127,72 +131,84 @@ fn spoiled(whole: [u8; 56]) -> [u8; 56] {
 }
 
 // Three lost shards, data and parity mixed, whatever stands in their place.
-fn rebuilt() {
+fn rebuilt(rt: &impl Print) -> io::Result<()> {
     let mut whole = worked();
     code::encode(4, 3, 8, &mut whole);
     let mut stripe = spoiled(whole);
     let missing = [3, 0, 5];
     report::count(
-        b"rebuild 3, 0 and 5",
+        rt,
+        "rebuild 3, 0 and 5",
         answer(code::rebuild(4, 3, 8, &missing, &mut stripe)),
         0,
-    );
-    report::bytes(b"d0", &stripe[0..8], &whole[0..8]);
-    report::bytes(b"d3", &stripe[24..32], &whole[24..32]);
-    parities(stripe);
+    )?;
+    report::bytes(rt, "d0", &stripe[0..8], &whole[0..8])?;
+    report::bytes(rt, "d3", &stripe[24..32], &whole[24..32])?;
+    parities(rt, stripe)
 }
 
 // Each refusal of rebuild and encode.
-fn refused() {
+fn refused(rt: &impl Print) -> io::Result<()> {
     let mut stripe = worked();
     let four = [0, 1, 2, 3];
     report::count(
-        b"four missing, too many",
+        rt,
+        "four missing, too many",
         answer(code::rebuild(4, 3, 8, &four, &mut stripe)),
         2,
-    );
+    )?;
     let twice = [1, 1];
     report::count(
-        b"named twice, bad shard",
+        rt,
+        "named twice, bad shard",
         answer(code::rebuild(4, 3, 8, &twice, &mut stripe)),
         3,
-    );
+    )?;
     report::count(
-        b"a length of 7, bad shape",
+        rt,
+        "a length of 7, bad shape",
         answer(code::encode(4, 3, 7, &mut stripe)),
         1,
-    );
+    )
 }
 
 // Two wrong shards: with m = 2 they accuse an innocent third, with m = 3 nobody.
-fn liars() {
+fn liars(rt: &impl Print) -> io::Result<()> {
     let mut two = [0x01, 0x7b, 0, 0, 0, 0];
     report::count(
-        b"4 + 2, wrong in 0 and 1: accused 3",
+        rt,
+        "4 + 2, wrong in 0 and 1: accused 3",
         said(code::scrub(4, 2, 1, &two)),
         515,
-    );
+    )?;
     code::repair(4, 2, 1, &mut two);
     report::count(
-        b"repaired, and sound",
+        rt,
+        "repaired, and sound",
         said(code::scrub(4, 2, 1, &two)),
         256,
-    );
+    )?;
     let three = [0x01, 0x7b, 0, 0, 0, 0, 0];
     report::count(
-        b"4 + 3, the same: more than one",
+        rt,
+        "4 + 3, the same: more than one",
         said(code::scrub(4, 3, 1, &three)),
         768,
-    );
+    )?;
     let one = [0x01, 0, 0, 0, 0];
-    report::count(b"4 + 1, not sound", said(code::scrub(4, 1, 1, &one)), 768);
+    report::count(
+        rt,
+        "4 + 1, not sound",
+        said(code::scrub(4, 1, 1, &one)),
+        768,
+    )
 }
 
-pub fn run() {
-    report::heading(b"document 01, sections 2 to 5");
-    encoded();
-    slips();
-    rebuilt();
-    refused();
-    liars();
+pub fn run(rt: &impl Print) -> io::Result<()> {
+    report::heading(rt, "document 01, sections 2 to 5")?;
+    encoded(rt)?;
+    slips(rt)?;
+    rebuilt(rt)?;
+    refused(rt)?;
+    liars(rt)
 }
