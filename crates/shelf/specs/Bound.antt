@@ -3,7 +3,7 @@
 -- Assumes nothing.
 use Rattle.std.specs.Prelude.{◌≡◌, Bool, cond, ◌&&◌, List, ltb, eqb, leb, length, replicate}
 use Rattle.std.proofs.Math.Path.{refl, ap, ap₂}
-use Rattle.std.proofs.Common.{sym, ◌∙◌, subst, ⊎_elim, suc-mul, zero-mul, mul-zero, one-mul, mul-add, mul-le-mul_left, mul-le-mul_right, arith, ltb-true, ne_eqb}
+use Rattle.std.proofs.Common.{sym, ◌∙◌, subst, ⊎_elim, suc-mul, zero-mul, mul-zero, mul-add, mul-le-mul_left, mul-le-mul_right, arith, ltb-true, ne_eqb}
 use Rattle.std.proofs.Math.Bool.{true, false}
 use Prim.Native.Nat.{ℕ, zero, suc, ◌+◌, ◌*◌, ◌-◌, ◌≤◌, ◌<◌, ◌/◌, ◌%◌}
 use Rattle.std.proofs.lemmas.Bool.{lt-leb}

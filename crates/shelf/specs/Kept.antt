@@ -1,5 +1,5 @@
 -- What a write keeps in the work area, and the sectors of a record. Assumes nothing.
-use Rattle.std.specs.Prelude.{cond, ◌&&◌, List, [], ℕ, ◌+◌, ◌*◌, ltb, leb, length, take, drop}
+use Rattle.std.specs.Prelude.{cond, ◌&&◌, List, [], ℕ, ◌+◌, ◌*◌, ltb, length, take, drop}
 use Rattle.disk.specs.Limits.{sector_bytes}
 use Rattle.disk.specs.Geometry.{in_range, stripes_of, shard_of, found}
 use Rattle.disk.specs.declared.geometry.Geometry.{Geometry}
