@@ -57,7 +57,7 @@ module _ (z : Shelf) where
 
   module _ (t : ℕ) (g : ℕ → ℕ → Sector) where
     shard_length : (r : ℕ) → length (shard_at z t g r) ≡ len
-    shard_length r = length_strip _ z.c
+    shard_length r = length_strip (g (slot_of (slots z) t r)) z.c
 
     pub laid_length : length (laid_out z t g) ≡ n * len
     unfolding laid_out
