@@ -75,7 +75,7 @@ module _ (z : Shelf) where
     unfolding laid_out
     laid_at j p r hj hp hr =
         row_at len (shard_at z t g) n (λ i l. shard_length i) r (j * sector_bytes + p) hr (within j p hj hp)
-        ∙ strip_at _ j p hj hp
+        ∙ strip_at (g (slot_of n t r)) j p hj hp
 
     pub laid_position : (j p r : ℕ) → j < z.c → p < sector_bytes → r < n → byte_at len (laid_out z t g) (j * sector_bytes + p) r ≡ position z t g j p r
     unfolding position
