@@ -10,7 +10,7 @@ use Rattle.disk.specs.Mask.{in_mask, without_slot}
 use Rattle.disk.specs.declared.refusal.Refusal.TheVariants.{BadImage, NotNow}
 use Rattle.disk.specs.declared.refusal.Outcome.{Outcome}
 use Rattle.disk.specs.declared.refusal.Outcome.TheVariants.{Done}
-use Rattle.label.specs.Fields.{no_slot, most_generation, geometry_of, rebuild_fits, fits_of}
+use Rattle.label.specs.Fields.{no_slot, geometry_of, rebuild_fits, fits_of}
 use Rattle.label.specs.declared.fields.Label.{Label}
 use Rattle.label.proofs.Fits.{fits_says}
 use Rattle.requests.specs.Begun.{begun, first, slots_but}

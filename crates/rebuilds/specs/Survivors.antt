@@ -1,9 +1,9 @@
 -- Whether the strips of a stripe that are there and believed contradict each other. Assumes nothing.
-use Rattle.std.specs.Prelude.{◌≡◌, refl, Bool, true, false, cond, not, ◌&&◌, ◌||◌, ◌⊎◌, leb, ltb, eqb, length, take, drop}
+use Rattle.std.specs.Prelude.{◌≡◌, refl, Bool, true, false, cond, not, ◌&&◌, ◌||◌, ◌⊎◌, leb, ltb, eqb, length, drop}
 use Rattle.std.proofs.Math.Path.{sym, ap}
 use Rattle.std.proofs.Common.{◌∙◌, true≢false, inl, inr, eq-or-lt_of_le, arith, get_or-take, le-leb, lt-ltb, eq-eqb, ltb-true}
 use mathlib.Core.List.{List, []}
-use Prim.Native.Nat.{ℕ, zero, suc, ◌+◌, ◌-◌, ◌*◌, ◌≤◌, ◌<◌}
+use Prim.Native.Nat.{ℕ, suc, ◌+◌, ◌-◌, ◌*◌, ◌≤◌, ◌<◌}
 use Rattle.std.proofs.Math.ListN.{get_or}
 use Rattle.std.proofs.Math.Seq.{get_or-drop}
 use Rattle.std.proofs.lemmas.Bool.{not-true, not-false}
@@ -16,15 +16,14 @@ use Rattle.disk.specs.declared.refusal.Outcome.{Outcome}
 use Rattle.disk.specs.declared.refusal.Outcome.TheVariants.{Done, Refused}
 use Rattle.disk.specs.declared.refusal.Refusal.TheVariants.{BadImage, BadBlock, BadBuffer}
 use Rattle.field.specs.declared.Answer.{Answer}
-use Rattle.codeword.specs.Stripe.{Holds, Sound, byte_at, len_most}
-use Rattle.code.specs.Shape.{shaped_of}
+use Rattle.codeword.specs.Stripe.{Sound, byte_at}
 use Rattle.code.specs.Stripes.{Rebuilt, Says}
 use Rattle.code.specs.declared.Verdict.{Verdict}
 use Rattle.code.specs.declared.Verdict.TheVariants as verdict
 use Rattle.label.specs.declared.fields.Label.{Label}
 use Rattle.position.specs.Position.{holds, holds_true, holds_is, holds_same}
-use Rattle.position.specs.Row.{listed, listed_at}
-use Rattle.position.specs.Search.{all, all_at, all_of, some, some_of}
+use Rattle.position.specs.Row.{listed_at}
+use Rattle.position.specs.Search.{all, all_at, all_of, some}
 use Rattle.shelf.specs.Fill.{seen_slots}
 use Rattle.strips.specs.Seen.{shard_bytes, lost_of, shown_byte, row_seen, shard_shown}
 use Rattle.strips.specs.Answers.{few_lost, lost_in, part_of, fetch_answer, after_fetch}

@@ -1,0 +1,23 @@
+-- `on_answer` meets its contract. By what comes first. Assumes nothing.
+use mathlib.Core.Path.{sym, ap, ◌∙◌}
+use mathlib.Core.Bool.{Bool}
+use Rattle.requests.proofs.Answers.{first_stops, first_goes}
+use Rattle.requests.specs.Accepted.{ready_done}
+use Rattle.requests.specs.Ready.{is_idle, ready_of}
+use Rattle.rebuilds.specs.On.{asked_on}
+use Rattle.rebuilds.proofs.on.on_answer.Goals as goal
+
+pub asked_on-requires : goal.asked_on-requires
+asked_on-requires c = let a = c.args in
+    ready_done a.l a.kind a.absent a.image.now (sym c.ready-answer.ensures ∙ c.in-Done.is)
+
+pub returns-in-Refused : goal.returns-in-Refused
+returns-in-Refused c = let a = c.args in
+    first_stops (ready_of a.l a.kind a.absent a.image.now) (asked_on a.l (is_idle a.kind) a.absent a.room) _
+    (sym c.ready-answer.ensures ∙ c.in-Refused.is)
+
+pub returns-in-Done : goal.returns-in-Done
+returns-in-Done c = let a = c.args in
+    c.asked_on.ensures ∙ ap (λ (b : Bool). asked_on a.l b a.absent a.room) c.is_idle.ensures
+    ∙ first_goes (ready_of a.l a.kind a.absent a.image.now) (asked_on a.l (is_idle a.kind) a.absent a.room)
+    (sym c.ready-answer.ensures ∙ c.in-Done.is)
