@@ -1,5 +1,5 @@
 -- Answers as numbers. Assumes nothing.
-use Rattle.std.specs.Prelude.{◌≡◌, refl, List, length, ℕ, ◌+◌, ◌≤◌, ◌<◌}
+use Rattle.std.specs.Prelude.{◌≡◌, List, length, ℕ, ◌+◌, ◌<◌}
 use Rattle.std.proofs.Common.{arith}
 use Rattle.field.specs.Quotient.{quotient_of}
 use Rattle.field.specs.Refusal.{number_of}

@@ -1,6 +1,6 @@
 -- What the functions on labels answer and leave. Assumes nothing.
-use Rattle.std.specs.Prelude.{◌≡◌, refl, Bool, true, false, cond, ◌&&◌, List, [], ◌∷◌, ℕ, zero, suc, ◌+◌, ◌<◌, eqb, length, set}
-use Rattle.std.proofs.Common.{sym, ap, ◌∙◌, arith, eq-eqb, ne_eqb}
+use Rattle.std.specs.Prelude.{◌≡◌, refl, Bool, true, false, cond, ◌&&◌, List, [], ◌∷◌, ℕ, eqb, length, set}
+use Rattle.std.proofs.Common.{ap, ◌∙◌, arith, eq-eqb, ne_eqb}
 use Rattle.disk.specs.Refusal.{number_of}
 use Rattle.disk.specs.declared.refusal.Refusal.TheVariants.{BadImage, NoLabel}
 use Rattle.disk.specs.declared.refusal.Outcome.{Outcome}
