@@ -1,3 +1,4 @@
+use borrow.Author.Rules.{rules}
 use mathlib.Core.Path.{sym, ◌∙◌, ◌≡◌}
 use native.Mathlib.Omega.{arith}
 use mathlib.Core.Bool.{true}
@@ -62,4 +63,4 @@ pub returns : goal.returns
 returns c =
     let fits : (let a = c.args in shaped_of a.k a.m a.len (length a.stripe.now) ≡ true) = sym c.shaped.ensures ∙ c.if-not-shaped.false in
     let shape : (let a = c.args in Shaped a.k a.m a.len (length a.stripe.now)) = let a = c.args in shaped_means a.k a.m a.len (length a.stripe.now) (fits) in
-    encoded_done _ _ _ _ _ (fits) (shape).range (λ i. omega (arith, c.slice_known-2-1.given i)) c.fill_in.ensures
+    encoded_done _ _ _ _ _ (fits) (shape).range (λ i. search rules) c.fill_in.ensures

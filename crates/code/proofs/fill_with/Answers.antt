@@ -20,7 +20,7 @@ pub loop-c-init : goal.loop-c-init
 loop-c-init c = filled_to_none _ _ _ _ _ _
 
 pub overflow_cast-a : goal.overflow_cast-a
-overflow_cast-a c = omega (arith, c.shared_slice_known-in-loop-c-1.given c.loop-c.c)
+overflow_cast-a c = omega (arith, c.type_inv.lost c.loop-c.c)
 
 pub overflow_mul-c : goal.overflow_mul-c
 overflow_mul-c c = let g = c.requires.0.range in

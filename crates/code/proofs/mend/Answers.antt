@@ -1,3 +1,4 @@
+use borrow.Author.Rules.{rules}
 use native.Mathlib.Omega.{arith}
 use Rattle.solve.specs.Lists.{lost_one}
 use Rattle.code.specs.Filling.{filled_mends}
@@ -11,4 +12,4 @@ fill_in-requires c = (c.requires.0, lost_one c.args.k c.args.m c.args.r c.requir
 
 pub returns : goal.returns
 returns c = let a = c.args in
-    filled_mends a.k a.m a.len a.r a.stripe.now _ c.requires.0.range.m_least_lem (λ i. omega (arith, c.slice_known-1.given i)) (λ i. omega (arith, c.slice_known-2-1.given i)) c.requires.1 c.fill_in.ensures
+    filled_mends a.k a.m a.len a.r a.stripe.now _ c.requires.0.range.m_least_lem (λ i. search rules) (λ i. search rules) c.requires.1 c.fill_in.ensures

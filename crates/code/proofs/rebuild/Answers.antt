@@ -1,3 +1,4 @@
+use borrow.Author.Rules.{rules}
 use mathlib.Core.Path.{sym, ◌∙◌, ◌≡◌}
 use native.Mathlib.Omega.{arith}
 use mathlib.Core.Bool.{true}
@@ -39,4 +40,4 @@ fill_in-requires c =
 pub returns : goal.returns
 returns c =
     let fits : (let a = c.args in shaped_of a.k a.m a.len (length a.stripe.now) ≡ true) = sym c.shaped.ensures ∙ c.if-not-shaped.false in
-    rebuilt_done _ _ _ _ _ _ (fits) c.if-m-missing.false (sym c.shards.ensures ∙ c.if-not-shards.false) (λ i. omega (arith, c.slice_known-1.given i)) (λ i. omega (arith, c.slice_known-2-1.given i)) c.fill_in.ensures
+    rebuilt_done _ _ _ _ _ _ (fits) c.if-m-missing.false (sym c.shards.ensures ∙ c.if-not-shards.false) (λ i. search rules) (λ i. search rules) c.fill_in.ensures

@@ -1,3 +1,4 @@
+use borrow.Author.Rules.{rules}
 use native.Mathlib.Omega.{arith}
 use Rattle.solve.specs.SolveTurns.{exchange_none, exchange_done}
 use Rattle.solve.proofs.exchange.Goals as goal
@@ -14,5 +15,5 @@ add_row-requires-3 c = omega
 
 pub returns : goal.returns
 returns c = exchange_done c.args.n c.args.c c.args.j _ _ _ _ c.if-c-j.false
-    (λ p. (c.slice_known-1.given p).fits) (λ p. (c.slice_known-2-1.given p).fits)
+    (λ p. search rules) (λ p. search rules)
     c.add_row.ensures c.add_row-2.ensures c.add_row-3.ensures

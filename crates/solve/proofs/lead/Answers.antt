@@ -9,7 +9,7 @@ use Rattle.solve.specs.SolveTurns.{row_end}
 use Rattle.solve.proofs.lead.Goals as goal
 
 pub overflow_cast-a : goal.overflow_cast-a
-overflow_cast-a c = omega (arith, c.shared_slice_known-2-1.given c.args.c)
+overflow_cast-a c = omega (arith, c.type_inv.lost c.args.c)
 
 pub pivot-j-requires : goal.pivot-j-requires
 pivot-j-requires c = record { e_len = c.requires.solved_to.size; c_le_m = (omega arith, c.requires.lost.shards c.args.c c.requires.c_in_bounds) }

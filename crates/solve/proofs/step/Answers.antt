@@ -1,4 +1,5 @@
 -- what `lead` left
+use borrow.Author.Rules.{rules}
 use Prim.Native.Nat.{◌<◌, ◌+◌, ◌*◌}
 use mathlib.Core.Path.{◌∙◌}
 use native.Mathlib.Omega.{arith}
@@ -8,7 +9,7 @@ use Rattle.solve.specs.SolveTurns.{entry_in, row_end}
 use Rattle.solve.proofs.step.Goals as goal
 
 pub overflow_cast-a : goal.overflow_cast-a
-overflow_cast-a c = omega (arith, c.shared_slice_known-2-1.given c.args.c)
+overflow_cast-a c = omega (arith, c.type_inv.lost c.args.c)
 
 pub overflow_mul-x : goal.overflow_mul-x
 overflow_mul-x c =
@@ -42,6 +43,6 @@ clear_column-requires c = let a = c.requires.lost.shards c.args.c c.requires.c_i
 pub returns : goal.returns
 returns c = step_solved c.args.k c.args.m c.args.c c.args.lost.now c.requires.lost c.requires.c_in_bounds c.quotient.result
     (c.lead.new.e) c.add_row.new.e c.clear_column.new.e c.lead.ensures.solved_to_2 (omega (arith, c.quotient.type_inv))
-    (c.slice_known-3-1.given (c.args.c * (c.args.k + c.args.m) + get_or c.args.lost.now c.args.c 0)).fits
-    c.quotient.ensures c.add_row.ensures (λ p. (c.slice_known-4-1.given p).fits)
+    (omega arith)
+    c.quotient.ensures c.add_row.ensures (λ p. search rules)
     c.clear_column.ensures

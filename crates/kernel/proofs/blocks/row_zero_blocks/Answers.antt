@@ -1,9 +1,9 @@
 use mathlib.Core.Path.{sym, subst}
 use native.Mathlib.Omega.{arith}
-use mathlib.Core.Bool.{Bool, true, false}
+use mathlib.Core.Bool.{Bool}
 use Rattle.kernel.specs.Kernel.{row_at}
 use Rattle.kernel.specs.Steps.{columns, Zeros}
-use Rattle.kernel.specs.StepsTurns.{block_row, rows_turn, rows_left, not_of}
+use Rattle.kernel.specs.StepsTurns.{block_row, rows_turn, rows_left}
 use Rattle.kernel.proofs.blocks.row_zero_blocks.Goals as goal
 
 pub slice_bounds-block-end : goal.slice_bounds-block-end
@@ -22,7 +22,7 @@ returns-then-not-all_zero c = let a = c.args in
     let row = block_row a.n a.len st.result pl.result a.table.now a.at pl.new.steps bl.result a.stripe.now
     (λ i. omega (arith, c.type_inv.stripe i)) pl.ensures.1 bl.ensures in
     rows_left st.result a.len (row_at a.n a.len a.stripe.now a.table.now a.at) bl.result st.ensures.fits row
-    (subst (λ (b : Bool). Zeros b columns bl.result) (not_of z.result true c.if-not-all_zero.true-raw) z.ensures)
+    (subst (λ (b : Bool). Zeros b columns bl.result) c.if-not-all_zero.true z.ensures)
 
 pub overflow_add-p : goal.overflow_add-p
 overflow_add-p c = omega (arith, c.block_start-q.ensures.fits)
@@ -41,7 +41,7 @@ loop-p-preserved c = let a = c.args in
     (λ i. omega (arith, c.type_inv.stripe i)) pl.ensures.1 bl.ensures in (
       st.ensures.fits,
       rows_turn l.p st.result (row_at a.n a.len a.stripe.now a.table.now a.at) bl.result st.ensures.low row
-          (subst (λ (b : Bool). Zeros b columns bl.result) (not_of z.result false c.if-not-all_zero.false-raw) z.ensures) l.invariant.1,
+          (subst (λ (b : Bool). Zeros b columns bl.result) c.if-not-all_zero.false z.ensures) l.invariant.1,
     )
 
 pub returns : goal.returns

@@ -1,5 +1,6 @@
 -- `contradicts` meets its contract. Assumes nothing.
-use mathlib.Core.Path.{sym, ◌∙◌}
+use mathlib.Core.Path.{sym, ap, ◌∙◌}
+use mathlib.Core.Bool.{not}
 use Rattle.rebuilds.specs.Survivors.{range_fits, spare_few, no_spare, with_spare}
 use native.Mathlib.Omega.{arith}
 use Rattle.code.specs.Lists.{length_part}
@@ -11,7 +12,7 @@ has_spare-requires c = (range_fits c.args.g _ c.requires.0, c.requires.2, omega 
 
 pub returns-then-not-has_spare : goal.returns-then-not-has_spare
 returns-then-not-has_spare c = let a = c.args in
-    no_spare a.g a.k a.image.now a.l a.absent a.t _ _ c.seen_slots-there.ensures c.has_spare.ensures c.if-not-has_spare.true-raw
+    no_spare a.g a.k a.image.now a.l a.absent a.t _ _ c.seen_slots-there.ensures c.has_spare.ensures (ap not c.if-not-has_spare.true)
 
 pub stripe_holds-requires : goal.stripe_holds-requires
 stripe_holds-requires c = let a = c.args in
@@ -19,4 +20,4 @@ stripe_holds-requires c = let a = c.args in
 
 pub returns : goal.returns
 returns c = let a = c.args in
-    with_spare a.g a.k a.image.now a.l a.absent a.t _ _ _ c.seen_slots-there.ensures c.has_spare.ensures c.if-not-has_spare.false-raw c.stripe_holds.ensures
+    with_spare a.g a.k a.image.now a.l a.absent a.t _ _ _ c.seen_slots-there.ensures c.has_spare.ensures (ap not c.if-not-has_spare.false) c.stripe_holds.ensures
