@@ -8,7 +8,8 @@ use mathlib.Core.List.{List, []}
 use Rattle.std.proofs.Math.ListN.{get_or}
 use Rattle.std.proofs.Math.Seq.{get_or-take, get_or-drop, ext_get_or}
 use Rattle.disk.specs.Limits.{sector_bytes}
-use Rattle.disk.specs.Geometry.{stripes_of, strip_of, InRange, strip_inside}
+use Rattle.disk.specs.Geometry.{stripes_of, strip_of, InRange}
+use Rattle.disk.proofs.GeometryLaws.{strip_inside}
 use Rattle.disk.specs.Mask.{in_mask, in_past}
 use Rattle.disk.specs.Image.{place, sector, fits_image, on_shelf, read_of, Shape, fits_image_lem, on_shelf_lem}
 use Rattle.disk.specs.declared.geometry.Geometry.{Geometry}

@@ -15,8 +15,9 @@ use Rattle.disk.specs.declared.refusal.Refusal.{Refusal}
 use Rattle.disk.specs.declared.refusal.Refusal.TheVariants.{NotNow}
 use Rattle.disk.specs.declared.refusal.Outcome.{Outcome}
 use Rattle.disk.specs.declared.refusal.Outcome.TheVariants.{Done, Refused}
-use Rattle.codeword.specs.Stripe.{byte_at, AgreeOff, Sound}
-use Rattle.codeword.specs.Unique.{AllBytes, unique}
+use Rattle.codeword.specs.Stripe.{byte_at, AgreeOff}
+use Rattle.codeword.specs.Unique.{AllBytes}
+use Rattle.codeword.proofs.Unique.{unique}
 use Rattle.code.specs.Shape.{shaped_of}
 use Rattle.code.specs.Stripes.{Says, Mends, Repaired}
 use Rattle.code.specs.Exact.{scrub_sound, scrub_accused, scrub_unsound, repaired_only}

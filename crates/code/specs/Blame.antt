@@ -3,7 +3,8 @@ use Rattle.std.specs.Prelude.{◌≡◌, Bool, true, false, List, [], ◌∷◌,
 use Rattle.std.proofs.Common.{sym, subst, inl, inr, suc-mul, mul-le-mul_right, eq-or-lt_of_le, arith}
 use Rattle.codeword.specs.Stripe.{byte_at, Sound, AgreeOff}
 use Rattle.codeword.specs.Table.{row_sum, SolvedFor}
-use Rattle.codeword.specs.Mend.{mends, blamed, others, others_byte}
+use Rattle.codeword.specs.Mend.{others, others_byte}
+use Rattle.codeword.proofs.Mend.{mends, blamed}
 use Rattle.codeword.specs.Unique.{AllBytes}
 use Rattle.code.specs.Padded.{padded}
 use Rattle.code.specs.Stripes.{Accuses}

@@ -6,9 +6,11 @@ use Rattle.std.proofs.Common.{sym, ap, ◌∙◌, arith, lit<, eqb-true}
 use Rattle.std.proofs.lemmas.Bool.{eqb-false}
 use Rattle.codeword.specs.Stripe.{byte_at, Sound, AgreeOff, Agree}
 use Rattle.codeword.specs.Unique.{AllBytes}
-use Rattle.codeword.specs.Liars.{Differ, one_accused, innocent, repaired_once, found, first_sum, third_accused, third_alone}
+use Rattle.codeword.specs.Liars.{Differ, found, third_alone}
+use Rattle.codeword.proofs.Liars.{one_accused, innocent, repaired_once, first_sum, third_accused}
 use Rattle.codeword.specs.Named.{has_not}
-use Rattle.codeword.specs.Laid.{laid, laid_at, laid_bytes, laid_sound, holds_ext}
+use Rattle.codeword.specs.Laid.{laid, laid_at, laid_bytes}
+use Rattle.codeword.proofs.Laid.{laid_sound, holds_ext}
 use Rattle.codeword.specs.Mend.{put, put_at, put_off, put_bytes}
 use Rattle.code.specs.Shape.{shaped_of, Shaped}
 use Rattle.code.specs.Lists.{shaped_means}

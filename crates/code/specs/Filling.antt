@@ -3,15 +3,18 @@ use Rattle.std.specs.Prelude.{◌≡◌, refl, Bool, true, false, cond, List, []
 use Rattle.std.proofs.Common.{sym, ap, ◌∙◌, subst, inl, inr, ⊎_elim, suc-mul, mul-le-mul_right, eq-or-lt_of_le, eq-zero-or-pos, arith, lit<, eqb-true}
 use Rattle.std.proofs.lemmas.Bool.{eqb-false}
 use Rattle.field.specs.Field.{mul_of}
-use Rattle.field.specs.Bytes.{bytes}
+use Rattle.field.proofs.Bytes.{bytes}
 use Rattle.codeword.specs.Sum.{total, total_ext, except, except_at, except_off}
 use Rattle.codeword.specs.Stripe.{Bytes, byte_at, Sound, AgreeOff, Agree, has}
 use Rattle.codeword.specs.Table.{entry, row_sum, Equivalent, SolvedFor}
 use Rattle.codeword.specs.Unit.{unit_other}
 use Rattle.codeword.specs.Named.{has_not, has_index}
-use Rattle.codeword.specs.Complete.{completed, completed_bytes, completed_off, completed_rows, completed_holds, row_same}
-use Rattle.codeword.specs.Laid.{laid, laid_at, laid_bytes, laid_sound}
-use Rattle.codeword.specs.Mend.{put, put_at, put_off, others, others_byte, by_zero, solved_row, solved_other, blamed}
+use Rattle.codeword.specs.Complete.{completed, completed_bytes, completed_off, completed_rows, row_same}
+use Rattle.codeword.proofs.Complete.{completed_holds}
+use Rattle.codeword.specs.Laid.{laid, laid_at, laid_bytes}
+use Rattle.codeword.proofs.Laid.{laid_sound}
+use Rattle.codeword.specs.Mend.{put, put_at, put_off, others, others_byte, by_zero, solved_row, solved_other}
+use Rattle.codeword.proofs.Mend.{blamed}
 use Rattle.code.specs.Shape.{shaped_of}
 use Rattle.solve.specs.Lost.{Lost}
 use Rattle.solve.specs.Lists.{lost_one}

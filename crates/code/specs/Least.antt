@@ -5,7 +5,8 @@ use Rattle.std.proofs.Common.{sym, ◌∙◌, arith, leb-true}
 use Rattle.field.specs.declared.Answer.TheVariants.{Done, Refused}
 use Rattle.field.specs.declared.Refusal.TheVariants.{BadShape, TooMany, BadShard}
 use Rattle.codeword.specs.Stripe.{InRange, byte_at, Sound, AgreeOff}
-use Rattle.codeword.specs.Unique.{AllBytes, determined}
+use Rattle.codeword.specs.Unique.{AllBytes}
+use Rattle.codeword.proofs.Unique.{determined}
 use Rattle.solve.specs.Lost.{shards_of, Lost}
 use Rattle.code.specs.Shape.{shaped_of}
 use Rattle.solve.specs.Lists.{shards_lost}

@@ -2,5 +2,4 @@ pub mod Sector
 pub mod Shelf
 pub mod Labels
 pub mod Records
-pub mod Order
 pub mod Media

@@ -5,9 +5,9 @@ use Rattle.std.proofs.Math.Path.{refl}
 use Rattle.std.proofs.Common.{sym, ap, ◌∙◌, inl, inr, eq-or-lt_of_le, le_of_suc-le-suc, arith}
 use Prim.Native.Nat.{ℕ, zero, suc, ◌+◌, ◌≤◌, ◌<◌}
 use Rattle.field.specs.Field.{mul_of}
-use Rattle.field.specs.Bytes.{bytes}
+use Rattle.field.proofs.Bytes.{bytes}
 use Rattle.codeword.specs.Sum.{total_ext, except, except_ext}
-use Rattle.codeword.specs.Stripe.{Holds, Bytes, has}
+use Rattle.codeword.specs.Stripe.{Bytes, has}
 use Rattle.codeword.specs.Unit.{unit_other}
 use Rattle.codeword.specs.Table.{entry, row_sum, SolvedFor}
 use Rattle.codeword.specs.Named.{has_not, has_index}
@@ -76,9 +76,3 @@ module _ (k m : ℕ) (lost e : List ℕ) (s : SolvedFor k m lost e) (few : lengt
             ap (λ (j : ℕ). row_sum (k + m) e j (put (get_or lost c 0) v y)) q
             ∙ solved_row k m lost e s c v y h (omega arith) (inside c h) (others_byte (k + m) e c (get_or lost c 0) y) ∙ bytes.add_self v
         go (inr q) ih = solved_other k m lost e s c i v y h (omega arith) (λ z. omega arith) (inside c h) ∙ ih q
-
-    -- with all m shards of the list given, the equations hold
-    pub completed_holds : length lost ≡ m → Holds k m (completed (k + m) lost e x (length lost))
-    completed_holds q =
-        s.same.back (completed (k + m) lost e x (length lost)) (completed_bytes (length lost))
-        (λ j hj. completed_rows (length lost) (omega arith) j (omega arith))

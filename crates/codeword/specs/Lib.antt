@@ -7,7 +7,6 @@ pub mod Named
 pub mod Chosen
 pub mod Minors
 pub mod Unique
-pub mod Worked
 pub mod Liars
 pub mod Mend
 pub mod Complete

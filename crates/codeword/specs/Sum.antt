@@ -6,8 +6,8 @@ use Rattle.std.proofs.lemmas.Bool.{eqb-false}
 use Rattle.algebra.specs.Ring.{◌⊕◌, ◌⊗◌}
 use Rattle.algebra.specs.Field.{X, Y, Z, P}
 use Rattle.field.specs.Field.{mul_of}
-use Rattle.field.specs.Bytes.{bytes}
-use Rattle.field.specs.Solve.{solve}
+use Rattle.field.proofs.Bytes.{bytes}
+use Rattle.field.proofs.Solve.{solve}
 
 -- f 0 + f 1 + .. + f (n - 1)
 unfoldable pub total : ℕ → (ℕ → ℕ) → ℕ

@@ -3,7 +3,7 @@ use Rattle.std.specs.Prelude.{◌≡◌, refl, Bool, cond, ◌≢◌, ℕ, ◌<�
 use Rattle.std.proofs.Common.{sym, ap, ◌∙◌, eq-eqb, ne_eqb}
 use Rattle.std.specs.Int.Bits.{bit_xor}
 use Rattle.field.specs.Field.{mul_of}
-use Rattle.field.specs.Bytes.{bytes}
+use Rattle.field.proofs.Bytes.{bytes}
 use Rattle.codeword.specs.Table.{unit}
 
 pub one_times : (a : ℕ) → a < 256 → mul_of 1 a ≡ a

@@ -146,23 +146,6 @@ pub stripes_some : (g : Geometry) → InRange g → 1 ≤ stripes_of g
 unfolding stripes_of
 stripes_some g r = (le-div_iff_mul-le {k = g.c} {x = 1} {y = g.sectors - first_strip} (omega (arith, r.some))).1 (omega (arith, r.room, one-mul g.c))
 
--- every strip lies within the disk
-pub strip_inside : (g : Geometry) → InRange g → (t : ℕ) → t < stripes_of g → strip_of g t + g.c ≤ g.sectors
-unfolding stripes_of strip_of
-strip_inside g r t h =
-    let T : ℕ = (g.sectors - first_strip) / g.c in
-    omega (arith, r.room, suc-mul t g.c, mul-le-mul_right g.c h, div-mul-le_self (g.sectors - first_strip) g.c)
-
--- no strip overlaps the log or the labels
-pub strip_behind : (g : Geometry) (t : ℕ) → first_strip ≤ strip_of g t
-unfolding strip_of
-strip_behind g t = omega arith
-
--- no two strips overlap
-pub strips_apart : (g : Geometry) (t u : ℕ) → t < u → strip_of g t + g.c ≤ strip_of g u
-unfolding strip_of
-strips_apart g t u h = omega (arith, suc-mul t g.c, mul-le-mul_right g.c h)
-
 pub product_le : (x y a b : ℕ) → x ≤ a → y ≤ b → x * y ≤ a * b
 product_le x y a b hx hy = le_trans (mul-le-mul_right y hx) (mul-le-mul_left a hy)
 

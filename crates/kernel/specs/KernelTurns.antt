@@ -8,10 +8,10 @@ use Rattle.algebra.specs.Ring.{◌⊗◌}
 use Rattle.algebra.specs.Field.{X, Y, Z}
 use Rattle.bits.specs.Xor.{bit_ind}
 use Rattle.field.specs.Field.{mul_of, g, pick}
-use Rattle.field.specs.Power.{twice}
-use Rattle.field.specs.Bytes.{bytes}
-use Rattle.field.specs.Turns.{double_byte}
-use Rattle.field.specs.Solve.{solve}
+use Rattle.field.proofs.Power.{twice}
+use Rattle.field.proofs.Bytes.{bytes}
+use Rattle.field.proofs.Turns.{double_byte}
+use Rattle.field.proofs.Solve.{solve}
 use Rattle.kernel.specs.declared.bytes.Multiples.{Multiples}
 use Rattle.codeword.specs.Sum.{total}
 use Rattle.codeword.specs.Stripe.{byte_at}

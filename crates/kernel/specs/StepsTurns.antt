@@ -7,8 +7,8 @@ use Rattle.std.proofs.lemmas.Nat.{xor_comm}
 use Rattle.algebra.specs.Ring.{◌⊗◌}
 use Rattle.algebra.specs.Field.{X, Y, Z}
 use Rattle.field.specs.Field.{mul_of, g, pick}
-use Rattle.field.specs.Bytes.{bytes}
-use Rattle.field.specs.Solve.{solve}
+use Rattle.field.proofs.Bytes.{bytes}
+use Rattle.field.proofs.Solve.{solve}
 use Rattle.field.specs.Turns.{pick_pos}
 use Rattle.codeword.specs.Sum.{total, total_ext, total_zero, total_add, total_mul}
 use Rattle.codeword.specs.Stripe.{Bytes, byte_at}

@@ -7,7 +7,8 @@ use Prim.Native.Nat.{ℕ, zero, suc, ◌+◌, ◌*◌, ◌-◌, ◌≤◌, ◌<�
 use native.Mathlib.Omega.{arith}
 use Rattle.std.proofs.Math.ListN.{take}
 use Rattle.std.proofs.Math.Seq.{append_snoc}
-use Rattle.disk.specs.Number.{number_at, with_number, bytes_of, length_bytes, with_append, number_append}
+use Rattle.disk.specs.Number.{number_at, with_number, bytes_of, length_bytes, with_append}
+use Rattle.disk.proofs.NumberLaws.{number_append}
 
 -- the bytes of the numbers
 unfoldable pub words : List ℕ → List ℕ

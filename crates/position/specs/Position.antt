@@ -12,7 +12,7 @@ use Rattle.codeword.specs.Sum.{total_ext}
 use Rattle.codeword.specs.Stripe.{InRange, coef, parity_of, Holds, Bytes, has}
 use Rattle.codeword.specs.Chosen.{chosen}
 use Rattle.codeword.specs.Mend.{put, put_at, put_off, put_bytes}
-use Rattle.codeword.specs.Unique.{unique}
+use Rattle.codeword.proofs.Unique.{unique}
 use Rattle.position.specs.Search.{all, all_at, all_of, some, some_of, some_ext, first, first_is, first_ext, first_lt}
 
 -- ---- the equations, as a test

@@ -34,7 +34,6 @@ pub mod Shape
 pub mod Tidy
 pub mod Formed
 pub mod Shaped
-pub mod Limits
 pub mod Exchange
 pub mod Apart
 pub mod Exchanged

@@ -4,7 +4,7 @@
 use Rattle.std.specs.Prelude.{ℕ, zero, suc, ◌+◌, ◌-◌, ◌≤◌, ◌<◌, ◌≡◌, refl, Bool, not, ◌&&◌, ◌||◌, List, [], ◌∷◌, ◌++◌, eqb, ltb, leb}
 use Rattle.std.proofs.Math.Path.{ap, fun_ext}
 use Rattle.std.proofs.Math.Bool.{true, false, cond}
-use Rattle.protocol.specs.World.{Place, label, log, strip, slot, Image, Action}
+use Rattle.protocol.specs.World.{label, log, strip, slot, Image, Action}
 use Rattle.protocol.specs.Batch.{flushes}
 use Rattle.protocol.specs.Slots.{from, slots, every}
 use Rattle.protocol.specs.Log.{Write, RecordCodec}
@@ -399,12 +399,3 @@ module _ {X : Type 0} (z : Size) (W : Quorum z.n) (C : LabelCodec X z.n) (K : Re
   -- THE PROGRAM
   unfoldable pub program : Memory X → Image X → Input X → Memory X × Reply X
   program m f i = choose m (mask (unseen m i) f) i
-
-  -- NO ACTION AND NO ANSWER DEPENDS ON A SECTOR OF AN ABSENT SLOT, at every step anew
-  pub blind : (m : Memory X) (i : Input X) (f g : Image X) → ((k : Place) → unseen m i (slot k) ≡ false → f k ≡ g k) → program m f i ≡ program m g i
-  unfolding program mask
-  blind m i f g h = ap (λ (s : Image X). choose m s i) (fun_ext (λ k. go k (unseen m i (slot k)) refl))
-    where
-      go : (k : Place) (b : Bool) → unseen m i (slot k) ≡ b → cond (unseen m i (slot k)) K.zeros (f k) ≡ cond (unseen m i (slot k)) K.zeros (g k)
-      go k true e = rw e
-      go k false e = rw e (h k e)

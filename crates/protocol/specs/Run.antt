@@ -2,16 +2,9 @@
 -- lost, and reads. This is the classic hole of document 03, section 5: the data strip is written, the parity strip is not, power is lost, then
 -- another disk; and the block that nobody was writing comes back right.
 use Rattle.std.specs.Prelude.{ℕ, zero, suc, ◌≡◌, refl, eqb}
-use Rattle.protocol.specs.World.{update, after}
-use Rattle.protocol.specs.Slots.{slots}
-use Rattle.protocol.specs.Label.{belief, copy, round_batch, prep_places, prep_batch}
-use Rattle.protocol.specs.Write.{logged_sectors, stored_sectors, involved, log_batch, store_batch}
-use Rattle.protocol.specs.Redo.{compared_sectors, complete_b, whole, forward, marked, kill_batch, redo}
-use Rattle.protocol.specs.Startup.{behind, disowned, gone, level_to, again_to, last_to, rounds}
-use Rattle.protocol.specs.Decide.{in_turn, startup}
-use Rattle.protocol.specs.Host.{one_block, set_block, replace, table, read, read_through, write_of}
-use Rattle.protocol.specs.Count.{at_most}
-use Rattle.protocol.specs.Program.{nothing, Input, create, start, read_block, write, step, Reply, accepted, refused, did, safe, done, block, found, mask, change_made, told_to, flushed_first, left_out, program}
+use Rattle.protocol.specs.World.{after}
+use Rattle.protocol.specs.Host.{one_block}
+use Rattle.protocol.specs.Program.{nothing, Input, create, start, read_block, write, step, Reply, accepted, refused, did, safe, done, block, found, program}
 use Rattle.protocol.specs.Machine.{Machine, at, effect}
 use Rattle.protocol.specs.Toy.{Sector, blank, datum, size, labels, records, quorum, code, stamps, medium}
 
@@ -40,11 +33,11 @@ ask_block (at w m) i = shown (program size quorum labels records code stamps med
 abbrev cut_now : Machine Sector → Machine Sector
 cut_now (at w m) = at (after w.cur) nothing
 
-abbrev made : Machine Sector
+abbrev pub made : Machine Sector
 made = steps 10 (react (at (after (λ k. blank)) nothing) create)
 
 -- two blocks are written and acknowledged (6 actions, the step that makes it safe, 4 actions, the answer)
-abbrev filled : Machine Sector
+abbrev pub filled : Machine Sector
 filled = steps 12 (react (steps 12 (react made (write 0 (one_block 0 (λ j. datum 7))))) (write 0 (one_block 1 (λ j. datum 8))))
 
 -- a third write: its log is flushed, and the data strip is written, the parity strip not
@@ -52,18 +45,5 @@ abbrev torn : Machine Sector
 torn = cut_now (steps 8 (react filled (write 0 (one_block 0 (λ j. datum 9)))))
 
 -- start-up, with slot 1 lost: 18 actions and the answer
-abbrev risen : Machine Sector
+abbrev pub risen : Machine Sector
 risen = steps 19 (react torn (start (λ d. eqb d 1)))
-
-made_reads : ask_block made 0 ≡ blank
-unfolding update after belief copy round_batch prep_batch slots logged_sectors stored_sectors compared_sectors involved log_batch store_batch complete_b whole forward marked kill_batch redo gone level_to again_to last_to rounds in_turn behind disowned prep_places startup set_block replace table read read_through write_of change_made at_most mask told_to flushed_first left_out program quorum code medium
-made_reads = refl
-
-filled_reads : (ask_block filled 0 ≡ datum 7) × (ask_block filled 1 ≡ datum 8)
-unfolding update after belief copy round_batch prep_batch slots logged_sectors stored_sectors compared_sectors involved log_batch store_batch complete_b whole forward marked kill_batch redo gone level_to again_to last_to rounds in_turn behind disowned prep_places startup set_block replace table read read_through write_of change_made at_most mask told_to flushed_first left_out program quorum code medium
-filled_reads = (refl, refl)
-
--- THE NEW ONE, AND THE ONE THAT NOBODY WAS WRITING
-pub risen_reads : (ask_block risen 0 ≡ datum 9) × (ask_block risen 1 ≡ datum 8)
-unfolding update after belief copy round_batch prep_batch slots logged_sectors stored_sectors compared_sectors involved log_batch store_batch complete_b whole forward marked kill_batch redo gone level_to again_to last_to rounds in_turn behind disowned prep_places startup set_block replace table read read_through write_of change_made at_most mask told_to flushed_first left_out program quorum code medium
-risen_reads = (refl, refl)

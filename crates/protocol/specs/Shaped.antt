@@ -1,12 +1,11 @@
 -- The C6 shape along every history in which each disk that is put in has it strictly: its label sectors are zeros or valid copies. (Formed says it of any disks.)
 use Rattle.std.specs.Prelude.{true, List}
-use Rattle.protocol.specs.World.{Image, World, Always}
+use Rattle.protocol.specs.World.{Image}
 use Rattle.protocol.specs.Log.{RecordCodec}
 use Rattle.protocol.specs.Label.{Size, Quorum, LabelCodec}
 use Rattle.protocol.specs.Host.{Code}
-use Rattle.protocol.specs.Program.{Stamps, Medium, Memory}
-use Rattle.protocol.specs.Machine.{Machine, at, Event, Happens, Runs, View}
-use Rattle.protocol.specs.Invariant.{Invariant}
+use Rattle.protocol.specs.Program.{Stamps, Medium}
+use Rattle.protocol.specs.Machine.{Machine, Event, Happens, Runs}
 use Rattle.protocol.specs.Promise.{Zeros}
 use Rattle.protocol.specs.Shape.{Shapes}
 use Rattle.protocol.specs.Formed as Formed
@@ -18,17 +17,8 @@ module _ {X : Type 0} (z : Size) (W : Quorum z.n) (C : LabelCodec X z.n) (K : Re
   abbrev pub AllShaped : {m m' : Machine X} {e : Event X} → Happens z W C K E S R m e m' → Type 0
   AllShaped x = Formed.AllShaped z W C K E S R true x
 
-  pub shaped_off : (w : World X) (m : Memory X) → Shaped (at w m) → Always w (Shapes C)
-  shaped_off = Formed.shaped_off z W C K E S R true
-
-  pub shaped : {m m' : Machine X} {e : Event X} (x : Happens z W C K E S R m e m') → AllShaped x → (p : View X) → Invariant z W C K E S R m p → Shaped m → Shaped m'
-  shaped = Formed.shaped z W C K E S R true
-
   abbrev pub Tidily : {m m' : Machine X} {l : List (Event X)} → Runs z W C K E S R m l m' → Type 0
   Tidily r = Formed.Tidily z W C K E S R true r
-
-  pub shaped_always : {m m' : Machine X} {l : List (Event X)} (r : Runs z W C K E S R m l m') → Tidily r → (p : View X) → Invariant z W C K E S R m p → Shaped m → Shaped m'
-  shaped_always = Formed.shaped_always z W C K E S R true
 
   -- an image of zeros has it
   pub zeros_shaped : (f : Image X) → Zeros z W C K E S R f → Shapes C f

@@ -5,7 +5,8 @@ use Rattle.std.proofs.Common.{sym, ap, ap₂, ◌∙◌, inl, inr, ⊎_elim, app
 use Rattle.disk.specs.Limits.{sector_bytes}
 use Rattle.disk.specs.Tests.{and_left, and_right}
 use Rattle.disk.specs.Image.{lt_or_ge}
-use Rattle.disk.specs.Number.{number_at, with_number, bytes_of, with_append, number_append}
+use Rattle.disk.specs.Number.{number_at, with_number, bytes_of, with_append}
+use Rattle.disk.proofs.NumberLaws.{number_append}
 use Rattle.record.specs.Layout.{stamp_length}
 use Rattle.record.specs.declared.stamp.Stamp.{Stamp}
 

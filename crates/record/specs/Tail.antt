@@ -7,7 +7,8 @@ use Rattle.std.proofs.Math.Seq.{paste, drop-append-add}
 use Rattle.std.proofs.lemmas.List.Edits.{length-paste}
 use Rattle.disk.specs.Limits.{sector_bytes}
 use Rattle.disk.specs.Geometry.{strip_length}
-use Rattle.disk.specs.Number.{number_at, with_number, bytes_of, with_append, number_append}
+use Rattle.disk.specs.Number.{number_at, with_number, bytes_of, with_append}
+use Rattle.disk.proofs.NumberLaws.{number_append}
 use Rattle.disk.specs.declared.refusal.Refusal.TheVariants.{BadImage, BadBuffer}
 use Rattle.disk.specs.declared.refusal.Outcome.{Outcome}
 use Rattle.disk.specs.declared.refusal.Outcome.TheVariants.{Done, Refused}

@@ -9,7 +9,8 @@ use borrow.Author.Tests.{lt-ltb}
 use Rattle.disk.specs.Limits.{least_n, most_n, sector_bytes, first_log}
 use Rattle.disk.specs.Tests.{and_left, and_right, both}
 use Rattle.disk.specs.Geometry.{in_range, strip_length}
-use Rattle.disk.specs.Image.{place, Shape, fits_image, on_shelf, read_of, fits_image_lem, place_fits}
+use Rattle.disk.specs.Image.{place, Shape, fits_image, on_shelf, read_of, fits_image_lem}
+use Rattle.disk.proofs.Image.{place_fits}
 use Rattle.disk.specs.declared.geometry.Geometry.{Geometry}
 use Rattle.label.specs.Newest.{all_of}
 use Rattle.label.specs.declared.fields.Label.{Label}

@@ -10,12 +10,10 @@ use Rattle.std.proofs.Math.Nat.{mod-lt}
 use Rattle.std.specs.Int.Count.{ones}
 use Rattle.std.proofs.lemmas.List.{get_or-replicate}
 use borrow.Author.Tests.{eq-eqb, ne_eqb, eqb-true, eqb-false, lt-ltb, le-leb}
-use Rattle.disk.specs.Limits.{sector_bytes}
-use Rattle.disk.specs.Image.{place}
-use Rattle.disk.specs.Tests.{and_left, and_right, both}
+use Rattle.disk.specs.Tests.{and_left, and_right}
 use Rattle.disk.specs.Mask.{in_mask, with_slot, with_lt}
 use Rattle.disk.specs.declared.refusal.Outcome.TheVariants.{Done}
-use Rattle.label.specs.Fields.{no_slot, most_generation, fits_of}
+use Rattle.label.specs.Fields.{no_slot, fits_of}
 use Rattle.label.specs.Bytes.{all_zero}
 use Rattle.label.specs.declared.fields.Label as bytes
 use Rattle.label.proofs.Fits.{fits_says}
@@ -25,44 +23,32 @@ use Rattle.rounds.specs.declared.slot.Question.TheVariants.{Out}
 use Rattle.rounds.specs.declared.plan.Plan.{Plan}
 use Rattle.rounds.specs.declared.plan.Survey.TheVariants as survey
 use Rattle.rounds.proofs.Plans.{survey_grounds}
-use Rattle.protocol.specs.World.{Place, log, strip, slot, Image, World, always_cur}
-use Rattle.protocol.specs.Slots.{from, every, every_all}
-use Rattle.protocol.specs.Log.{Belief, Logs, Quiet, within_self}
-use Rattle.protocol.specs.Label.{Label, plainly_out as plainly_out', looked, belief}
-use Rattle.protocol.specs.Startup as startup
-use Rattle.protocol.specs.Startup.{Framed, same_self, settled_D}
-use Rattle.protocol.specs.Decide.{settled, Accepted, Met, meets_shelf, done_above}
-use Rattle.protocol.specs.Machine.{View, sure, open_write, kept_write}
-use Rattle.protocol.specs.Write.{Mid}
+use Rattle.protocol.specs.World.{Image, World}
+use Rattle.protocol.specs.Log.{Belief}
+use Rattle.protocol.specs.Label.{Label, plainly_out as plainly_out'}
+use Rattle.protocol.specs.Machine.{View}
 use Rattle.protocol.specs.Invariant.{Ghost, Under, Off}
-use Rattle.protocol.specs.Promise.{under_framed, accept_f, same_label_lem}
 use Rattle.protocol.specs.Request as protocol
-use Rattle.protocol.specs.Program.{TOO_FEW, BAD_BLOCK, BUSY, NOT_NOW, Verdict, clear, first, Own, nothing, idle, accepted, create, start, take_out, beyond, blank, mask, left_out, may_create, may_start, asked_create, asked_start, asked_out, answer}
-use Rattle.protocol.specs.Even.{program_by, may_start_by, may_out_by}
-use Rattle.protocol.specs.Pairs.{no_sets}
-use Rattle.codecs.specs.Sector.{Sector, zeros, sector_path}
+use Rattle.protocol.specs.Program.{Own, beyond}
+use Rattle.codecs.specs.Sector.{Sector}
 use Rattle.codecs.specs.Shelf.{Shelf, slots, geometry, size}
-use Rattle.codecs.specs.Labels.{no_label, ours, label_of, labels}
+use Rattle.codecs.specs.Labels.{no_label, ours, label_of}
+use Rattle.codecs.proofs.Labels.{labels}
 use Rattle.codecs.specs.Labels as Labels
-use Rattle.codecs.specs.Records.{counts, records}
-use Rattle.codecs.specs.Media.{stamps, medium, is_zeros, zeros_are}
-use Rattle.shards.specs.Quorum.{few_of, few_mask}
-use Rattle.shards.specs.Parity.{byte_of}
-use Rattle.shards.specs.Parity as Parity
-use Rattle.shards.specs.Even.{any_code, any_sectors}
+use Rattle.codecs.proofs.Records.{records}
+use Rattle.codecs.specs.Media.{stamps}
+use Rattle.shards.specs.Quorum.{few_of}
+use Rattle.shards.proofs.Quorum.{few_mask}
 use Rattle.stages.specs.declared.state.State.{State}
 use Rattle.requests.specs.Ready.{is_idle}
 use Rattle.requests.specs.TakeOut.{out_with, plainly_out, take_answer, next_label, outed}
 use Rattle.requests.specs.Accepted.{Goes, take_done}
-use Rattle.refine.specs.Places.{sector_of, inside}
-use Rattle.refine.specs.Disks.{Disks, byte_in, cur_of, seen_of, seen_mask, seen_present}
-use Rattle.refine.specs.Family.{Family, code_in, sectors_in, leaves_of}
+use Rattle.refine.specs.Disks.{Disks, cur_of}
+use Rattle.refine.specs.Family.{Family, code_in, sectors_in}
 use Rattle.refine.specs.Labels.{Led}
-use Rattle.refine.specs.Rounds.{slot_test, next_is, left_out_is, few_is, verdict, start_is, start_in}
-use Rattle.refine.specs.Redo.{look_is, logs_fair, settled_dark}
-use Rattle.refine.specs.Redo as Redo
+use Rattle.refine.specs.Rounds.{slot_test}
 use Rattle.refine.specs.Requests.{n_is, out_label}
-use Rattle.refine.specs.Tied.{program_of, own_of}
+use Rattle.refine.specs.Tied.{own_of}
 
 and_swap : (a b : Bool) → (a && b) ≡ (b && a)
 and_swap true true = refl
@@ -93,176 +79,44 @@ none_there [] e (suc p) = refl
 none_there (x ∷ b) e zero = eqb-true x 0 (and_left (eqb x 0) (all_zero b) e)
 none_there (x ∷ b) e (suc p) = none_there b (and_right (eqb x 0) (all_zero b) e) p
 
--- whatever the host's view, the log is in order
-logs_under : (z : Shelf) (F : Family z) (g : Ghost Sector) (p : View Sector) (B : Belief) (f : Image Sector)
-    → Under (size z) F.sets (labels z) (records z) (code_in z F) stamps (sectors_in z F) g p B f → Logs (records z) B g.history g.u f
-unfolding Quiet Mid
-logs_under z F g (sure v) B f h = h.logs
-logs_under z F g (open_write v v') B f (inl h) = h.logs
-logs_under z F g (open_write v v') B f (inr h) = h.logs
-logs_under z F g (kept_write v') B f h = h.logs
-
 module _ (z : Shelf) (img : List ℕ) where
-  -- such an image holds zeros everywhere
-  pub all_zeros : all_zero img ≡ true → cur_of z img ≡ (λ k. zeros)
-  unfolding cur_of
-  all_zeros e = fun_ext (λ k. by k (inside z k))
-    where
-      small : (k : Place) (p : ℕ) → byte_in z img k p < 256
-      small k p = mod-lt (get_or img (place z.sectors (slot k) (sector_of z k) + p) 0) (lit< tt)
-
-      by : (k : Place) (b : Bool) → cond b (Parity.sector_of (byte_in z img k) (small k)) zeros ≡ zeros
-      by k true =
-          let x = Parity.sector_of (byte_in z img k) (small k) in
-          sector_path x zeros
-          (ext_get_or 0 x.bytes zeros.bytes (x.whole ∙ sym zeros.whole)
-          (λ p l. let q : p < sector_bytes = omega (arith, x.whole) in
-          byte_of (byte_in z img k) (small k) p q ∙ ap (λ (y : ℕ). y % 256) (none_there img e (place z.sectors (slot k) (sector_of z k) + p)) ∙ sym (get_or-replicate sector_bytes p 0 0 q)))
-      by k false = refl
-
-  -- zeros are blank
-  blank_zeros : blank (size z) (no_sets (slots z)) (labels z) (records z) (any_code z) stamps (any_sectors z) (λ k. zeros) ≡ true
-  unfolding any_sectors medium
-  blank_zeros =
-      let logs : every (λ j. is_zeros zeros) (from 0 (suc z.c)) ≡ true = every_all (λ j. is_zeros zeros) (from 0 (suc z.c)) (λ j m. zeros_are) in
-      let one : every (λ j. is_zeros zeros) (from 0 z.c) ≡ true = every_all (λ j. is_zeros zeros) (from 0 z.c) (λ j m. zeros_are) in
-      let strips : every (λ t. every (λ j. is_zeros zeros) (from 0 z.c)) (from 0 (size z).T) ≡ true = every_all (λ t. every (λ j. is_zeros zeros) (from 0 z.c)) (from 0 (size z).T) (λ t m. one) in
-      every_all (λ d. (is_zeros zeros && is_zeros zeros) && (every (λ j. is_zeros zeros) (from 0 (suc z.c)) && every (λ t. every (λ j. is_zeros zeros) (from 0 z.c)) (from 0 (size z).T))) (from 0 (slots z))
-      (λ d m. both (is_zeros zeros && is_zeros zeros) _ (both (is_zeros zeros) (is_zeros zeros) zeros_are zeros_are) (both (every (λ j. is_zeros zeros) (from 0 (suc z.c))) _ logs strips))
-
-  one_left : leb 1 (any_sectors z).greatest ≡ true
-  unfolding any_sectors medium
-  one_left = refl
-
-  -- CREATE
-  pub create_accepted : all_zero img ≡ true → program_of z nothing (cur_of z img) create ≡ (asked_create (size z) (no_sets (slots z)) (labels z) (records z) (any_code z) stamps (any_sectors z), accepted)
-  unfolding program_by mask
-  create_accepted e =
-      let A : ℕ → Bool = beyond (slots z) (λ d. false) in
-      let same : (b : Bool) → cond b zeros zeros ≡ zeros = go in
-      let seen : ◌≡◌ {A = Image Sector} (λ k. cond (A (slot k)) zeros (cur_of z img k)) (λ k. zeros) = fun_ext (λ k. ap (λ (f : Image Sector). cond (A (slot k)) zeros (f k)) (all_zeros e) ∙ same (A (slot k))) in
-      let ok : may_create (size z) (no_sets (slots z)) (labels z) (records z) (any_code z) stamps (any_sectors z) (λ k. cond (A (slot k)) zeros (cur_of z img k)) ≡ clear =
-      ap (may_create (size z) (no_sets (slots z)) (labels z) (records z) (any_code z) stamps (any_sectors z)) seen
-      ∙ ap₂ (λ (a b : Bool). first (record { why = NOT_NOW; holds = not a } ∷ record { why = NOT_NOW; holds = not b } ∷ [])) blank_zeros one_left in
-      ap (λ (v : Verdict). answer (size z) (no_sets (slots z)) (labels z) (records z) (any_code z) stamps (any_sectors z) nothing v (asked_create (size z) (no_sets (slots z)) (labels z) (records z) (any_code z) stamps (any_sectors z)) accepted) ok
-    where
-      go : (b : Bool) → cond b zeros zeros ≡ zeros
-      go true = refl
-      go false = refl
-
   -- START-UP
   module _ (absent : ℕ) (p : Plan) (e : survey_of (geometry z) img absent ≡ survey.Plan p) (led : Led z img absent (beyond (slots z) (in_mask absent)) p.lead) where
-    abbrev A : ℕ → Bool
+    abbrev pub A : ℕ → Bool
     A = beyond (slots z) (in_mask absent)
 
-    abbrev l : bytes.Label
+    abbrev pub l : bytes.Label
     l = p.lead
-
-    pub start_clear : may_start_by (size z) (no_sets (slots z)) (labels z) (records z) (any_code z) stamps (any_sectors z) (few_of z) A (mask (size z) (no_sets (slots z)) (labels z) (records z) (any_code z) stamps (any_sectors z) A (cur_of z img)) ≡ clear
-    unfolding plan_of next_of
-    start_clear =
-        let r = survey_grounds (geometry z) img absent p e in
-        let few : ones (slots_that (geometry z) img absent Out l) ≤ l.m = omega (arith, r.few_out, ap (λ (x : Plan). ones x.next.out) r.is) in
-        ap (may_start_by (size z) (no_sets (slots z)) (labels z) (records z) (any_code z) stamps (any_sectors z) (few_of z) A) (seen_mask z A img)
-        ∙ start_is z img absent A l led
-        ∙ ap₂ (verdict z img absent A l led) (le-leb (ones (slots_that (geometry z) img absent Out l)) l.m few) (le-leb (l.generation + 2) most_generation r.left)
-
-    pub start_accepted : program_of z nothing (cur_of z img) (start (in_mask absent))
-        ≡ (asked_start (size z) (no_sets (slots z)) (labels z) (records z) (any_code z) stamps (any_sectors z) A (mask (size z) (no_sets (slots z)) (labels z) (records z) (any_code z) stamps (any_sectors z) A (cur_of z img)), accepted)
-    unfolding program_by
-    start_accepted = ap (λ (v : Verdict). answer (size z) (no_sets (slots z)) (labels z) (records z) (any_code z) stamps (any_sectors z) nothing v (asked_start (size z) (no_sets (slots z)) (labels z) (records z) (any_code z) stamps (any_sectors z) A (mask (size z) (no_sets (slots z)) (labels z) (records z) (any_code z) stamps (any_sectors z) A (cur_of z img))) accepted) start_clear
-
-    -- the slots that it leaves out: those that the label calls out that it settles
-    next_out : in_mask p.next.out ≡ in_mask (slots_that (geometry z) img absent Out l)
-    unfolding plan_of next_of
-    next_out = ap (λ (x : Plan). in_mask x.next.out) (survey_grounds (geometry z) img absent p e).is
-
-    pub start_leaves : leaves_of z nothing (cur_of z img) (start (in_mask absent)) ≡ in_mask p.next.out ∷ []
-    start_leaves =
-        ap (λ (f : Image Sector). left_out (size z) (no_sets (slots z)) (labels z) (records z) (any_code z) stamps (any_sectors z) A f ∷ []) (seen_mask z A img)
-        ∙ ap (λ (x : ℕ → Bool). x ∷ []) (fun_ext (left_out_is z img absent A l led) ∙ sym next_out)
-
-    pub start_few : few_of z (in_mask p.next.out) ≡ true
-    unfolding plan_of next_of
-    start_few =
-        let r = survey_grounds (geometry z) img absent p e in
-        ap (few_of z) (next_out ∙ sym (fun_ext (left_out_is z img absent A l led))) ∙ few_is z img absent A l led
-        ∙ le-leb (ones (slots_that (geometry z) img absent Out l)) l.m (omega (arith, r.few_out, ap (λ (x : Plan). ones x.next.out) r.is))
 
     -- NO TAIL IS GARBAGE under the label that it settles, where the protocol's invariant holds for a family in which the slots lie that go out
     module _ (F : Family z) (in_family : F.sets.few (in_mask p.next.out) ≡ true) (w : World Sector) (reads : w.cur ≡ cur_of z img) (view : View Sector) (off : Off (size z) F.sets (labels z) (records z) (code_in z F) stamps (sectors_in z F) view w) where
-      abbrev f : Image Sector
+      abbrev pub f : Image Sector
       f = cur_of z img
 
-      abbrev new : bytes.Label
+      abbrev pub new : bytes.Label
       new = next_of (geometry z) img absent l
 
-      abbrev g : Ghost Sector
+      abbrev pub g : Ghost Sector
       g = off.ghost
 
-      abbrev D : Belief → Image Sector → Type 0
+      abbrev pub D : Belief → Image Sector → Type 0
       D = Under (size z) F.sets (labels z) (records z) (code_in z F) stamps (sectors_in z F) g view
-
-      framed : Framed D
-      framed = under_framed (size z) F.sets (labels z) (records z) (code_in z F) stamps (sectors_in z F) g view
-
-      shelf : startup.Shelf (size z) F.sets (labels z) g.base D f
-      shelf = subst (startup.Shelf (size z) F.sets (labels z) g.base D) reads (always_cur (startup.Shelf (size z) F.sets (labels z) g.base D) w off.sane off.left)
-
-      agree : (k : Place) → A (slot k) ≡ false → seen_of z A img k ≡ f k
-      agree k a = seen_present z A img k a
-
-      clear_seen : may_start (size z) F.sets (labels z) (records z) (code_in z F) stamps (sectors_in z F) A (seen_of z A img) ≡ clear
-      unfolding plan_of next_of
-      clear_seen =
-          let r = survey_grounds (geometry z) img absent p e in
-          start_in z img absent A l led F (sym (ap (λ (x : Plan). F.sets.few (in_mask x.next.out)) r.is) ∙ in_family) (le-leb (l.generation + 2) most_generation r.left)
-
-      ok : Accepted (size z) F.sets (labels z) A f
-      ok = accept_f (size z) F.sets (labels z) (records z) (code_in z F) stamps (sectors_in z F) A (seen_of z A img) clear_seen f agree
-
-      met : Met (size z) F.sets (labels z) (records z) A g.base D (startup.Shelf (size z) F.sets (labels z) g.base D) f
-      met = meets_shelf (size z) F.sets (labels z) (records z) g.history A f ok g.base D framed shelf
-
-      label_is : settled (size z) (labels z) (records z) A f ≡ label_of z new
-      label_is = same_label_lem (size z) F.sets (labels z) (records z) (code_in z F) stamps (sectors_in z F) A (seen_of z A img) clear_seen f agree ∙ next_is z img absent A l led
-
-      under : D (belief (size z) (label_of z new)) f
-      under =
-          subst (λ (x : Label). D (belief (size z) x) f) label_is
-          (settled_D (size z) F.sets (labels z) A f met.odd met.last met.Q met.N met.top met.far met.bays met.low ok.labels_there ok.enough ok.fits1 ok.fits1' ok.fits2 D framed met.under_Q met.under_N f (same_self f))
-
-      above : g.base.generation < new.generation
-      above =
-          subst (λ (x : Label). g.base.generation < x.generation) label_is
-          (done_above (size z) F.sets (labels z) (records z) g.history A f ok g.base D framed (startup.Shelf (size z) F.sets (labels z) g.base D) met)
-
-      seen_logs : Logs (records z) (belief (size z) (label_of z new)) g.history g.u (seen_of z A img)
-      unfolding Quiet Framed belief
-      seen_logs =
-          let B = belief (size z) (label_of z new) in
-          let dark : (d : ℕ) → looked (size z) (label_of z new) d ≡ true → A d ≡ false = λ d a. settled_dark z img absent A l led d (sym (look_is z new d) ∙ a) in
-          logs_under z F g view B (seen_of z A img)
-          (framed B B (within_self B) f (seen_of z A img) (record { on_log = λ d j a. agree (log d j) (dark d a); on_strip_lem = λ d t j a. agree (strip d t j) (dark d a) }) under)
-
-      pub start_real : Redo.Fair z new img led.disks A (settled_dark z img absent A l led)
-      start_real = logs_fair z new img led.disks A (settled_dark z img absent A l led) g.history g.u seen_logs (let h : g.u < suc g.base.generation * counts = off.early in omega (arith, h, suc-mul g.base.generation counts, above))
 
   -- TAKING A SLOT OUT, at rest
   module _ (disks : Disks z img) (s : State) (own : ours z s.now ≡ true) (d room : ℕ) (e : take_answer s.now s.kind s.absent img d room ≡ Done) where
-    abbrev now : bytes.Label
+    abbrev pub now : bytes.Label
     now = s.now
 
-    abbrev o : Own
+    abbrev pub o : Own
     o = own_of z s now
 
     fits : fits_of now ≡ true
     fits = (take_done now s.kind s.absent img d room e).0
 
-    can : Goes now (is_idle s.kind) s.absent d
+    pub can : Goes now (is_idle s.kind) s.absent d
     can = (take_done now s.kind s.absent img d room e).1
 
-    there : d < slots z
+    pub there : d < slots z
     there = omega (arith, n_is z img disks s own d, can.there)
 
     out_is : (outed now d).out ≡ with_slot now.out d
@@ -273,7 +127,7 @@ module _ (z : Shelf) (img : List ℕ) where
         go true = refl
         go false = refl
 
-    few : few_of z (protocol.outed (slots z) (label_of z now) d).out ≡ true
+    pub few : few_of z (protocol.outed (slots z) (label_of z now) d).out ≡ true
     unfolding out_with
     few =
         let n = n_is z img disks s own d in
@@ -283,23 +137,5 @@ module _ (z : Shelf) (img : List ℕ) where
         ap (λ (x : Label). few_of z x.out) (sym (out_label z img disks s own d there)) ∙ ap (λ (x : ℕ). few_of z (in_mask x)) out_is ∙ few_mask z (with_slot now.out d) big
         ∙ le-leb (ones (with_slot now.out d)) z.m (omega (arith, m, ap ones w, can.few))
 
-    not_plain : plainly_out' (label_of z now) d ≡ false
-    not_plain = plain_is z now d there ∙ can.not_plain
-
-    left : leb (suc now.generation) (any_sectors z).greatest ≡ true
-    unfolding any_sectors medium
-    left = le-leb (suc now.generation) most_generation (omega (arith, can.more))
-
-    -- the slots that are out then
-    pub out_leaves : leaves_of z (idle o) (cur_of z img) (take_out d) ≡ in_mask (outed now d).out ∷ []
-    out_leaves = ap (λ (x : Label). x.out ∷ []) (sym (out_label z img disks s own d there))
-
     pub out_few : few_of z (in_mask (outed now d).out) ≡ true
     out_few = ap (λ (x : Label). few_of z x.out) (out_label z img disks s own d there) ∙ few
-
-    pub out_accepted : program_of z (idle o) (cur_of z img) (take_out d) ≡ (asked_out (size z) (no_sets (slots z)) (labels z) (records z) (any_code z) stamps (any_sectors z) o d, accepted)
-    unfolding program_by
-    out_accepted =
-        let ok : may_out_by (size z) (no_sets (slots z)) (labels z) (records z) (any_code z) stamps (any_sectors z) (few_of z) false o d ≡ clear = λ i.
-        first (record { why = TOO_FEW; holds = not (few i) } ∷ record { why = BAD_BLOCK; holds = not (lt-ltb d (slots z) there i) } ∷ record { why = BUSY; holds = false } ∷ record { why = NOT_NOW; holds = not_plain i || not (left i) } ∷ []) in
-        ap (λ (v : Verdict). answer (size z) (no_sets (slots z)) (labels z) (records z) (any_code z) stamps (any_sectors z) (idle o) v (asked_out (size z) (no_sets (slots z)) (labels z) (records z) (any_code z) stamps (any_sectors z) o d) accepted) ok

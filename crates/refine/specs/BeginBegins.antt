@@ -16,17 +16,16 @@ use Rattle.label.specs.Fields.{no_slot, most_generation, geometry_of, rebuild_fi
 use Rattle.label.specs.Newest.{same_shelf}
 use Rattle.label.specs.declared.fields.Label as bytes
 use Rattle.label.proofs.Fits.{fits_says}
-use Rattle.protocol.specs.World.{Image}
 use Rattle.protocol.specs.Label as protocol
-use Rattle.protocol.specs.Program.{BAD_BLOCK, BUSY, NOT_NOW, Verdict, clear, first, Own, Memory, idle, doing, labelling, accepted, begin, asked_begin as asked_begin', may, answer}
-use Rattle.protocol.specs.Even.{program_by}
+use Rattle.protocol.specs.Program.{BAD_BLOCK, BUSY, NOT_NOW, clear, first, Own, begin, may}
 use Rattle.protocol.specs.Pairs.{no_sets}
-use Rattle.codecs.specs.Sector.{Sector}
-use Rattle.codecs.specs.Shelf.{Shelf, slots, geometry, size, few_slots}
-use Rattle.codecs.specs.Labels.{slot_meant, label_of, ours, labels}
-use Rattle.codecs.specs.Records.{records}
-use Rattle.codecs.specs.Media.{stamps, medium}
-use Rattle.shards.specs.Even.{any_code, any_sectors}
+use Rattle.codecs.specs.Shelf.{Shelf, slots, size}
+use Rattle.codecs.specs.Labels.{slot_meant, label_of, ours}
+use Rattle.codecs.proofs.Labels.{labels}
+use Rattle.codecs.proofs.Records.{records}
+use Rattle.codecs.specs.Media.{stamps}
+use Rattle.codecs.proofs.Media.{medium}
+use Rattle.shards.proofs.Even.{any_code, any_sectors}
 use Rattle.shelf.specs.Step.{sound}
 use Rattle.stages.specs.declared.state.State.{State}
 use Rattle.stages.specs.declared.state.Kind.{Kind}
@@ -37,14 +36,9 @@ use Rattle.requests.specs.Accepted.{ready_done}
 use Rattle.rebuilds.specs.Judge.{too_few, last_one, sized, judged_done, first_done, one_more}
 use Rattle.rebuilds.specs.Readied.{odd_first, alien, prepared}
 use Rattle.rebuilds.specs.Begin.{lacks, other_rebuilt, cannot_begin, asked_begin, begin_answer, begun_label, began}
-use Rattle.refine.specs.Disks.{Disks, cur_of, seen_mask}
-use Rattle.refine.specs.ToDo.{to_do}
-use Rattle.refine.specs.Steps.{Fair}
-use Rattle.refine.specs.Begins.{tells}
-use Rattle.refine.specs.Tied.{own_of, program_of}
+use Rattle.refine.specs.Disks.{Disks}
+use Rattle.refine.specs.Tied.{own_of}
 use Rattle.refine.specs.Requests.{n_is}
-use Rattle.refine.specs.Relabels.{begin_fair}
-use Rattle.refine.specs.BeginAsked.{only_present, A, f, absent_is, A_below, t, began_is, begun_label_lem, rest_say, begin_list_is}
 
 -- ---- the label
 
@@ -102,10 +96,10 @@ begin_goes l kind absent img d room e =
 
 module _ (z : Shelf) (img : List ℕ) (disks : Disks z img) (s : State) (own : ours z s.now ≡ true) (d room : ℕ) (e : begin_answer s.now s.kind s.absent img d room ≡ Done)
     (dark : in_mask s.absent d ≡ true → protocol.looked (size z) (label_of z s.now) d ≡ true → ⊥) where
-  abbrev l : bytes.Label
+  abbrev pub l : bytes.Label
   l = s.now
 
-  abbrev o : Own
+  abbrev pub o : Own
   o = own_of z s l
 
   pub goes : Goes l s.kind s.absent d room
@@ -132,33 +126,9 @@ module _ (z : Shelf) (img : List ℕ) (disks : Disks z img) (s : State) (own : o
   unfolding same_shelf
   begun_ours = own
 
-  taken : sound (t z img disks s own d there) ≡ true
-  unfolding sound
-  taken = both (fits_of l) _ goes.fits (lt-ltb 0 l.sectors (omega (arith, (fits_says l goes.fits).range.room)))
-
   -- no slot is absent that was not
   pub fewer_absent : (x : ℕ) → x < slots z → in_mask t'.absent x ≡ true → o.absent x ≡ true
   fewer_absent x i a = ap (λ (b : Bool). b || not (ltb x (slots z))) (and_right (not (eqb x d)) (in_mask s.absent x) (sym (in_without s.absent d x) ∙ a))
-
-  -- IT CAN BE CARRIED OUT
-  pub begin_state_fair : (work : List ℕ) → Fair z t' work img
-  begin_state_fair work =
-      let x = t z img disks s own d there in
-      let h = begun_fits l d goes.fits goes.there (omega (arith, there, few_slots z)) goes.more in
-      subst (λ (y : State). Fair z y work img) (sym (began_is z img disks s own d there))
-      (begin_fair z x work img refl taken own disks refl (only_present z d s.absent true) (only_present z d s.absent (alien (geometry z) img l d (odd_first (geometry z) img l d)))
-      (only_present z d s.absent (alien (geometry z) img l d (not (odd_first (geometry z) img l d)))) (only_present z d s.absent (not (prepared (geometry z) img l d)))
-      (λ y i q. sym (A_below z img disks s own d there y i) ∙ not-true (A z img disks s own d there y) (sym (rest_say z img disks s own d there y i) ∙ q))
-      (tells z l own goes.fits) (tells z (begun_label l d) begun_ours h))
-
-  -- WHAT THE PROGRAM REMEMBERS OF IT is what is left of it, what it knew before, and what it will know
-  pub begin_asked : (work : List ℕ) → asked_begin' (size z) (no_sets (slots z)) (labels z) (records z) (any_code z) stamps (any_sectors z) o (f z img disks s own d there) d
-      ≡ doing labelling (to_do z t' work img) o (own_of z t' t'.next)
-  begin_asked work =
-      let N = begun_label_lem z img disks s own d there is_out in
-      let a = absent_is z img disks s own d there in
-      let p = ap (λ (y : State). to_do z y work img) (began_is z img disks s own d there) ∙ begin_list_is z img disks s own d there work is_out in
-      sym (λ i. doing labelling (p i) o (record { now = N i; absent = a i; epoch = s.epoch; count = o.count }))
 
   alone_is : (ltb (label_of z l).rebuilding (slots z) && not (eqb (label_of z l).rebuilding d)) ≡ false
   unfolding other_rebuilt
@@ -184,16 +154,3 @@ module _ (z : Shelf) (img : List ℕ) (disks : Disks z img) (s : State) (own : o
       first
       (record { why = BAD_BLOCK; holds = not (lt-ltb d (slots z) there i) }
       ∷ record { why = BUSY; holds = false } ∷ record { why = NOT_NOW; holds = not (is_out i) || (alone_is i || not (left i)) } ∷ [])
-
-  -- THE PROGRAM ACCEPTS IT
-  pub begin_accepted : (work : List ℕ) → program_of z (idle o) (cur_of z img) (begin d) ≡ (doing labelling (to_do z t' work img) o (own_of z t' t'.next), accepted)
-  unfolding program_by
-  begin_accepted work =
-      ap₂ (λ (v : Verdict) (m : Memory Sector). answer (size z) (no_sets (slots z)) (labels z) (records z) (any_code z) stamps (any_sectors z) (idle o) v m accepted) begin_clear
-      (ap (λ (x : Image Sector). asked_begin' (size z) (no_sets (slots z)) (labels z) (records z) (any_code z) stamps (any_sectors z) o x d) (seen_mask z (A z img disks s own d there) img) ∙ begin_asked work)
-
-  -- BEGIN, accepted at rest
-  pub begin_begins : (work : List ℕ)
-      → Fair z t' work img × (t'.kind ≡ Beginning)
-      × (program_of z (idle o) (cur_of z img) (begin d) ≡ (doing labelling (to_do z t' work img) o (own_of z t' t'.next), accepted))
-  begin_begins work = (begin_state_fair work, refl, begin_accepted work)

@@ -11,18 +11,21 @@ use Rattle.protocol.specs.Program.{Medium, Refusal, Own, Memory, idle, Input, Re
 use Rattle.protocol.specs.Machine.{Machine, at, Event, Happens, View, sure}
 use Rattle.protocol.specs.Invariant.{Invariant}
 use Rattle.protocol.specs.Promise.{Zeros}
-use Rattle.protocol.specs.Kept as Kept
-use Rattle.protocol.specs.Even.{leaves, by_step}
-use Rattle.protocol.specs.Pairs.{AnyTwo, no_sets, tested_parts, parts_pass, none_in, code_for, medium_for, same_by, same_leaves}
+use Rattle.protocol.proofs.Kept as Kept
+use Rattle.protocol.specs.Even.{leaves}
+use Rattle.protocol.proofs.Even.{by_step}
+use Rattle.protocol.specs.Pairs.{AnyTwo, no_sets, tested_parts, parts_pass, none_in, code_for, medium_for}
+use Rattle.protocol.proofs.Pairs.{same_by, same_leaves}
 use Rattle.protocol.specs.Pairs as Pairs
-use Rattle.protocol.specs.Since.{rest_for, rest_few}
+use Rattle.protocol.proofs.Since.{rest_for, rest_few}
 use Rattle.codecs.specs.Sector.{Sector}
 use Rattle.codecs.specs.Shelf.{Shelf, slots, size, some_slots}
-use Rattle.codecs.specs.Labels.{labels}
-use Rattle.codecs.specs.Records.{records}
+use Rattle.codecs.proofs.Labels.{labels}
+use Rattle.codecs.proofs.Records.{records}
 use Rattle.codecs.specs.Media.{stamps}
-use Rattle.shards.specs.Quorum.{few_of, few_none, quorum}
-use Rattle.shards.specs.Even.{any_code, mends, any_sectors, few_parts, shelf_program}
+use Rattle.shards.specs.Quorum.{few_of}
+use Rattle.shards.proofs.Quorum.{few_none, quorum}
+use Rattle.shards.proofs.Even.{any_code, mends, any_sectors, few_parts, shelf_program}
 
 pub record Family (z : Shelf) : Type 0 where
   pub sets : Quorum (slots z)

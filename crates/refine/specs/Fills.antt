@@ -15,9 +15,9 @@ use Rattle.std.proofs.Math.Seq.{length-take-le}
 use borrow.Author.Tests.{lt-ltb, le-ltb, le-leb, eq-eqb}
 use Rattle.disk.specs.Limits.{sector_bytes, first_strip, most_sectors}
 use Rattle.disk.specs.Tests.{and_right, both}
-use Rattle.disk.specs.Geometry.{in_range, splits, in_range_with, stripes_of, strip_of, slot_of, shard_of, shard_lt, found, stripes_le}
+use Rattle.disk.specs.Geometry.{in_range, splits, in_range_with, stripes_of, shard_of, shard_lt, found, stripes_le}
 use Rattle.disk.specs.Image.{fits_image}
-use Rattle.disk.specs.Mask.{in_mask, mask_of, mask_below, in_past}
+use Rattle.disk.specs.Mask.{in_mask, mask_of, mask_below}
 use Rattle.disk.specs.declared.geometry.Geometry.{Geometry}
 use Rattle.disk.specs.declared.geometry.Found.{Found}
 use Rattle.disk.specs.declared.geometry.Found.TheVariants as spot
@@ -28,28 +28,25 @@ use Rattle.redo.specs.Decide.{believed}
 use Rattle.protocol.specs.World.{strip}
 use Rattle.protocol.specs.Count.{count_part}
 use Rattle.protocol.specs.Label as Label
-use Rattle.protocol.specs.Host.{Blocks, missing}
-use Rattle.protocol.specs.Host as Host
+use Rattle.protocol.proofs.Label as Label_laws
+use Rattle.protocol.specs.Host.{missing}
 use Rattle.protocol.specs.Pairs.{no_sets}
 use Rattle.codecs.specs.Sector.{Sector}
 use Rattle.codecs.specs.Shelf.{Shelf, slots, geometry, size, limits, some_slots, some_sectors, in_limits}
 use Rattle.codecs.specs.Labels.{label_of, ours, fields_of, no_label}
-use Rattle.codecs.specs.Records.{strip_bytes, records}
-use Rattle.shards.specs.Quorum.{few_of, few_count, count_few}
-use Rattle.shards.specs.Even.{any_code}
+use Rattle.codecs.proofs.Records.{records}
+use Rattle.shards.specs.Quorum.{few_of}
+use Rattle.shards.proofs.Quorum.{few_count, count_few}
+use Rattle.shards.proofs.Even.{any_code}
 use Rattle.strips.specs.Seen.{shard_shown, shard_bytes}
 use Rattle.strips.specs.Answers.{part_of, few_lost, shown_answer}
-use Rattle.views.specs.Seen.{Lying, Keeping, gone, none_over}
-use Rattle.views.specs.Whole.{few_lost_lem}
-use Rattle.views.specs.Filled.{filled_part}
-use Rattle.views.specs.Program.{bad_same}
+use Rattle.views.specs.Seen.{gone}
+use Rattle.views.proofs.Whole.{few_lost_lem}
 use Rattle.shelf.specs.Act.{in_strips}
 use Rattle.shelf.specs.Fill as Fill
 use Rattle.shelf.specs.Says.{when, unless}
-use Rattle.refine.specs.Places.{sector_of, strip_is_inside}
-use Rattle.refine.specs.Disks.{Disks, cur_of, image_fits, cur_bytes}
+use Rattle.refine.specs.Disks.{Disks, cur_of, image_fits}
 use Rattle.refine.specs.Strips.{mask_believed}
-use Rattle.refine.specs.ToDo.{fill_at}
 
 -- the slots of the mask are the one that is being rebuilt, which is out; its strips from the mark on are filled, which the shelf has;
 -- few strips are not believed, no absent slot is looked at, and the work area has room for a stripe
@@ -68,10 +65,10 @@ few_same : (z : Shelf) (a b : ℕ → Bool) → ((d : ℕ) → d < slots z → a
 few_same z a b h e = count_few z b (omega (arith, count_part b a (slots z) (λ d i q. h d i ∙ q), few_count z a e))
 
 module _ (z : Shelf) (absent : ℕ) (l : bytes.Label) (work : List ℕ) (mask first count : ℕ) (can : Fillable z absent l work mask first count) where
-  abbrev G : Geometry
+  abbrev pub G : Geometry
   G = geometry z
 
-  abbrev Q : Label.Label
+  abbrev pub Q : Label.Label
   Q = label_of z l
 
   -- a strip at or above the mark of the slot that is being rebuilt is not believed
@@ -79,7 +76,7 @@ module _ (z : Shelf) (absent : ℕ) (l : bytes.Label) (work : List ℕ) (mask fi
   not_believed t m = by (Label.believed (size z) Q Q.rebuilding t) refl
     where
       by : (b : Bool) → Label.believed (size z) Q Q.rebuilding t ≡ b → b ≡ false
-      by true q = absurd (⊎_elim (λ y. true≢false (sym can.out ∙ y)) (λ y. omega (arith, y.1)) (Label.believe_of (size z) Q Q.rebuilding t q).2)
+      by true q = absurd (⊎_elim (λ y. true≢false (sym can.out ∙ y)) (λ y. omega (arith, y.1)) (Label_laws.believe_of (size z) Q Q.rebuilding t q).2)
       by false q = refl
 
   -- ---- the places
@@ -106,15 +103,10 @@ module _ (z : Shelf) (absent : ℕ) (l : bytes.Label) (work : List ℕ) (mask fi
         let few : stripes_of G ≤ most_sectors = omega (arith, stripes_le G, (limits z).0.most) in
         both (leb first most_sectors) _ (le-leb first most_sectors (omega (arith, can.within, few))) (both (leb count most_sectors) _ (le-leb count most_sectors (omega (arith, can.within, few))) (lt-ltb x (count * z.c) low))
 
-  pub fill_sector : (d x : ℕ) → sector_of z (fill_at z first d x) ≡ first_strip + first * z.c + x
-  unfolding sector_of strip_of
-  fill_sector d x =
-      omega (arith, mul_comm (first + x / z.c) z.c, mul-add z.c first (x / z.c), mul_comm first z.c, mul_comm (x / z.c) z.c, div-add-mod' x z.c)
-
   -- ---- the slots that are there
 
   module _ (own : ours z l ≡ true) (t : ℕ) (ht : t < stripes_of G) where
-    abbrev th : ℕ
+    abbrev pub th : ℕ
     th = Fill.seen_slots G l absent t
 
     pub seen_believed : (d : ℕ) → d < slots z → in_mask th d ≡ Label.believed (size z) Q d t
@@ -129,11 +121,11 @@ module _ (z : Shelf) (absent : ℕ) (l : bytes.Label) (work : List ℕ) (mask fi
         by false e true q = refl
         by a e false q = refl
 
-    few_gone : few_of z (gone th) ≡ true
+    pub few_gone : few_of z (gone th) ≡ true
     unfolding gone
     few_gone = few_same z (missing (size z) (no_sets (slots z)) (records z) (any_code z) Q t) (gone th) (λ d i. ap not (sym (seen_believed d i))) (can.few t ht)
 
-    k_is : l.k ≡ z.k
+    pub k_is : l.k ≡ z.k
     k_is = sym (same_says (fields_of z 0 (no_label z)) l own).same_k
 
     stripe_room : length (Fill.stripe_in G work) ≡ slots z * (z.c * sector_bytes)
@@ -143,30 +135,10 @@ module _ (z : Shelf) (absent : ℕ) (l : bytes.Label) (work : List ℕ) (mask fi
         ∙ length-take-le (slots z * (z.c * sector_bytes)) work can.room
 
     module _ (img : List ℕ) (disks : Disks z img) where
-      abbrev g : ℕ → ℕ → Sector
+      abbrev pub g : ℕ → ℕ → Sector
       g d j = cur_of z img (strip d t j)
 
-      lies : Lying z t img th g
-      unfolding sector_of
-      lies d j hd hj e = sym (cur_bytes z img disks (strip d t j) (strip_is_inside z d t j hd ht hj))
-
-      plain : Keeping z t (Fill.stripe_in G work) 0 g
-      plain r j hr hj e = absurd (false≢true (sym (in_past 0 0 (slot_of (slots z) t r) (lit< tt) (omega arith)) ∙ e))
-
       module _ (d : ℕ) (hd : d < slots z) (off : Label.believed (size z) Q d t ≡ false) (j : ℕ) (hj : j < z.c) where
-        -- THE SECTOR is the program's
-        pub sector_rebuilt : Fill.rebuilt_sector l absent G d t j work img ≡ (Host.rebuilt (size z) (no_sets (slots z)) (records z) (any_code z) Q (cur_of z img) d t j).bytes
-        unfolding Fill.rebuilt_sector gone Host.rebuilt Host.read
-        sector_rebuilt =
-            let r : ℕ = shard_of (slots z) t d in
-            let bad : ℕ → Bool = missing (size z) (no_sets (slots z)) (records z) (any_code z) Q t in
-            let same : j + 0 ≡ j = omega arith in
-            ap (λ (k : ℕ). shard_shown G k img th 0 (Fill.stripe_in G work) t j 1 r) k_is
-            ∙ filled_part z t img th 0 (Fill.stripe_in G work) g g lies plain few_gone d hd (seen_believed d hd ∙ off) j 1 (omega arith)
-            ∙ ap (λ (v : ℕ → ℕ → Sector). strip_bytes (λ i. (any_code z).shard t ((any_code z).blocks t (gone th) v) d (j + i)) 1) (none_over g g)
-            ∙ ap (λ (b : Blocks Sector). strip_bytes (λ i. (any_code z).shard t b d (j + i)) 1) (bad_same z t (gone th) bad g (λ e i. ap not (seen_believed e i)))
-            ∙ ap (λ (i : ℕ). ((any_code z).shard t ((any_code z).blocks t bad g) d i).bytes) same
-
         -- and nothing is in its way
         pub can_rebuild : Fill.rebuild_answer l absent G d t j work img ≡ Done
         unfolding Fill.rebuild_answer shown_answer part_of in_range_with

@@ -7,7 +7,8 @@ use Rattle.label.specs.Newest.{same_shelf}
 use Rattle.label.specs.declared.fields.Label.{Label}
 use Rattle.label.proofs.Counts.{same_says}
 use Rattle.codecs.specs.Shelf.{Shelf, geometry}
-use Rattle.codecs.specs.Labels.{fields_of, no_label, label_of, ours, encode_label}
+use Rattle.codecs.specs.Labels.{fields_of, no_label, label_of, ours}
+use Rattle.codecs.proofs.Labels.{encode_label}
 use Rattle.shelf.specs.Act.{named}
 use Rattle.refine.specs.Told.{told_is}
 

@@ -14,19 +14,16 @@ use Rattle.disk.specs.declared.geometry.Geometry.{Geometry}
 use Rattle.disk.specs.declared.refusal.Refusal.{Refusal}
 use Rattle.disk.specs.declared.refusal.Refusal.TheVariants.{NoLabel, BadBuffer}
 use Rattle.disk.specs.declared.refusal.Outcome.TheVariants.{Done}
-use Rattle.label.specs.Fields.{geometry_of}
-use Rattle.label.specs.Newest.{copy_of}
 use Rattle.label.specs.declared.fields.Label as bytes
 use Rattle.label.specs.declared.codec.Decoded.TheVariants.{Valid, Nothing}
 use Rattle.redo.specs.Decide.{looked}
 use Rattle.rounds.specs.Survey.{survey_of}
 use Rattle.rounds.specs.declared.plan.Survey.{Survey}
 use Rattle.rounds.specs.declared.plan.Survey.TheVariants as survey
-use Rattle.protocol.specs.World.{Place, label, slot, Image, World, Action, put, flush, after, Possible, Sane}
+use Rattle.protocol.specs.World.{World, Possible}
 use Rattle.protocol.specs.Machine.{Machine, View}
 use Rattle.codecs.specs.Sector.{Sector}
 use Rattle.codecs.specs.Shelf.{Shelf, slots, geometry}
-use Rattle.codecs.specs.Labels.{ours}
 use Rattle.shelf.specs.Act.{Move}
 use Rattle.shelf.specs.Step.{step_move, finished}
 use Rattle.shelf.specs.Laws.{Legal, Agree, step_one, step_blind, step_agrees}
@@ -44,22 +41,14 @@ use Rattle.requests.specs.declared.begun.Begun.{Begun}
 use Rattle.blocks.specs.Slots.{too_few}
 use Rattle.blocks.specs.Answers.{serves, look_answer, sizes, block_answer, first_done, answered_done}
 use Rattle.blocks.specs.Read.{read_answer}
-use Rattle.blind.specs.Start.{start_blind}
 use Rattle.refine.specs.Family.{Family}
 use Rattle.refine.specs.Disks.{Disks, cur_of}
-use Rattle.refine.specs.Given.{shelf_geometry}
-use Rattle.refine.specs.ToDo.{to_do}
-use Rattle.refine.specs.Steps.{Fair, Does, step_does}
-use Rattle.refine.specs.Tied.{plain, fair_work, step_tied}
-use Rattle.refine.specs.Other.{Sits, same_numbers, start_other}
-use Rattle.refine.specs.Named.{side}
-use Rattle.refine.specs.Chain.{Heard, outs, handed, Allowed, Tie, off, start_any, cut_kept, heard_is, ours_in}
+use Rattle.refine.specs.Tied.{plain}
+use Rattle.refine.specs.Chain.{Tie}
 use Rattle.refine.specs.Chain as chain
-use Rattle.refine.specs.Merged.{slot_from, disk_of, disk_here, disk_other, slots_from, slots_disks, slots_other, slots_here, cur_alike, copy_alike, same_image}
-use Rattle.refine.specs.Swaps.{Exchanged, new_disk, swap_kept}
-use Rattle.refine.specs.Lags.{bare, Lags, lags_heard, nowhere, Behind, not_valid, unlabelled, label_alike, few_low, covers, absent_kept}
-use Rattle.refine.specs.Touched.{touch_present}
-use Rattle.refine.specs.Hosts.{Held, none, has, Time, at, held, HostCalls, creates, starts, creates_late, takes_out, begins, ons, writes, repairs, steps, cut, dies, swaps, sets_call, SawStep, Saw, Bound, BoundAt, not_rest, call_bound}
+use Rattle.refine.specs.Merged.{slot_from, slots_from, slots_disks, slots_other}
+use Rattle.refine.specs.Lags.{Lags, nowhere, Behind}
+use Rattle.refine.specs.Hosts.{Held, none, has, Time, at, held, HostCalls, sets_call, Saw, BoundAt}
 
 -- ---- THE SAME CALL, TOLD IN A WORLD THAT MAY HOLD MORE
 
@@ -76,36 +65,6 @@ module _ (z : Shelf) where
     pub lags : LagsAt b world
     pub same_sets : sets_call call ≡ sets_call x
     pub saw : (p q : View Sector) → Saw call p q → Saw x p q
-
-  pub retell : {a b : Time} (x : HostCalls z a b) (w0 : World Sector) → LagsAt a w0 → Retold x w0
-  unfolding Possible after
-  retell (creates s work) w0 h = record { world = w0; call = creates s work; lags = h; same_sets = refl; saw = λ p q y. y }
-  retell (creates_late s k m c S number work e) w0 h = record { world = w0; call = creates_late s k m c S number work e; lags = h; same_sets = refl; saw = λ p q y. y }
-  retell (starts s g absent work sits) w0 h = record { world = w0; call = starts s g absent work sits; lags = h; same_sets = refl; saw = λ p q y. y }
-  retell (takes_out d) w0 h = record { world = w0; call = takes_out d; lags = h; same_sets = refl; saw = λ p q y. y }
-  retell (begins d) w0 h = record { world = w0; call = begins d; lags = h; same_sets = refl; saw = λ p q y. y }
-  retell (ons b) w0 h = record { world = w0; call = ons b; lags = h; same_sets = refl; saw = λ p q y. y }
-  retell (writes b given s' then x y e) w0 h = record { world = w0; call = writes b given s' then x y e; lags = h; same_sets = refl; saw = λ p q y. y }
-  retell (repairs t b then r) w0 h = record { world = w0; call = repairs t b then r; lags = h; same_sets = refl; saw = λ p q y. y }
-  retell (steps {w} {w'} {img} {s} {work} heard) w0 h =
-      let m : Move = step_with s img work in
-      let y = lags_heard z nowhere w w0 m.stepped.answer m.image m.image w' h (λ e t. refl) (λ k a. refl) heard in
-      record { world = y.0; call = steps y.1; lags = y.2; same_sets = refl; saw = λ p q y. y }
-  retell (cut left d p) w0 h =
-      record { world = after (cur_of z left); call = cut left d (λ k. h.fewer k (cur_of z left k) refl (p k)); lags = record { reads = λ k a. refl; fewer = λ k x a m. m; certain = λ k x a m. m }; same_sets = refl; saw = λ p q y. y }
-  retell dies w0 h = record { world = w0; call = dies; lags = h; same_sets = refl; saw = λ p q y. y }
-  retell (swaps d left x) w0 h =
-      record {
-        world = new_disk z w0 d left;
-        call = swaps d left x;
-        lags = record {
-          reads = λ k a. ap (λ (y : Sector). cond (eqb (slot k) d) (cur_of z left k) y) (h.reads k a);
-          fewer = λ k y a m. (m.0, λ n. h.fewer k y a (m.1 n));
-          certain = λ k y a m. absurd (false≢true a);
-        };
-        same_sets = refl;
-        saw = λ p q y. y;
-      }
 
   -- a start-up waits for the slots of A, which it was told are absent
   abbrev pub Starts : (ℕ → Bool) → State → Type 0
@@ -128,7 +87,7 @@ module _ (z : Shelf) where
   hand_of (has s work) = chain.has s
 
 -- a start-up, and no other request
-abbrev starting : Kind → Bool
+abbrev pub starting : Kind → Bool
 starting kind.Nothing = false
 starting Idle = false
 starting Creating = false
@@ -162,112 +121,11 @@ module _ (z : Shelf) (F : Family z) (first : Machine Sector) where
 
   module _ (p : View Sector) (w : World Sector) (img : List ℕ) (s : State) (e : s.kind ≡ Idle) where
     module _ (A : ℕ → Bool) (w0 : World Sector) (img0 : List ℕ) (b : Behind z A w img w0 img0) (t : Tie z F first p w0 img0 (chain.has s)) (d : ℕ) (here : A d ≡ true) (gone : in_mask s.absent d ≡ true) where
-      abbrev onto : List ℕ
+      abbrev pub onto : List ℕ
       onto = slot_from z d img img0 z.sectors
 
-      there : d < slots z
-      there = b.inner d here
-
-      onto_disks : Disks z onto
-      onto_disks = disk_of z d there img img0 b.disks t.disks
-
-      none_valid : (o : ℕ) (a : bytes.Label) → o < 2 → copy_of (geometry z) onto d o ≡ Valid a → ⊥
-      none_valid o a l q =
-          not_valid z a
-          (sym (b.blank d o here l) ∙ sym (copy_alike z onto img onto_disks b.disks d o there l (disk_here z d there img img0 b.disks t.disks o (few_low z o l))) ∙ q)
-
-      exchange : Exchanged z s d img0 onto
-      exchange =
-          record {
-            at_rest = e;
-            there = there;
-            absent = gone;
-            disks = onto_disks;
-            others = λ x u i l n. disk_other z d there img img0 b.disks t.disks x u i l n;
-            older = λ o a l q. absurd (none_valid o a l q);
-            shape = record { calm = λ x o a i l q. absurd (none_valid o a l q); follow = λ a c q r. absurd (none_valid 0 a (omega arith) q) };
-          }
-
-      abbrev rest : ℕ → Bool
+      abbrev pub rest : ℕ → Bool
       rest x = A x && not (eqb x d)
-
-      other : (x : ℕ) → x ≢ d → rest x ≡ false → A x ≡ false
-      other x n q = by (A x) q
-        where
-          by : (y : Bool) → (y && not (eqb x d)) ≡ false → y ≡ false
-          by true r = absurd (true≢false (sym (ap not (ne_eqb x d n)) ∙ r))
-          by false r = refl
-
-      still : (x : ℕ) → rest x ≡ true → (A x ≡ true) × (x ≢ d)
-      still x q = by (A x) refl (eqb x d) refl q
-        where
-          by : (y : Bool) → A x ≡ y → (c : Bool) → eqb x d ≡ c → (y && not c) ≡ true → (A x ≡ true) × (x ≢ d)
-          by true u true v r = absurd (false≢true r)
-          by true u false v r = (u, eqb-false x d v)
-          by false u c v r = absurd (false≢true r)
-
-      told_sector : (x u : ℕ) → x < slots z → u < z.sectors → rest x ≡ false → sector z.sectors img x u ≡ sector z.sectors onto x u
-      told_sector x u i l q = by (ℕ_discrete x d)
-        where
-          by : Dec (x ≡ d) → sector z.sectors img x u ≡ sector z.sectors onto x u
-          by (yes y) = subst (λ (v : ℕ). sector z.sectors img v u ≡ sector z.sectors onto v u) (sym y) (sym (disk_here z d there img img0 b.disks t.disks u l))
-          by (no y) = b.alike x u i l (other x y q) ∙ sym (disk_other z d there img img0 b.disks t.disks x u i l y)
-
-      told_cur : (k : Place) → rest (slot k) ≡ false → cur_of z img k ≡ cur_of z onto k
-      told_cur k q = cur_alike z img onto b.disks onto_disks k (λ u i l. told_sector (slot k) u i l q)
-
-      one_told : Behind z rest w img (new_disk z w0 d onto) onto × Tie z F first p (new_disk z w0 d onto) onto (chain.has s)
-      one_told =
-          let y = swap_kept z F first p w0 img0 s d onto exchange t in (
-            record {
-              inner = λ x q. b.inner x (still x q).0;
-              lags = record {
-                reads = λ k q. ap (λ (f : Image Sector). f k) b.reads ∙ told_cur k q ∙ sym (ap (λ (f : Image Sector). f k) y.reads);
-                fewer = λ k v q m. (
-                  (λ i. b.lags.certain k v (ap A i ∙ here) m ∙ ap (λ (f : Image Sector). f k) b.reads ∙ told_cur k q),
-                  λ n. b.lags.fewer k v (other (slot k) n q) m,
-                );
-                certain = λ k v q m. b.lags.certain k v (still (slot k) q).0 m;
-              };
-              disks = b.disks;
-              reads = b.reads;
-              alike = told_sector;
-              blank = λ x o q l. b.blank x o (still x q).0 l;
-            },
-            y,
-          )
-
-    all_told : (i : ℕ) (A : ℕ → Bool) (w0 : World Sector) (img0 : List ℕ) → ((x : ℕ) → i ≤ x → A x ≡ false) → ((x : ℕ) → A x ≡ true → in_mask s.absent x ≡ true) → Behind z A w img w0 img0 → Tie z F first p w0 img0 (chain.has s)
-        → (v : World Sector) × Lags nowhere w v × Tie z F first p v img (chain.has s)
-    all_told zero A w0 img0 free gone b t =
-        let same : img ≡ img0 = same_image z img img0 b.disks t.disks (λ x u i l. b.alike x u i l (free x (omega arith))) in (
-          w0,
-          record { reads = λ k q. b.lags.reads k (free (slot k) (omega arith)); fewer = λ k v q m. b.lags.fewer k v (free (slot k) (omega arith)) m; certain = λ k v q m. absurd (false≢true q) },
-          subst (λ (x : List ℕ). Tie z F first p w0 x (chain.has s)) (sym same) t,
-        )
-    all_told (suc i) A w0 img0 free gone b t = by (A i) refl (λ A' w0' img0'. all_told i A' w0' img0')
-      where
-        Goal : Type 1
-        Goal = (v : World Sector) × Lags nowhere w v × Tie z F first p v img (chain.has s)
-
-        by : (c : Bool) → A i ≡ c
-            → ((A' : ℕ → Bool) (w0' : World Sector) (img0' : List ℕ) → ((x : ℕ) → i ≤ x → A' x ≡ false) → ((x : ℕ) → A' x ≡ true → in_mask s.absent x ≡ true) → Behind z A' w img w0' img0' → Tie z F first p w0' img0' (chain.has s) → Goal) → Goal
-        by true q ih =
-            let y = one_told A w0 img0 b t i q (gone i q) in
-            ih (λ x. A x && not (eqb x i)) (new_disk z w0 i (slot_from z i img img0 z.sectors)) (slot_from z i img img0 z.sectors) (λ x l. past x l (ℕ_discrete x i)) (λ x r. gone x (still A w0 img0 b t i q (gone i q) x r).0) y.0 y.1
-          where
-            past : (x : ℕ) → i ≤ x → Dec (x ≡ i) → (A x && not (eqb x i)) ≡ false
-            past x l (yes r) = ap (λ (c : Bool). A x && not c) (eq-eqb x i r) ∙ by_none (A x)
-              where
-                by_none : (c : Bool) → (c && false) ≡ false
-                by_none true = refl
-                by_none false = refl
-            past x l (no r) = ap (λ (c : Bool). c && not (eqb x i)) (free x (omega (arith, r)))
-        by false q ih = ih A w0 img0 (λ x l. low x l (ℕ_discrete x i)) gone b t
-          where
-            low : (x : ℕ) → i ≤ x → Dec (x ≡ i) → A x ≡ false
-            low x l (yes r) = ap A r ∙ q
-            low x l (no r) = free x (omega (arith, r))
 
   -- ---- A CUT: each old disk is told to hold what is read of it
 
@@ -285,125 +143,11 @@ module _ (z : Shelf) (F : Family z) (first : Machine Sector) where
       unfolding told_left
       told_alike e u i l a = sym (slots_other z t.away t.img0 left t.tie.disks d (slots z) (omega arith) e u i l a)
 
-      cur_out : (k : Place) → t.away (slot k) ≡ false → cur_of z left k ≡ cur_of z told_left k
-      cur_out k a = cur_alike z left told_left d told_disks k (λ u i l. told_alike (slot k) u i l a)
-
-      cur_in : (k : Place) → t.away (slot k) ≡ true → cur_of z told_left k ≡ t.w0.cur k
-      unfolding told_left
-      cur_in k a = cur_alike z told_left t.img0 told_disks t.tie.disks k (λ u i l. slots_here z t.away t.img0 left t.tie.disks d (slots z) (omega arith) (slot k) u i l a) ∙ sym (ap (λ (f : Image Sector). f k) t.tie.reads)
-
-      pub told_possible : Possible t.w0 (cur_of z told_left)
-      unfolding Possible Sane
-      told_possible k = by (t.away (slot k)) refl
-        where
-          by : (b : Bool) → t.away (slot k) ≡ b → t.w0.may k (cur_of z told_left k)
-          by true a = subst (t.w0.may k) (sym (cur_in k a)) ((off z F first p t.tie.reached).keeps.sane k)
-          by false a = subst (t.w0.may k) (cur_out k a) (t.behind.lags.fewer k (cur_of z left k) a (possible k))
-
-      pub late_cut : Late p (after (cur_of z left)) left none
-      unfolding Possible after
-      late_cut =
-          record { away = t.away; w0 = after (cur_of z told_left); img0 = told_left; behind = behind; tie = cut_kept z F first p t.w0 t.img0 (hand_of z h) told_left told_disks told_possible t.tie; waits = tt }
-        where
-          bare : (e o : ℕ) → t.away e ≡ true → o < 2 → copy_of (geometry z) left e o ≡ Nothing
-          bare e o a l =
-              let b = side o l in
-              let k : Place = label e b.0 in
-              let same : cur_of z left k ≡ cur_of z img k = t.behind.lags.certain k (cur_of z left k) a (possible k) ∙ ap (λ (f : Image Sector). f k) t.behind.reads in
-              subst (λ (x : ℕ). copy_of (geometry z) left e x ≡ Nothing) b.1 (label_alike z left img d t.behind.disks e b.0 (t.behind.inner e a) same ∙ ap (copy_of (geometry z) img e) b.1 ∙ t.behind.blank e o a l)
-
-          behind : Behind z t.away (after (cur_of z left)) left (after (cur_of z told_left)) told_left
-          behind =
-              record {
-                inner = t.behind.inner;
-                lags = record { reads = cur_out; fewer = λ k v a m. m ∙ cur_out k a; certain = λ k v a m. m };
-                disks = d;
-                reads = refl;
-                alike = told_alike;
-                blank = bare;
-              }
-
-    -- ---- A START-UP
-
-    pub late_own : (d o : ℕ) (a : bytes.Label) → d < slots z → o < 2 → copy_of (geometry z) img d o ≡ Valid a → ours z a ≡ true
-    late_own d o a i l e = by (t.away d) refl
-      where
-        by : (b : Bool) → t.away d ≡ b → ours z a ≡ true
-        by true q = absurd (not_valid z a (sym (t.behind.blank d o q l) ∙ e))
-        by false q = ours_in z F first p t.w0 t.img0 (hand_of z h) t.tie d o a i l (sym (copy_alike z img t.img0 t.behind.disks t.tie.disks d o i l (t.behind.alike d o i (few_low z o l) q)) ∙ e)
-
     module _ (s : State) (absent : ℕ) (work : List ℕ) where
-      abbrev After : Begun → Type 1
+      abbrev pub After : Begun → Type 1
       After b = StandsAt p (at w img (held h b work))
 
-      refused_start : (why : Refusal) → survey_of (geometry z) img absent ≡ survey.Refused why → After (start_of s (geometry z) absent img (length work))
-      refused_start why e = subst (λ (x : Survey). After (by_survey x s (geometry z) absent img (length work))) (sym e) (inr t)
-
-      blind_start : ((e : ℕ) → e < slots z → t.away e ≡ true → in_mask absent e ≡ true) → (g : Geometry) → g ≡ geometry z → start_of s g absent img (length work) ≡ start_of s g absent t.img0 (length work)
-      unfolding Shape
-      blind_start all g e =
-          start_blind s g absent (length work) img t.img0
-          (record {
-            lengths = t.behind.disks.shape ∙ sym t.tie.disks.shape;
-            sectors = λ d u i l n.
-                let j : d < slots z = subst (λ (x : Geometry). d < x.n) e i in
-                let m : u < z.sectors = subst (λ (x : Geometry). u < x.sectors) e l in
-                subst (λ (x : Geometry). sector x.sectors img d u ≡ sector x.sectors t.img0 d u) (sym e) (t.behind.alike d u j m (present d j n));
-          })
-        where
-          present : (d : ℕ) → d < slots z → in_mask absent d ≡ false → t.away d ≡ false
-          present d i n = by (t.away d) refl
-            where
-              by : (b : Bool) → t.away d ≡ b → b ≡ false
-              by true q = absurd (true≢false (sym (all d i q) ∙ n))
-              by false q = refl
-
-      told_start : ((e : ℕ) → t.away e ≡ true → in_mask absent e ≡ true) → Tie z F first p t.w0 t.img0 (handed (hand_of z h) (start_of s (geometry z) absent t.img0 (length work))) → After (start_of s (geometry z) absent t.img0 (length work))
-      told_start all = by (survey_of (geometry z) t.img0 absent)
-        where
-          by : (x : Survey) → Tie z F first p t.w0 t.img0 (handed (hand_of z h) (by_survey x s (geometry z) absent t.img0 (length work))) → After (by_survey x s (geometry z) absent t.img0 (length work))
-          by (survey.Refused why) y = inr t
-          by (survey.Plan plan) y = go (eqb (length work) (work_bytes (slots z) z.c)) y
-            where
-              go : (b : Bool) → Tie z F first p t.w0 t.img0 (handed (hand_of z h) (cond b (accepted (started (geometry z) absent plan t.img0)) (refused s BadBuffer)))
-                  → After (cond b (accepted (started (geometry z) absent plan t.img0)) (refused s BadBuffer))
-              go true y = inr (record { away = t.away; w0 = t.w0; img0 = t.img0; behind = t.behind; tie = y; waits = inl (refl, all) })
-              go false y = inr t
-
-      pub late_start : (g : Geometry) → Sits z g absent → Allowed z F (outs (start_of s g absent img (length work))) → After (start_of s g absent img (length work))
-      late_start g sits ok = ⊎_elim same other (same_numbers z g)
-        where
-          other : (g ≡ geometry z → ⊥) → After (start_of s g absent img (length work))
-          other n = subst (λ (x : Survey). After (by_survey x s g absent img (length work))) (sym (start_other z img t.behind.disks late_own g absent n sits)) (inr t)
-
-          same : g ≡ geometry z → After (start_of s g absent img (length work))
-          same e =
-              ⊎_elim
-              (λ (all : (x : ℕ) → x < slots z → t.away x ≡ true → in_mask absent x ≡ true).
-              let y = blind_start all g e in
-              subst (λ (b : Begun). After b) (sym y)
-              (subst (λ (x : Geometry). After (start_of s x absent t.img0 (length work))) (sym e)
-              (told_start (λ x q. all x (t.behind.inner x q) q)
-              (subst (λ (x : Geometry). Tie z F first p t.w0 t.img0 (handed (hand_of z h) (start_of s x absent t.img0 (length work)))) e
-              (start_any z F first p t.w0 t.img0 (hand_of z h) s g absent (length work) sits (subst (λ (b : Begun). Allowed z F (outs b)) y ok) t.tie)))))
-              (λ (x : (d : ℕ) × (d < slots z) × (t.away d ≡ true) × (in_mask absent d ≡ false)).
-              subst (λ (y : Geometry). After (start_of s y absent img (length work))) (sym e) (refused_start NoLabel (unlabelled z img t.behind.disks absent x.0 x.1 x.3 (λ o l. t.behind.blank x.0 o x.2 l))))
-              (covers z t.away absent (slots z))
-
-  -- ---- A STEP of such a start-up is told on the old disks; when it comes to rest, all is told
-
-  -- the state goes on, or the request is done
-  kept_or_done : (s : State) (work img : List ℕ) (m : Move) (l : List (Action Sector)) → Does z work img s m l → ((m.stepped.state.kind ≡ s.kind) × (m.stepped.state.absent ≡ s.absent)) ⊎ (m ≡ finished s img)
-  kept_or_done s work img m [] h = inr h
-  kept_or_done s work img m (put k v ∷ l) h =
-      inl (ap (λ (x : Move). x.stepped.state.kind) h.is ∙ ap (λ (x : State). x.kind) h.kept, ap (λ (x : Move). x.stepped.state.absent) h.is ∙ ap (λ (x : State). x.absent) h.kept)
-  kept_or_done s work img m (flush d ∷ l) h =
-      inl (ap (λ (x : Move). x.stepped.state.kind) h.is ∙ ap (λ (x : State). x.kind) h.kept, ap (λ (x : Move). x.stepped.state.absent) h.is ∙ ap (λ (x : State). x.absent) h.kept)
-
   module _ (p : View Sector) (w : World Sector) (img : List ℕ) (s : State) (work : List ℕ) (t : Late p w img (has s work)) (up : Starts z t.away s) where
-    busy : (k : Kind) → s.kind ≡ k → starting k ≡ false → ⊥
-    busy k e f = true≢false (sym (ap starting up.0) ∙ ap starting e ∙ f)
-
     pub late_busy : is_idle s.kind ≡ true → ⊥
     late_busy e = false≢true (sym (ap is_idle up.0) ∙ e)
 
@@ -416,135 +160,19 @@ module _ (z : Shelf) (F : Family z) (first : Machine Sector) where
         ∙ (answered_done (too_few s.now s.absent) _ true (serves s.kind) (sizes (s.now.k + s.now.m) s.now.c (length buf) (length work))
         (first_done (look_answer s.now s.kind (length img)) (block_answer s.now s.absent true (serves s.kind) b (length buf) (length work)) ok).1).makes_sense)
 
-    fair0 : Fair z s [] t.img0
-    fair0 = ⊎_elim (λ (f : Fair z s [] t.img0 × (plain s.kind ≡ true)). f.0) (λ (q : (s.kind ≡ Idle) × (ours z s.now ≡ true)). absurd (busy Idle q.0 refl)) t.tie.order.1
-
-    pub fair : Fair z s [] img
-    fair = record { in_range_lem = fair0.in_range_lem; ours_now = fair0.ours_now; disks = t.behind.disks; narrow = fair0.narrow; stages = fair0.stages }
-
     pub plainly : plain s.kind ≡ true
     plainly = ap plain up.0
 
-    g_is : geometry_of s.now ≡ geometry z
-    g_is = shelf_geometry z s.now fair0.ours_now
-
-    lengths : length img ≡ length t.img0
-    lengths = same_length z img t.img0 t.behind.disks t.tie.disks
-
-    abbrev m : Move
+    abbrev pub m : Move
     m = step_move s work img
 
-    abbrev m0 : Move
+    abbrev pub m0 : Move
     m0 = step_move s work t.img0
 
-    same : m0.stepped ≡ m.stepped
-    same = sym (step_blind s work img t.img0 lengths)
-
-    legal : (x : List ℕ) → Legal (step_move s work x).stepped.answer s.absent (geometry z) x (step_move s work x).image
-    legal x = subst (λ (g : Geometry). Legal (step_move s work x).stepped.answer s.absent g x (step_move s work x).image) g_is (step_one s work x)
-
-    absent_same : (x : List ℕ) (e u : ℕ) → e < slots z → u < z.sectors → in_mask s.absent e ≡ true → sector z.sectors (step_move s work x).image e u ≡ sector z.sectors x e u
-    absent_same x = absent_kept s (geometry z) x (step_move s work x).image (step_move s work x).stepped.answer (legal x)
-
     -- slots that are present were not exchanged
-    present : (e : ℕ) → in_mask s.absent e ≡ false → t.away e ≡ false
+    pub present : (e : ℕ) → in_mask s.absent e ≡ false → t.away e ≡ false
     present e n = by (t.away e) refl
       where
         by : (b : Bool) → t.away e ≡ b → b ≡ false
         by true q = absurd (true≢false (sym (up.1 e q) ∙ n))
         by false q = refl
-
-    agree : Agree s.absent (geometry z) m.image m0.image
-    agree =
-        subst (λ (g : Geometry). Agree s.absent g (step_move s work img).image (step_move s work t.img0).image) g_is
-        (step_agrees s work img t.img0 lengths (subst (λ (g : Geometry). Agree s.absent g img t.img0) (sym g_is) (λ e u i l n. t.behind.alike e u i l (present e n))))
-
-    then_alike : (e u : ℕ) → e < slots z → u < z.sectors → t.away e ≡ false → sector z.sectors m.image e u ≡ sector z.sectors m0.image e u
-    then_alike e u i l a = by (in_mask s.absent e) refl
-      where
-        by : (b : Bool) → in_mask s.absent e ≡ b → sector z.sectors m.image e u ≡ sector z.sectors m0.image e u
-        by true q = absent_same img e u i l q ∙ t.behind.alike e u i l a ∙ sym (absent_same t.img0 e u i l q)
-        by false q = agree e u i l q
-
-    then_disks : (x : List ℕ) → Disks z x → Fair z s [] x → Disks z (step_move s work x).image
-    then_disks x d f = ⊎_elim (λ (y : Fair z (step_move s work x).stepped.state [] (step_move s work x).image). y.disks) (λ (y : step_move s work x ≡ finished s x). subst (λ (v : Move). Disks z v.image) (sym y) d) (step_tied z s [] work x plainly f).goes_on
-
-    module _ (w' : World Sector) (h : Heard z w m.stepped.answer m.image w') where
-      then_reads : w'.cur ≡ cur_of z m.image
-      then_reads =
-          let d = step_tied z s [] work img plainly fair in
-          let r = d.acts w t.behind.reads in
-          sym (ap (λ (v : World Sector). v.cur) (heard_is z F first p w w' m.image d.reply m.stepped.answer d.answers r h)) ∙ r
-
-      heard_told : (v : World Sector) × Heard z t.w0 m.stepped.answer m0.image v × Lags t.away w' v
-      heard_told =
-          lags_heard z t.away w t.w0 m.stepped.answer m.image m0.image w' t.behind.lags (λ e q. present e (touch_present s (geometry z) img m.image m.stepped.answer (legal img) e q))
-          (λ k a. cur_alike z m.image m0.image (then_disks img t.behind.disks fair) (then_disks t.img0 t.tie.disks fair0) k (λ u i l. then_alike (slot k) u i l a)) h
-
-      then_behind : Behind z t.away w' m.image heard_told.0 m0.image
-      then_behind =
-          let d = then_disks img t.behind.disks fair in
-          record {
-            inner = t.behind.inner;
-            lags = heard_told.2;
-            disks = d;
-            reads = then_reads;
-            alike = then_alike;
-            blank = λ e o q l. copy_alike z m.image img d t.behind.disks e o (t.behind.inner e q) l (absent_same img e o (t.behind.inner e q) (few_low z o l) (up.1 e q)) ∙ t.behind.blank e o q l;
-          }
-
-      told_step : other_work s.now (length img) (length work) ≡ false → (q : View Sector) × SawStep s.kind m.stepped.answer p q × Bound z F first q heard_told.0 m0.image (has m.stepped.state work)
-      told_step e =
-          let e0 : other_work s.now (length t.img0) (length work) ≡ false = ap (λ (n : ℕ). other_work s.now n (length work)) (sym lengths) ∙ e in
-          let goes : step_with s t.img0 work ≡ m0 = step_goes s t.img0 work fair0.in_range_lem e0 in
-          let heard : Heard z t.w0 (step_with s t.img0 work).stepped.answer (step_with s t.img0 work).image heard_told.0 =
-          subst (λ (v : Move). Heard z t.w0 v.stepped.answer v.image heard_told.0) (sym goes) (subst (λ (v : Stepped). Heard z t.w0 v.answer m0.image heard_told.0) (sym same) heard_told.1) in
-          let r = call_bound z F first (steps {w = t.w0} {w' = heard_told.0} {img = t.img0} {s = s} {work = work} heard) (λ a n. absurd (Memᴰ.not-nil n)) p (inl t.tie) in
-          subst (λ (v : Stepped). (q : View Sector) × SawStep s.kind v.answer p q × Bound z F first q heard_told.0 m0.image (has v.state work)) same
-          (subst (λ (v : Move). (q : View Sector) × SawStep s.kind v.stepped.answer p q × Bound z F first q heard_told.0 v.image (has v.stepped.state work)) goes r)
-
-      stands_then : (q : View Sector) → Bound z F first q heard_told.0 m0.image (has m.stepped.state work) → StandsAt q (at w' m.image (has m.stepped.state work))
-      stands_then q b = ⊎_elim on over (kept_or_done s work img m (to_do z s work img) (step_does z work img s (fair_work z [] work s img plainly fair)))
-        where
-          on : (m.stepped.state.kind ≡ s.kind) × (m.stepped.state.absent ≡ s.absent) → StandsAt q (at w' m.image (has m.stepped.state work))
-          on k = go b
-            where
-              go : Bound z F first q heard_told.0 m0.image (has m.stepped.state work) → StandsAt q (at w' m.image (has m.stepped.state work))
-              go (inl y) = inr (record { away = t.away; w0 = heard_told.0; img0 = m0.image; behind = then_behind; tie = y; waits = inl (k.0 ∙ up.0, λ e r. ap (λ (a : ℕ). in_mask a e) k.1 ∙ up.1 e r) })
-              go (inr (inl y)) = absurd (busy Writing (sym k.0 ∙ y.writes.kind) refl)
-              go (inr (inr (inl y))) = absurd (busy Beginning (sym k.0 ∙ y.kind) refl)
-              go (inr (inr (inr y))) = absurd (busy Filling (sym k.0 ∙ y.refills.kind) refl)
-
-          over : m ≡ finished s img → StandsAt q (at w' m.image (has m.stepped.state work))
-          over k = go b
-            where
-              rests : m.stepped.state.kind ≡ Idle
-              rests = ap (λ (x : Move). x.stepped.state.kind) k
-
-              free : (e : ℕ) → slots z ≤ e → t.away e ≡ false
-              free e l = by (t.away e) refl
-                where
-                  by : (c : Bool) → t.away e ≡ c → c ≡ false
-                  by true r = absurd (omega (arith, l, t.behind.inner e r))
-                  by false r = refl
-
-              go : Bound z F first q heard_told.0 m0.image (has m.stepped.state work) → StandsAt q (at w' m.image (has m.stepped.state work))
-              go (inl y) =
-                  let a = all_told q w' m.image m.stepped.state rests (slots z) t.away heard_told.0 m0.image free (λ e r. ap (λ (x : Move). in_mask x.stepped.state.absent e) k ∙ up.1 e r) then_behind y in
-                  inl (a.0, a.1, inl a.2)
-              go (inr y) = absurd (not_rest z F first q heard_told.0 m0.image m.stepped.state work y (ap is_idle rests))
-
-    pub late_step : (w' : World Sector) → Heard z w (step_with s img work).stepped.answer (step_with s img work).image w'
-        → (q : View Sector) × SawStep s.kind (step_with s img work).stepped.answer p q × StandsAt q (at w' (step_with s img work).image (has (step_with s img work).stepped.state work))
-    late_step w' h = by (other_work s.now (length img) (length work)) refl
-      where
-        Goal : Move → Type 1
-        Goal v = (q : View Sector) × SawStep s.kind v.stepped.answer p q × StandsAt q (at w' v.image (has v.stepped.state work))
-
-        by : (b : Bool) → other_work s.now (length img) (length work) ≡ b → Goal (step_with s img work)
-        by true e =
-            subst (λ (v : Move). Heard z w v.stepped.answer v.image w' → Goal v) (sym (step_short s img work fair0.in_range_lem e))
-            (λ i. (p, subst (λ (k : Kind). SawStep k (answer.Refused BadBuffer) p p) (sym up.0) refl, subst (λ (x : World Sector). StandsAt p (at x img (has s work))) (sym i) (inr t))) h
-        by false e =
-            subst (λ (v : Move). Heard z w v.stepped.answer v.image w' → Goal v) (sym (step_goes s img work fair0.in_range_lem e))
-            (λ i. let y = told_step w' i e in (y.0, y.1, stands_then w' i y.0 y.2)) h

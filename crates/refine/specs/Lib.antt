@@ -49,7 +49,6 @@ pub mod Hosts
 pub mod Since
 pub mod WriteBound
 pub mod Reads
-pub mod HostHolds
 pub mod HostTrue
 pub mod Serves
 pub mod Promise

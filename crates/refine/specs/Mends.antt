@@ -22,16 +22,14 @@ use Rattle.label.specs.declared.fields.Label as bytes
 use Rattle.label.proofs.Counts.{same_says}
 use Rattle.protocol.specs.World.{strip}
 use Rattle.protocol.specs.Label as Label
-use Rattle.protocol.specs.Host.{Host, all_sound}
+use Rattle.protocol.proofs.Label as Label_laws
+use Rattle.protocol.specs.Host.{Host}
 use Rattle.codecs.specs.Sector.{Sector}
-use Rattle.codecs.specs.Shelf.{Shelf, slots, geometry, size, some_slots}
+use Rattle.codecs.specs.Shelf.{Shelf, slots, geometry, size}
 use Rattle.codecs.specs.Labels.{fields_of, no_label, ours, label_of}
-use Rattle.shards.specs.Even.{any_code}
+use Rattle.shards.proofs.Even.{any_code}
 use Rattle.stripes.specs.Slice.{shard_bytes}
-use Rattle.stripes.specs.Same.{verdict_of}
 use Rattle.strips.specs.Whole.{stripe_seen}
-use Rattle.views.specs.Seen.{Lying}
-use Rattle.views.specs.Whole.{mend_finds}
 use Rattle.requests.specs.Begun.{begun, first}
 use Rattle.requests.specs.Ready.{is_idle, ready_of}
 use Rattle.requests.specs.declared.begun.Begun.{Begun}
@@ -41,8 +39,7 @@ use Rattle.blocks.specs.Write.{stamp_left}
 use Rattle.blocks.specs.Repair.{may_repair, mend_answer, mended, RepairedOf, Repairs}
 use Rattle.stages.specs.declared.state.State.{State}
 use Rattle.refine.specs.Given.{shelf_geometry}
-use Rattle.refine.specs.Places.{sector_of, strip_is_inside}
-use Rattle.refine.specs.Disks.{Disks, cur_of, cur_bytes}
+use Rattle.refine.specs.Disks.{Disks, cur_of}
 
 -- ---- what the tests say
 
@@ -95,7 +92,7 @@ module _ (z : Shelf) (s : State) (own : ours z s.now ≡ true) (t : ℕ) (w : Wh
 
   -- so every strip of the stripe is believed
   pub all_believe : (d : ℕ) → d < slots z → Label.believed (size z) (label_of z s.now) d t ≡ true
-  all_believe d h = Label.believe_is (size z) (label_of z s.now) d t h stripe_inside (inl (none_missing_lem d h).0)
+  all_believe d h = Label_laws.believe_is (size z) (label_of z s.now) d t h stripe_inside (inl (none_missing_lem d h).0)
 
 -- what the code says of the stripe, and the stripe mended
 pub repaired_here : (z : Shelf) (l : bytes.Label) → ours z l ≡ true → (img : List ℕ) (t : ℕ) (found : Verdict) (stripe : List ℕ) → RepairedOf l img t found stripe
@@ -114,39 +111,8 @@ repaired_here z l own img t found stripe r =
 
 module _ (z : Shelf) (img : List ℕ) (disks : Disks z img) (s : State) (own : ours z s.now ≡ true) (t : ℕ) (v : Host Sector)
     (list : (d j : ℕ) → Label.believed (size z) (label_of z s.now) d t ≡ true → j < z.c → cur_of z img (strip d t j) ≡ (any_code z).shard t (v t) d j) where
-  abbrev l : bytes.Label
+  abbrev pub l : bytes.Label
   l = s.now
 
-  abbrev may : Outcome
+  abbrev pub may : Outcome
   may = may_repair l s.kind s.absent s.count t img
-
-  -- the strips as they lie on the disks
-  g : ℕ → ℕ → Sector
-  g d j = cur_of z img (strip d t j)
-
-  module _ (w : Whole s t) where
-    -- the code finds nothing
-    sound : (any_code z).scrub t g ≡ all_sound
-    unfolding g
-    sound = (any_code z).scrub_sound t (v t) g (λ d j h c. list d j (all_believe z s own t w d h) c)
-
-    lies : Lying z t img (all_slots (slots z)) g
-    unfolding sector_of g
-    lies d j hd hj e = sym (cur_bytes z img disks (strip d t j) (strip_is_inside z d t j hd (stripe_inside z s own t w) hj))
-
-    module _ (found : Verdict) (stripe : List ℕ) (r : RepairedOf l img t found stripe) where
-      pub finds_nothing : found ≡ verdict.Sound
-      finds_nothing = mend_finds z t img (all_slots (slots z)) g lies (none_lost_lem (slots z) t (some_slots z)) found stripe (repaired_here z l own img t found stripe r) ∙ ap verdict_of sound
-
-  -- THE REPAIR IS REFUSED
-  pub mend_refused : (work : List ℕ) (b : Begun) (after : List ℕ) → Repairs s t img work b after → (why : Refusal) × (b.outcome ≡ Refused why)
-  mend_refused work b after r = by may refl
-    where
-      by : (o : Outcome) → may ≡ o → (why : Refusal) × (b.outcome ≡ Refused why)
-      by (Refused why) e = (why, asked_refused s t img work b after r why e)
-      by Done e =
-          let q : r.found ≡ verdict.Sound = finds_nothing (may_whole s img t e) r.found r.stripe (r.repaired e).0 in (
-            NotNow,
-            ap (λ (x : Begun). x.outcome) r.answers ∙ ap (λ (o : Outcome). (begun (first o (mend_answer r.found l (length work))) s (mended s t r.found)).outcome) e
-                ∙ ap (λ (x : Verdict). (begun (mend_answer x l (length work)) s (mended s t x)).outcome) q,
-          )

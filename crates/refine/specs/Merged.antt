@@ -10,15 +10,14 @@ use Rattle.std.proofs.Math.ListN.{take}
 use Rattle.std.proofs.Math.Seq.{ext_get_or}
 use Rattle.disk.specs.Limits.{sector_bytes}
 use Rattle.disk.specs.Tests.{both}
-use Rattle.disk.specs.Image.{place, sector, put_sector, Shape, fits_image, on_shelf, read_of, lt_or_ge, length_sector, shape_put, sector_put, sector_put_other}
+use Rattle.disk.specs.Image.{place, sector, put_sector, Shape, fits_image, on_shelf, read_of, lt_or_ge}
+use Rattle.disk.proofs.Image.{length_sector, shape_put, sector_put, sector_put_other}
 use Rattle.disk.specs.declared.geometry.Geometry.{Geometry}
 use Rattle.label.specs.Valid.{decode_of}
 use Rattle.label.specs.Newest.{copy_of}
-use Rattle.protocol.specs.World.{Place, slot}
-use Rattle.codecs.specs.Sector.{sector_path, bytes_append, bytes_take, bytes_drop}
+use Rattle.codecs.proofs.Sector.{bytes_append, bytes_take, bytes_drop}
 use Rattle.codecs.specs.Shelf.{Shelf, slots, geometry, limits}
-use Rattle.refine.specs.Places.{sector_of, inside, slot_below, sector_below}
-use Rattle.refine.specs.Disks.{Disks, cur_of, image_fits, cur_bytes, cur_outside}
+use Rattle.refine.specs.Disks.{Disks, image_fits}
 
 -- the first i sectors of slot d as src has them, everything else as x has it
 unfoldable pub slot_from : Shelf → ℕ → List ℕ → List ℕ → ℕ → List ℕ
@@ -122,13 +121,6 @@ unfolding read_of on_shelf
 read_is g v e u h = ap (λ (b : Bool). cond b (sector g.sectors v e u) []) h
 
 module _ (z : Shelf) (x y : List ℕ) (dx : Disks z x) (dy : Disks z y) where
-  pub cur_alike : (k : Place) → ((u : ℕ) → slot k < slots z → u < z.sectors → sector z.sectors x (slot k) u ≡ sector z.sectors y (slot k) u) → cur_of z x k ≡ cur_of z y k
-  cur_alike k h = by (inside z k) refl
-    where
-      by : (b : Bool) → inside z k ≡ b → cur_of z x k ≡ cur_of z y k
-      by true e = sector_path (cur_of z x k) (cur_of z y k) (cur_bytes z x dx k e ∙ h (sector_of z k) (slot_below z k e) (sector_below z k e) ∙ sym (cur_bytes z y dy k e))
-      by false e = cur_outside z x k e ∙ sym (cur_outside z y k e)
-
   pub read_alike : (e u : ℕ) → e < slots z → u < z.sectors → sector z.sectors x e u ≡ sector z.sectors y e u → read_of (geometry z) x e u ≡ read_of (geometry z) y e u
   read_alike e u a l h = read_sector x dx ∙ h ∙ sym (read_sector y dy)
     where

@@ -9,10 +9,9 @@ use mathlib.Core.List.{List, [], ◌∷◌, ◌++◌}
 use Rattle.std.proofs.Math.Dec.{eqb}
 use Rattle.disk.specs.Number.{number_at, bytes_of}
 use Rattle.disk.specs.Tests.{both}
-use Rattle.disk.specs.Image.{read_of}
 use Rattle.label.specs.Bytes.{label_bytes, sealed}
 use Rattle.label.specs.Valid.{label_at, decode_of}
-use Rattle.label.specs.Newest.{same_shelf, copy_of, shelf_label}
+use Rattle.label.specs.Newest.{same_shelf}
 use Rattle.label.specs.declared.fields.Label as bytes
 use Rattle.label.specs.declared.codec.Decoded.TheVariants.{Valid}
 use Rattle.label.proofs.Laws.{decode_says, zeros_nothing}
@@ -24,7 +23,8 @@ use Rattle.protocol.specs.Label.{Label, again, belief, copy, round, round_batch,
 use Rattle.protocol.specs.Rebuild.{begun, wipe, wipe_batch, flushed_at_begin, expel_first}
 use Rattle.protocol.specs.Redo.{redo}
 use Rattle.protocol.specs.Startup.{M, L, late, level_to, again_to, last_to, rounds}
-use Rattle.protocol.specs.Decide.{data_place, Touch, Looked, strips_each, redo_each, in_turn, settled, startup}
+use Rattle.protocol.specs.Decide.{data_place, Touch, Looked, in_turn, settled, startup}
+use Rattle.protocol.proofs.Decide.{strips_each, redo_each}
 use Rattle.protocol.specs.Log.{Write, Belief}
 use Rattle.protocol.specs.Write.{logged, log_batch, log_write, store}
 use Rattle.protocol.specs.Request.{outed}
@@ -34,15 +34,14 @@ use Rattle.protocol.specs.Program.{Own, creating, starting, logging, storing, la
 use Rattle.protocol.specs.Machine.{effect}
 use Rattle.protocol.specs.Even.{program_by}
 use Rattle.protocol.specs.Pairs.{no_sets}
-use Rattle.codecs.specs.Sector.{Sector, zeros}
-use Rattle.codecs.specs.Shelf.{Shelf, slots, geometry, size, few_data, few_parity, short_strip, limits}
-use Rattle.codecs.specs.Labels.{sector_of, fields_of, encode_label, ours, labels}
-use Rattle.codecs.specs.Records.{records}
+use Rattle.codecs.specs.Sector.{Sector}
+use Rattle.codecs.proofs.Sector.{zeros}
+use Rattle.codecs.specs.Shelf.{Shelf, slots, size, few_data, few_parity, short_strip, limits}
+use Rattle.codecs.specs.Labels.{sector_of, fields_of, ours}
+use Rattle.codecs.proofs.Labels.{encode_label, labels}
+use Rattle.codecs.proofs.Records.{records}
 use Rattle.codecs.specs.Media.{stamps}
-use Rattle.shards.specs.Even.{any_code, any_sectors}
-use Rattle.refine.specs.Places.{label_inside}
-use Rattle.refine.specs.Places as places
-use Rattle.refine.specs.Disks.{Disks, cur_of, cur_read}
+use Rattle.shards.proofs.Even.{any_code, any_sectors}
 use Rattle.refine.specs.Tied.{program_of}
 
 -- ---- a sector that names no other shelf
@@ -281,19 +280,3 @@ abbrev pub side : (s : ℕ) → s < 2 → (b : Bool) × (sector_of b ≡ s)
 side zero h = (false, refl)
 side (suc zero) h = (true, refl)
 side (suc (suc s)) h = absurd (omega arith)
-
-module _ (z : Shelf) (img : List ℕ) (disks : Disks z img) (named : Named z (cur_of z img)) where
-  pub copy_ours : (d s : ℕ) (a : bytes.Label) → d < slots z → s < 2 → copy_of (geometry z) img d s ≡ Valid a → ours z a ≡ true
-  unfolding Named copy_of places.sector_of places.copy_sector
-  copy_ours d s a h l e =
-      let b = side s l in
-      named (label d b.0) a
-      (ap (λ (x : List ℕ). decode_of x d (sector_of b.0)) (cur_read z img disks (label d b.0) (label_inside z d b.0 h))
-      ∙ ap (λ (x : ℕ). decode_of (read_of (geometry z) img d x) d x) b.1 ∙ e)
-
-  pub lead_ours : (absent : ℕ) (a : bytes.Label) → shelf_label (geometry z) img absent ≡ Valid a → ours z a ≡ true
-  lead_ours absent a e =
-      let n = shelf_says (geometry z) img absent a e in
-      let p = present_says (geometry z) img absent n.whose a n.is in
-      let c = disk_says (geometry z) img n.whose a p.1 in
-      copy_ours n.whose c.whose a n.among c.among c.is

@@ -8,76 +8,18 @@ use Rattle.std.proofs.Math.Bool.{Bool, true, false, cond, or-true}
 use Prim.Native.Nat.{ℕ, zero, suc, ◌<◌}
 use native.Mathlib.Omega.{arith}
 use Rattle.disk.specs.Mask.{in_mask}
-use Rattle.label.specs.Newest.{newest_of, copy_of, disk_label, present_label, shelf_label}
+use Rattle.label.specs.Newest.{newest_of, disk_label, present_label, shelf_label}
 use Rattle.label.specs.declared.codec.Decoded.{Decoded}
 use Rattle.label.specs.declared.codec.Decoded.TheVariants.{Valid, Nothing}
 use Rattle.label.proofs.Counts.{newest_none}
 use Rattle.protocol.specs.World.{Image}
-use Rattle.protocol.specs.Slots.{from, in_from, of_from, every_of, every_all}
-use Rattle.protocol.specs.Label.{Label, copy}
-use Rattle.protocol.specs.Startup.{newest, seen, L, stale, gone, labelled}
-use Rattle.protocol.specs.Program.{NO_LABEL, TOO_FEW, because, left_out}
-use Rattle.protocol.specs.Count.{count}
-use Rattle.protocol.specs.Even.{may_start_by}
-use Rattle.protocol.specs.Pairs.{no_sets}
 use Rattle.codecs.specs.Sector.{Sector}
-use Rattle.codecs.specs.Shelf.{Shelf, slots, geometry, size, limits}
-use Rattle.codecs.specs.Labels.{meant, labels}
-use Rattle.codecs.specs.Labels as Labels
-use Rattle.codecs.specs.Records.{records}
-use Rattle.codecs.specs.Media.{stamps}
-use Rattle.shards.specs.Quorum.{few_of, few_count}
-use Rattle.shards.specs.Even.{any_code, any_sectors}
+use Rattle.codecs.specs.Shelf.{Shelf, slots, geometry}
 use Rattle.refine.specs.Disks.{Disks, image_fits, seen_of}
-use Rattle.refine.specs.Labels.{copy_is}
-
--- where all pass, all count
-count_all : (p : ℕ → Bool) (n : ℕ) → ((i : ℕ) → i < n → p i ≡ true) → count p n ≡ n
-count_all p zero h = refl
-count_all p (suc n) h = rw (h n (omega arith)) (omega (arith, count_all p n (λ i l. h i (omega arith))))
 
 module _ (z : Shelf) (img : List ℕ) (disks : Disks z img) (absent : ℕ) (A : ℕ → Bool) (are : (d : ℕ) → d < slots z → A d ≡ in_mask absent d) where
-  abbrev f0 : Image Sector
+  abbrev pub f0 : Image Sector
   f0 = seen_of z A img
-
-  -- ---- a disk with no label
-
-  copy_none : (d : ℕ) (b : Bool) → d < slots z → in_mask absent d ≡ false → disk_label (geometry z) img d ≡ Nothing → (copy (labels z) f0 d b).generation ≡ 0
-  unfolding disk_label
-  copy_none d b h e q = ap (λ (x : Label). x.generation) (copy_is z img disks absent A are d b h e) ∙ by (copy_of (geometry z) img d (Labels.sector_of b)) refl
-    where
-      side : (b : Bool) → Labels.sector_of b < 2
-      side true = omega arith
-      side false = omega arith
-
-      by : (x : Decoded) → copy_of (geometry z) img d (Labels.sector_of b) ≡ x → (meant z x).generation ≡ 0
-      by Nothing p = refl
-      by (Valid a) p = absurd (newest_none (copy_of (geometry z) img d) 2 q (Labels.sector_of b) a (side b) p)
-
-  seen_none : (d : ℕ) → d < slots z → in_mask absent d ≡ false → disk_label (geometry z) img d ≡ Nothing → seen (size z) (labels z) A f0 d ≡ 0
-  seen_none d h e q =
-      ap (λ (b : Bool). cond b 0 (newest (size z) (labels z) A f0 d).generation) (are d h ∙ e)
-      ∙ by (ltb (copy (labels z) f0 d false).generation (copy (labels z) f0 d true).generation)
-    where
-      by : (b : Bool) → (cond b (copy (labels z) f0 d true) (copy (labels z) f0 d false)).generation ≡ 0
-      by true = copy_none d true h e q
-      by false = copy_none d false h e q
-
-  pub unlabelled : (d : ℕ) → d < slots z → in_mask absent d ≡ false → disk_label (geometry z) img d ≡ Nothing → labelled (size z) (labels z) A f0 ≡ false
-  unlabelled d h e q = by (labelled (size z) (labels z) A f0) refl
-    where
-      test : ℕ → Bool
-      test i = A i || ltb 0 (seen (size z) (labels z) A f0 i)
-
-      by : (b : Bool) → labelled (size z) (labels z) A f0 ≡ b → b ≡ false
-      by true p =
-          sym (every_of test (from 0 (slots z)) p d (in_from (slots z) 0 d (omega arith) (omega arith)))
-          ∙ ap₂ (λ (x : Bool) (n : ℕ). x || ltb 0 n) (are d h ∙ e) (seen_none d h e q)
-      by false p = refl
-
-  pub no_label : (d : ℕ) → d < slots z → in_mask absent d ≡ false → disk_label (geometry z) img d ≡ Nothing
-      → may_start_by (size z) (no_sets (slots z)) (labels z) (records z) (any_code z) stamps (any_sectors z) (few_of z) A f0 ≡ because NO_LABEL
-  no_label d h e q = rw (unlabelled d h e q)
 
   -- where the shelf has no label, no present disk has one
   pub none_at_all : shelf_label (geometry z) img absent ≡ Nothing → (d : ℕ) → d < slots z → in_mask absent d ≡ false → disk_label (geometry z) img d ≡ Nothing
@@ -90,29 +32,3 @@ module _ (z : Shelf) (img : List ℕ) (disks : Disks z img) (absent : ℕ) (A : 
       by : (x : Decoded) → disk_label (geometry z) img d ≡ x → x ≡ Nothing
       by Nothing p = refl
       by (Valid a) p = absurd (newest_none (present_label (geometry z) img absent) (slots z) none d a h (ap (λ (b : Bool). cond b Nothing (disk_label (geometry z) img d)) e ∙ p))
-
-  -- ---- no disk at all
-
-  pub all_absent : ((d : ℕ) → d < slots z → in_mask absent d ≡ true)
-      → may_start_by (size z) (no_sets (slots z)) (labels z) (records z) (any_code z) stamps (any_sectors z) (few_of z) A f0 ≡ because TOO_FEW
-  unfolding left_out gone
-  all_absent h = rw (there, few (few_of z out) refl)
-    where
-      out : ℕ → Bool
-      out = left_out (size z) (no_sets (slots z)) (labels z) (records z) (any_code z) stamps (any_sectors z) A f0
-
-      there : labelled (size z) (labels z) A f0 ≡ true
-      there =
-          every_all (λ d. A d || ltb 0 (seen (size z) (labels z) A f0 d)) (from 0 (slots z))
-          (λ d m.
-          let k : d < slots z = omega (arith, of_from (slots z) 0 d m) in
-          ap (λ (b : Bool). b || ltb 0 (seen (size z) (labels z) A f0 d)) (are d k ∙ h d k))
-
-      every_out : (d : ℕ) → d < slots z → out d ≡ true
-      every_out d k =
-          ap₂ (λ (b c : Bool). (L (size z) (labels z) A f0).out d || (b && (c || stale (size z) (labels z) A f0 d))) (lt-ltb d (slots z) k) (are d k ∙ h d k)
-          ∙ or-true ((L (size z) (labels z) A f0).out d)
-
-      few : (b : Bool) → few_of z out ≡ b → few_of z out ≡ false
-      few true p = absurd (omega (arith, few_count z out p, count_all out (slots z) every_out, (limits z).1.least))
-      few false p = p

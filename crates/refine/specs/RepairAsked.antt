@@ -18,10 +18,8 @@ use borrow.Author.Tests.{lt-ltb, le-ltb, ltb-true, ltb-false, eq-eqb, ne_eqb, eq
 use Rattle.code.specs.Stripes.{Repaired}
 use Rattle.code.specs.declared.Verdict.{Verdict}
 use Rattle.code.specs.declared.Verdict.TheVariants as verdict
-use Rattle.disk.specs.Limits.{sector_bytes}
-use Rattle.disk.specs.Geometry.{stripes_of, slot_of, shard_of, slot_lt, slot_shard, shard_slot}
-use Rattle.disk.specs.Image.{sector, fits_image, lt_or_ge}
-use Rattle.disk.specs.Mask.{in_mask, with_slot, in_with, with_lt, in_past}
+use Rattle.disk.specs.Geometry.{stripes_of}
+use Rattle.disk.specs.Mask.{in_mask}
 use Rattle.disk.specs.declared.geometry.Geometry.{Geometry}
 use Rattle.disk.specs.declared.refusal.Refusal.{Refusal}
 use Rattle.disk.specs.declared.refusal.Refusal.TheVariants as why
@@ -34,24 +32,20 @@ use Rattle.label.proofs.Counts.{SameShelf, same_says}
 use Rattle.protocol.specs.World.{Image}
 use Rattle.protocol.specs.Log.{Write}
 use Rattle.protocol.specs.Label as Label
-use Rattle.protocol.specs.Slots.{from, in_from, of_from, every, every_of, every_all}
-use Rattle.protocol.specs.Host.{Finding, all_sound, accused, several, blames, strips_of, accused_slot, repair_of}
+use Rattle.protocol.specs.Slots.{from, every}
+use Rattle.protocol.specs.Host.{blames, accused_slot, repair_of}
 use Rattle.protocol.specs.Program as program
-use Rattle.protocol.specs.Program.{BAD_BLOCK, BUSY, NOT_NOW, first, Memory, idle, repair, Reply, accepted, refused, beyond, mask, finding, asked_repair, also, answer}
-use Rattle.protocol.specs.Even.{program_by}
+use Rattle.protocol.specs.Program.{BAD_BLOCK, BUSY, NOT_NOW, first, Memory, idle, repair, Reply, accepted, refused, beyond, finding, asked_repair, also, answer}
 use Rattle.protocol.specs.Pairs.{no_sets}
-use Rattle.codecs.specs.Sector.{Sector, Bytes, bytes_take}
-use Rattle.codecs.specs.Shelf.{Shelf, slots, geometry, size, some_slots}
-use Rattle.codecs.specs.Labels.{fields_of, no_label, label_of, labels, ours}
-use Rattle.codecs.specs.Records.{counts, records}
+use Rattle.codecs.specs.Sector.{Sector, Bytes}
+use Rattle.codecs.specs.Shelf.{Shelf, slots, geometry, size}
+use Rattle.codecs.specs.Labels.{label_of, ours}
+use Rattle.codecs.proofs.Labels.{labels}
+use Rattle.codecs.specs.Records.{counts}
+use Rattle.codecs.proofs.Records.{records}
 use Rattle.codecs.specs.Media.{stamps}
-use Rattle.shards.specs.Even.{any_code, any_sectors}
-use Rattle.stripes.specs.Slice.{shard_bytes, sector_byte}
-use Rattle.stripes.specs.Same.{verdict_of}
+use Rattle.shards.proofs.Even.{any_code, any_sectors}
 use Rattle.strips.specs.Whole.{stripe_seen}
-use Rattle.views.specs.Seen.{Lying}
-use Rattle.views.specs.Whole.{mend_finds, mended_is}
-use Rattle.views.specs.Program.{repair_mended}
 use Rattle.requests.specs.Begun.{begun}
 use Rattle.requests.specs.Begun as requests
 use Rattle.requests.specs.Ready.{is_idle, has_shelf, holding, ready_of}
@@ -63,27 +57,9 @@ use Rattle.blocks.specs.Repair.{may_repair, mend_answer, sized_answer, stripe_by
 use Rattle.stages.specs.declared.state.State.{State}
 use Rattle.stages.specs.declared.state.Kind.{Kind}
 use Rattle.stages.specs.declared.state.Kind.TheVariants.{Nothing, Idle, Creating, Starting, Labelling, Writing, Beginning, Filling}
-use Rattle.refine.specs.Given.{shelf_geometry}
-use Rattle.refine.specs.Disks.{Disks, image_fits, cur_of, seen_of}
-use Rattle.refine.specs.Rounds.{beyond_below}
-use Rattle.refine.specs.Strips.{lying_seen}
-use Rattle.refine.specs.Keeps.{mask_is, Works, kept_bytes, kept_strip}
-use Rattle.refine.specs.Lists.{Says}
-use Rattle.refine.specs.Steps.{Present, Fair}
-use Rattle.refine.specs.Tied.{own_of, memory_with, program_of}
-use Rattle.refine.specs.WriteList.{Writes}
-use Rattle.refine.specs.OnBegins.{ones_none}
-use Rattle.refine.specs.Writes.{Asks, log_begins, write_fair}
-use Rattle.refine.specs.WriteAsked.{stamped_sound}
-use Rattle.refine.specs.Mends.{Whole, may_whole, asked_refused, stripe_inside, none_missing_lem, all_believe, repaired_here}
-
--- a mask of one slot
-one_slot : (m e : ℕ) → in_mask (with_slot 0 m) e ≡ eqb e m
-one_slot m e = in_with 0 m e ∙ ap (λ (x : Bool). eqb e m || x) (in_past 0 0 e (lit< tt) (omega arith)) ∙ by (eqb e m)
-  where
-    by : (a : Bool) → (a || false) ≡ a
-    by true = refl
-    by false = refl
+use Rattle.refine.specs.Disks.{Disks, cur_of, seen_of}
+use Rattle.refine.specs.Tied.{own_of, program_of}
+use Rattle.refine.specs.Mends.{Whole, may_whole, asked_refused, stripe_inside, none_missing_lem, all_believe}
 
 -- THE WRITE that the protocol's program makes of a repair of stripe t, of what it sees: the strip of the slot that it accuses, mended
 abbrev pub repair_asked : Shelf → Image Sector → ℕ → Write Sector
@@ -94,236 +70,74 @@ repair_asked z f t =
 -- ---- what the program answers, by its tests: there is such a stripe, no slot is out, a stamp is left, and a shard is accused
 
 module _ (z : Shelf) (img : List ℕ) (i : State) (t : ℕ) where
-  abbrev seen : Image Sector
+  abbrev pub seen : Image Sector
   seen = seen_of z (beyond (slots z) (in_mask i.absent)) img
 
-  abbrev in_order : Bool
+  abbrev pub in_order : Bool
   in_order = every (λ d. not (in_mask i.now.out d)) (from 0 (slots z))
 
-  abbrev stamp_remains : Bool
+  abbrev pub stamp_remains : Bool
   stamp_remains = ltb (suc (own_of z i i.now).count) (suc i.epoch * counts)
 
-  abbrev replies : Bool → Bool → Bool → Bool → Memory Sector × Reply Sector
+  abbrev pub replies : Bool → Bool → Bool → Bool → Memory Sector × Reply Sector
   replies inside all left blamed =
       answer (size z) (no_sets (slots z)) (labels z) (records z) (any_code z) stamps (any_sectors z) (idle (own_of z i i.now))
       (also (size z) (no_sets (slots z)) (labels z) (records z) (any_code z) stamps (any_sectors z)
       (first (record { why = BAD_BLOCK; holds = not inside } ∷ record { why = BUSY; holds = false } ∷ record { why = NOT_NOW; holds = not all || not left } ∷ [])) (not blamed))
       (asked_repair (size z) (no_sets (slots z)) (labels z) (records z) (any_code z) stamps (any_sectors z) (own_of z i i.now) seen t) accepted
 
-  program_replies : program_of z (idle (own_of z i i.now)) (cur_of z img) (repair t)
-      ≡ replies (ltb t (stripes_of (geometry z))) in_order stamp_remains (blames (finding (size z) (no_sets (slots z)) (labels z) (records z) (any_code z) stamps (any_sectors z) seen t))
-  unfolding program_by seen_of mask
-  program_replies = refl
-
-  -- the stamps
-  left_is : stamp_remains ≡ stamp_left i.count
-  unfolding stamp_left
-  left_is = by (ltb i.count most_count) refl
-    where
-      by : (a : Bool) → ltb i.count most_count ≡ a → stamp_remains ≡ a
-      by true e = lt-ltb (suc (own_of z i i.now).count) (suc i.epoch * counts) (omega (arith, ltb-true i.count most_count e, suc-mul i.epoch counts))
-      by false e = le-ltb (suc (own_of z i i.now).count) (suc i.epoch * counts) (omega (arith, ltb-false i.count most_count e, suc-mul i.epoch counts))
-
--- with no slot missing, it sees every strip of the stripe
-sees_all : (z : Shelf) (img : List ℕ) → Disks z img → (i : State) → ours z i.now ≡ true → (t : ℕ) → Whole i t
-    → Lying z t img (all_slots (slots z)) (strips_of (size z) (no_sets (slots z)) (records z) (any_code z) (seen z img i t) t)
-sees_all z img disks i own t whole =
-    lying_seen z img disks (beyond (slots z) (in_mask i.absent)) t (all_slots (slots z)) (stripe_inside z i own t whole)
-    (λ d h e. beyond_below (slots z) i.absent d h ∙ (none_missing_lem z i own t whole d h).1)
-
 -- ---- a repair that is accepted
 
 module _ (z : Shelf) (img : List ℕ) (disks : Disks z img) (i : State) (own : ours z i.now ≡ true) (t : ℕ) (work : List ℕ) (b : Begun) (after : List ℕ) (small : Bytes after)
     (w : Repairs i t img work b after) (done : b.outcome ≡ Done) where
-  abbrev l : bytes.Label
+  abbrev pub l : bytes.Label
   l = i.now
 
-  abbrev n : ℕ
+  abbrev pub n : ℕ
   n = slots z
 
-  abbrev f : Image Sector
+  abbrev pub f : Image Sector
   f = seen_of z (beyond n (in_mask i.absent)) img
 
-  abbrev W : Write Sector
+  abbrev pub W : Write Sector
   W = repair_asked z f t
 
   -- the slot that the program accuses
-  abbrev D : ℕ
+  abbrev pub D : ℕ
   D = accused_slot (size z) (no_sets n) (records z) (any_code z) t (finding (size z) (no_sets n) (labels z) (records z) (any_code z) stamps (any_sectors z) f t)
 
   -- ---- what the tests say
 
-  may : may_repair l i.kind i.absent i.count t img ≡ Done
+  pub may : may_repair l i.kind i.absent i.count t img ≡ Done
   may = by (may_repair l i.kind i.absent i.count t img) refl
     where
       by : (o : Outcome) → may_repair l i.kind i.absent i.count t img ≡ o → o ≡ Done
       by Done e = refl
       by (Refused why) e = absurd (never why (sym (asked_refused i t img work b after w why e) ∙ done))
 
-  whole : Whole i t
+  pub whole : Whole i t
   whole = may_whole i img t may
 
-  passed : MayMend i img t
-  passed = may_done i img t may
-
-  in_T : t < stripes_of (geometry z)
+  pub in_T : t < stripes_of (geometry z)
   in_T = stripe_inside z i own t whole
-
-  n_is : l.k + l.m ≡ n
-  n_is = ap (λ (g : Geometry). g.n) (shelf_geometry z l own)
 
   -- ---- the accused shard
 
-  found_so : (r : ℕ) × (w.found ≡ verdict.Accused r) × (b.state ≡ mending i t r)
+  pub found_so : (r : ℕ) × (w.found ≡ verdict.Accused r) × (b.state ≡ mending i t r)
   found_so = repair_accuses i t img work b after w done
 
-  abbrev r : ℕ
+  abbrev pub r : ℕ
   r = found_so.0
 
-  sized : sized_of l (length work) ≡ true
-  unfolding sized_answer
-  sized = by (sized_of l (length work)) refl
-    where
-      says : b.outcome ≡ (begun (sized_answer l (length work)) i (mending i t r)).outcome
-      says =
-          ap (λ (x : Begun). x.outcome) w.answers
-          ∙ ap₂ (λ (o : Outcome) (v : Verdict). (begun (requests.first o (mend_answer v l (length work))) i (mended i t v)).outcome) may found_so.1
-
-      by : (a : Bool) → sized_of l (length work) ≡ a → a ≡ true
-      by true e = refl
-      by false e = absurd (never why.BadBuffer (sym (says ∙ ap (λ (a : Bool). (begun (cond a Done (Refused why.BadBuffer)) i (mending i t r)).outcome) e) ∙ done))
-
-  abbrev half : List ℕ
+  abbrev pub half : List ℕ
   half = take (stripe_bytes l) after
-
-  half_bytes : Bytes half
-  half_bytes = bytes_take (stripe_bytes l) after small
-
-  here : Repaired z.k (n - z.k) (shard_bytes z) (verdict.Accused r) (stripe_seen (geometry z) img (all_slots n) t) half
-  here =
-      subst (λ (v : Verdict). Repaired z.k (n - z.k) (shard_bytes z) v (stripe_seen (geometry z) img (all_slots n) t) half) found_so.1
-      (repaired_here z l own img t w.found half (repair_half i t img work b after w done))
-
-  lies : Lying z t img (all_slots n) (strips_of (size z) (no_sets n) (records z) (any_code z) f t)
-  lies = sees_all z img disks i own t whole
-
-  -- it finds what the code found
-  finds : ((any_code z).scrub t (strips_of (size z) (no_sets n) (records z) (any_code z) f t) ≡ accused r) × (r < n)
-  unfolding Bytes
-  finds = let y = mended_is z t img (all_slots n) (strips_of (size z) (no_sets n) (records z) (any_code z) f t) lies (none_lost_lem n t (some_slots z)) r half half_bytes here in (y.0, y.1)
-
-  pub repair_finds : (r : ℕ) × (finding (size z) (no_sets n) (labels z) (records z) (any_code z) stamps (any_sectors z) f t ≡ accused r) × (r < n)
-  repair_finds = (r, finds.0, finds.1)
 
   -- with no slot out, and every strip of the stripe believed
   pub repair_whole : (t < stripes_of (geometry z)) × ((d : ℕ) → d < n → in_mask l.out d ≡ false) × ((d : ℕ) → d < n → Label.believed (size z) (label_of z l) d t ≡ true)
   repair_whole = (in_T, (λ d h. (none_missing_lem z i own t whole d h).0), all_believe z i own t whole)
 
-  -- it accuses the same slot, and mends its strip to the same
-  mends : (D ≡ slot_of n t r) × ((j : ℕ) → j < z.c → sector z.c half r j ≡ (W.new D j).bytes)
-  unfolding Bytes
-  mends = repair_mended z t (all_slots n) img f lies (none_lost_lem n t (some_slots z)) r half half_bytes here
-
-  -- ---- the state and the work area
-
-  same_one : (d : ℕ) → d < n → eqb (shard_of n t d) r ≡ eqb d (slot_of n t r)
-  same_one d h = by (ℕ_discrete d (slot_of n t r))
-    where
-      by : Dec (d ≡ slot_of n t r) → eqb (shard_of n t d) r ≡ eqb d (slot_of n t r)
-      by (yes e) = eq-eqb (shard_of n t d) r (ap (shard_of n t) e ∙ shard_slot n t (some_slots z) r finds.1) ∙ sym (eq-eqb d (slot_of n t r) e)
-      by (no e) = ne_eqb (shard_of n t d) r (λ q. e (sym (slot_shard n t (some_slots z) d h) ∙ ap (slot_of n t) q)) ∙ sym (ne_eqb d (slot_of n t r) e)
-
-  changes : (d : ℕ) → (ltb d n && in_mask (with_slot 0 r) (shard_of n t d)) ≡ W.changes d
-  unfolding repair_of
-  changes d = ⊎_elim inside past (lt_or_ge d n) ∙ ap (eqb d) (sym mends.0)
-    where
-      inside : d < n → (ltb d n && in_mask (with_slot 0 r) (shard_of n t d)) ≡ eqb d (slot_of n t r)
-      inside h = ap₂ (λ (x y : Bool). x && y) (lt-ltb d n h) (one_slot r (shard_of n t d) ∙ same_one d h)
-
-      past : n ≤ d → (ltb d n && in_mask (with_slot 0 r) (shard_of n t d)) ≡ eqb d (slot_of n t r)
-      past h =
-          ap (λ (x : Bool). x && in_mask (with_slot 0 r) (shard_of n t d)) (le-ltb d n h)
-          ∙ sym (ne_eqb d (slot_of n t r) (λ q. absurd (omega (arith, q, slot_lt n t (some_slots z) r))))
-
-  same : SameShelf (fields_of z 0 (no_label z)) l
-  same = same_says (fields_of z 0 (no_label z)) l own
-
-  half_is : stripe_bytes l ≡ n * (z.c * sector_bytes)
-  unfolding stripe_bytes
-  half_is = ap₂ (λ (a c : ℕ). a * (c * sector_bytes)) n_is (sym same.same_c)
-
-  strips : (d j : ℕ) → W.changes d ≡ true → j < z.c → kept_strip z after t d j ≡ W.new d j
-  unfolding repair_of
-  strips d j e q =
-      let is : d ≡ D = eqb-true d D e in
-      let shard : shard_of n t d ≡ r = ap (shard_of n t) (is ∙ mends.0) ∙ shard_slot n t (some_slots z) r finds.1 in
-      kept_bytes z after t d j (W.new d j)
-      (λ p pl.
-      let at : r * (z.c * sector_bytes) + (j * sector_bytes + p) < stripe_bytes l =
-      omega (arith, half_is, mul-le-mul_right (z.c * sector_bytes) finds.1, suc-mul r (z.c * sector_bytes), mul-le-mul_right sector_bytes q, suc-mul j sector_bytes) in
-      ap (λ (x : ℕ). get_or after (x * z.c * sector_bytes + (j * sector_bytes + p)) 0) shard
-      ∙ ap (λ (x : ℕ). get_or after (x + (j * sector_bytes + p)) 0) (mul_assoc r z.c sector_bytes)
-      ∙ sym (get_or-take (stripe_bytes l) after (r * (z.c * sector_bytes) + (j * sector_bytes + p)) 0 at)
-      ∙ sym (sector_byte z half r j p pl)
-      ∙ ap (λ (x : List ℕ). get_or x p 0) (mends.1 j q)
-      ∙ ap (λ (x : ℕ). get_or (W.new x j).bytes p 0) (sym is))
-
-  -- the work area keeps its length
-  long : length after ≡ length work
-  unfolding stripe_bytes
-  long =
-      let left : after ≡ w.stripe ++ drop (stripe_bytes l) work = w.left ∙ ap (λ (o : Outcome). leaves o l w.stripe work) done in
-      let room : stripe_bytes l ≤ length work = sized_half l (length work) passed.lies.fits sized in
-      omega (arith, ap length left, length-append w.stripe (drop (stripe_bytes l) work), (w.repaired may).1, length-drop (stripe_bytes l) work, room)
-
-  works : Works z after
-  unfolding stripe_bytes
-  works =
-      let room : stripe_bytes l ≤ length work = sized_half l (length work) passed.lies.fits sized in
-      record { room = omega (arith, room, long, half_is, mul_assoc n z.c sector_bytes); small = small }
-
-  abbrev starts : State
+  abbrev pub starts : State
   starts = mending i t r
-
-  involves : Says z starts.marks.redo (λ d. Label.believed (size z) (label_of z l) d W.stripe && W.changes d)
-  unfolding repair_of
-  involves d hd =
-      ap (λ (m : ℕ). in_mask (with_slot 0 (slot_of m t r)) d) n_is ∙ one_slot (slot_of n t r) d
-      ∙ sym (ap₂ (λ (x : Bool) (e : ℕ). x && eqb d e) (all_believe z i own t whole d hd) mends.0)
-
-  starts_writes : Writes z starts after W
-  unfolding repair_of
-  starts_writes = record { kind = refl; stripe = refl; changes = changes; strips = strips; involves = involves; works = works }
-
-  asks : Asks z i starts after W
-  asks = record { now = refl; next = refl; absent = refl; epoch = refl; count = refl; cursor = refl; writes = starts_writes }
-
-  present : Present z i.absent starts.marks.redo
-  present d hd e = (none_missing_lem z i own t whole d hd).1
-
-  -- IT CAN BE CARRIED OUT
-  starts_fair : Fair z starts after img
-  starts_fair =
-      write_fair z starts after img (stamped_sound z i own passed.lies.fits t in_T starts.marks) own disks refl refl present in_T (with_lt n 0 r (pow_pos n) finds.1) (omega (arith, passed.stamp)) works
-
-  -- THE STATE AND THE WORK AREA describe the write that the protocol's program makes, and what is remembered of it is what the program remembers
-  pub repair_goes : Fair z b.state after img × Writes z b.state after W
-      × (memory_with z W b.state after img ≡ asked_repair (size z) (no_sets n) (labels z) (records z) (any_code z) stamps (any_sectors z) (own_of z i l) f t)
-      × (b.state.next ≡ l) × (length after ≡ length work)
-  repair_goes =
-      subst (λ (x : State). Fair z x after img × Writes z x after W
-      × (memory_with z W x after img ≡ asked_repair (size z) (no_sets n) (labels z) (records z) (any_code z) stamps (any_sectors z) (own_of z i l) f t)
-      × (x.next ≡ l) × (length after ≡ length work)) (sym found_so.2) (starts_fair, starts_writes, log_begins z i starts after img W asks, refl, long)
-
-  -- AND THE PROGRAM ACCEPTS IT
-  pub repair_accepted : program_of z (idle (own_of z i l)) (cur_of z img) (repair t)
-      ≡ (asked_repair (size z) (no_sets n) (labels z) (records z) (any_code z) stamps (any_sectors z) (own_of z i l) f t, accepted)
-  unfolding stamp_left
-  repair_accepted =
-      let all_in : in_order z img i t ≡ true =
-      every_all (λ d. not (in_mask l.out d)) (from 0 n) (λ d h. ap not (none_missing_lem z i own t whole d (omega (arith, of_from n 0 d h))).0) in
-      program_replies z img i t
-      ∙ (λ j. replies z img i t (lt-ltb t (stripes_of (geometry z)) in_T j) (all_in j) ((left_is z img i t ∙ lt-ltb i.count most_count passed.stamp) j) (blames (finds.0 j)))
 
 -- ---- a repair that is refused
 
@@ -339,176 +153,38 @@ Refuses why.NotNow z img i t = program_of z (idle (own_of z i i.now)) (cur_of z 
 Refuses why.BadBuffer z img i t = Unit {0}
 
 -- a verdict that accuses
-abbrev accuses : Verdict → Bool
+abbrev pub accuses : Verdict → Bool
 accuses (verdict.Accused r) = true
 accuses verdict.Sound = false
 accuses verdict.Unsound = false
 accuses (verdict.Refused x) = false
 
-blames_so : (y : Finding) → blames y ≡ accuses (verdict_of y)
-blames_so all_sound = refl
-blames_so (accused r) = refl
-blames_so several = refl
-
 module _ (z : Shelf) (img : List ℕ) (disks : Disks z img) (i : State) (own : ours z i.now ≡ true)
     (dark : (d : ℕ) → d < slots z → in_mask i.absent d ≡ true → Label.looked (size z) (label_of z i.now) d ≡ true → ⊥)
     (rest : is_idle i.kind ≡ true) (fits : fits_of i.now ≡ true) (t : ℕ) (work : List ℕ) (b : Begun) (after : List ℕ) (w : Repairs i t img work b after) where
-  abbrev la : bytes.Label
+  abbrev pub la : bytes.Label
   la = i.now
 
-  abbrev num : ℕ
+  abbrev pub num : ℕ
   num = slots z
 
-  abbrev blamed : Bool
+  abbrev pub blamed : Bool
   blamed = blames (finding (size z) (no_sets num) (labels z) (records z) (any_code z) stamps (any_sectors z) (seen z img i t) t)
 
-  abbrev P : Outcome → Type 0
+  abbrev pub P : Outcome → Type 0
   P Done = Unit {0}
   P (Refused x) = Refuses x z img i t
 
-  kept : (o : Outcome) (x : State) → P o → P (begun o i x).outcome
-  kept Done x p = p
-  kept (Refused y) x p = p
-
-  -- ---- the program's side
-
-  outside : ltb t (stripes_of (geometry z)) ≡ false → P (Refused why.BadBlock)
-  outside e = program_replies z img i t ∙ (λ j. replies z img i t (e j) (in_order z img i t) (stamp_remains z img i t) blamed)
-
-  none_in : ltb t (stripes_of (geometry z)) ≡ true → in_order z img i t ≡ false → P (Refused why.NotNow)
-  none_in e a = program_replies z img i t ∙ (λ j. replies z img i t (e j) (a j) (stamp_remains z img i t) blamed)
-
-  no_stamp : ltb t (stripes_of (geometry z)) ≡ true → stamp_remains z img i t ≡ false → P (Refused why.NotNow)
-  no_stamp e c = by (in_order z img i t) refl
-    where
-      by : (a : Bool) → in_order z img i t ≡ a → P (Refused why.NotNow)
-      by true a = program_replies z img i t ∙ (λ j. replies z img i t (e j) (a j) (c j) blamed)
-      by false a = none_in e a
-
-  nobody : ltb t (stripes_of (geometry z)) ≡ true → blamed ≡ false → P (Refused why.NotNow)
-  nobody e x = by (in_order z img i t) refl (stamp_remains z img i t) refl
-    where
-      by : (a : Bool) → in_order z img i t ≡ a → (c : Bool) → stamp_remains z img i t ≡ c → P (Refused why.NotNow)
-      by true a true c = program_replies z img i t ∙ (λ j. replies z img i t (e j) (a j) (c j) (x j))
-      by true a false c = no_stamp e c
-      by false a u c = none_in e a
-
-  -- ---- a slot that is missing is out, since no absent slot is looked at
-
-  num_is : la.k + la.m ≡ num
-  num_is = ap (λ (g : Geometry). g.n) (shelf_geometry z la own)
-
-  not_out : in_order z img i t ≡ true → (d : ℕ) → d < num → in_mask la.out d ≡ false
-  not_out q d h = not-true (in_mask la.out d) (every_of (λ d. not (in_mask la.out d)) (from 0 num) q d (in_from num 0 d (omega arith) (omega arith)))
-
-  not_absent : in_order z img i t ≡ true → (d : ℕ) → d < num → in_mask i.absent d ≡ false
-  not_absent q d h = go (in_mask i.absent d) refl
-    where
-      go : (a : Bool) → in_mask i.absent d ≡ a → a ≡ false
-      go true p = absurd (dark d h p (Label.look_is (size z) (label_of z la) d h (inl (not_out q d h))))
-      go false p = refl
-
-  some_out : none_missing la i.absent ≡ false → in_order z img i t ≡ false
-  unfolding none_missing missing missing_at
-  some_out e = by (in_order z img i t) refl
-    where
-      none : in_order z img i t ≡ true → missing la i.absent ≡ 0
-      none q =
-          mask_is (la.k + la.m) 0 (pow_pos (la.k + la.m)) (missing_at la.out i.absent)
-          (λ d h. let hd : d < num = subst (λ (m : ℕ). d < m) num_is h in
-          ap₂ (λ (x y : Bool). x || y) (not_out q d hd) (not_absent q d hd) ∙ sym (in_past 0 0 d (lit< tt) (omega arith)))
-
-      by : (a : Bool) → in_order z img i t ≡ a → a ≡ false
-      by true q = absurd (false≢true (sym e ∙ eq-eqb (missing la i.absent) 0 (none q)))
-      by false q = refl
-
-  -- too many are missing: some are
-  few_none : too_few la i.absent ≡ true → none_missing la i.absent ≡ false
-  unfolding too_few none_missing
-  few_none e = by (eqb (missing la i.absent) 0) refl
-    where
-      by : (a : Bool) → eqb (missing la i.absent) 0 ≡ a → a ≡ false
-      by true q = absurd (omega (arith, ltb-true la.m (ones (missing la i.absent)) e, ap ones (eqb-true (missing la i.absent) 0 q), ones_none))
-      by false q = refl
-
   -- ---- the code's side
 
-  abbrev held : Bool
+  abbrev pub held : Bool
   held = all_of (holding (geometry_of la) img i.absent la) (la.k + la.m)
 
-  abbrev sense : Bool
+  abbrev pub sense : Bool
   sense = stamp_left i.count && none_missing la i.absent
 
-  abbrev tests : Bool → Bool → Bool → Bool → Outcome
+  abbrev pub tests : Bool → Bool → Bool → Bool → Outcome
   tests h few inside s = requests.first (cond h Done (Refused why.NoLabel)) (cond few (Refused why.TooFew) (cond inside (cond s Done (Refused why.NotNow)) (Refused why.BadBlock)))
 
-  ready_is : ready_of la i.kind i.absent img ≡ cond held Done (Refused why.NoLabel)
-  unfolding ready_of has_shelf
-  ready_is = by i.kind rest
-    where
-      image : fits_image (geometry_of la) (length img) ≡ true
-      image = subst (λ (g : Geometry). fits_image g (length img) ≡ true) (sym (shelf_geometry z la own)) (image_fits z img disks)
-
-      by : (k : Kind) → is_idle k ≡ true → ready_of la k i.absent img ≡ cond held Done (Refused why.NoLabel)
-      by Idle e = ap₂ (λ (x y : Bool). cond x (cond y (cond held Done (Refused why.NoLabel)) (Refused why.BadImage)) (Refused why.NotNow)) fits image
-      by Nothing e = absurd (false≢true e)
-      by Creating e = absurd (false≢true e)
-      by Starting e = absurd (false≢true e)
-      by Labelling e = absurd (false≢true e)
-      by Writing e = absurd (false≢true e)
-      by Beginning e = absurd (false≢true e)
-      by Filling e = absurd (false≢true e)
-
-  abbrev asked : Outcome
+  abbrev pub asked : Outcome
   asked = may_repair la i.kind i.absent i.count t img
-
-  may_is : asked ≡ tests held (too_few la i.absent) (ltb t (stripes_of (geometry_of la))) sense
-  unfolding stripe_answer answered
-  may_is =
-      ap₂ (λ (o : Outcome) (x : Bool). requests.first o (cond (too_few la i.absent) (Refused why.TooFew) (cond (ltb t (stripes_of (geometry_of la))) (cond x (cond sense Done (Refused why.NotNow)) (Refused why.Busy)) (Refused why.BadBlock)))) ready_is rest
-
-  -- nobody is accused by the one where nobody is by the other
-  by_verdict : asked ≡ Done → ltb t (stripes_of (geometry z)) ≡ true → P (mend_answer w.found la (length work))
-  unfolding sized_answer
-  by_verdict e inside = by w.found refl
-    where
-      found_is : blamed ≡ accuses w.found
-      found_is =
-          let g = strips_of (size z) (no_sets num) (records z) (any_code z) (seen z img i t) t in
-          blames_so ((any_code z).scrub t g)
-          ∙ ap accuses (sym (mend_finds z t img (all_slots num) g (sees_all z img disks i own t (may_whole i img t e)) (none_lost_lem num t (some_slots z)) w.found w.stripe
-          (repaired_here z la own img t w.found w.stripe (w.repaired e).0)))
-
-      by : (v : Verdict) → w.found ≡ v → P (mend_answer v la (length work))
-      by (verdict.Accused r) q = go (sized_of la (length work))
-        where
-          go : (a : Bool) → P (cond a Done (Refused why.BadBuffer))
-          go true = tt
-          go false = tt
-      by verdict.Sound q = nobody inside (found_is ∙ ap accuses q)
-      by verdict.Unsound q = nobody inside (found_is ∙ ap accuses q)
-      by (verdict.Refused x) q = nobody inside (found_is ∙ ap accuses q)
-
-  -- ---- each way out
-
-  refused_by : (h few inside s : Bool) → too_few la i.absent ≡ few → ltb t (stripes_of (geometry z)) ≡ inside → sense ≡ s → asked ≡ tests h few inside s
-      → P (requests.first (tests h few inside s) (mend_answer w.found la (length work)))
-  refused_by false few inside s a c d e = tt
-  refused_by true true true s a c d e = (NOT_NOW, none_in c (some_out (few_none a)))
-  refused_by true true false s a c d e = (BAD_BLOCK, outside c)
-  refused_by true false false s a c d e = outside c
-  refused_by true false true true a c d e = by_verdict e c
-  refused_by true false true false a c d e = by (stamp_left i.count) refl
-    where
-      by : (x : Bool) → stamp_left i.count ≡ x → P (Refused why.NotNow)
-      by false q = no_stamp c (left_is z img i t ∙ q)
-      by true q = none_in c (some_out (sym (ap (λ (x : Bool). x && none_missing la i.absent) q) ∙ d))
-
-  -- A REPAIR THAT THE CODE REFUSES AT REST
-  pub repair_refused_says : (x : Refusal) → b.outcome ≡ Refused x → Refuses x z img i t
-  repair_refused_says x e =
-      let same : ltb t (stripes_of (geometry_of la)) ≡ ltb t (stripes_of (geometry z)) = ap (λ (g : Geometry). ltb t (stripes_of g)) (shelf_geometry z la own) in
-      let so = may_is ∙ ap (λ (a : Bool). tests held (too_few la i.absent) a sense) same in
-      let o : Outcome = tests held (too_few la i.absent) (ltb t (stripes_of (geometry z))) sense in
-      subst P (sym (ap (λ (y : Begun). y.outcome) w.answers ∙ ap (λ (y : Outcome). (begun (requests.first y (mend_answer w.found la (length work))) i (mended i t w.found)).outcome) so) ∙ e)
-      (kept (requests.first o (mend_answer w.found la (length work))) (mended i t w.found) (refused_by held (too_few la i.absent) (ltb t (stripes_of (geometry z))) sense refl refl refl so))

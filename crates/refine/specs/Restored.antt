@@ -14,11 +14,8 @@ use Rattle.disk.specs.Tests.{both}
 use Rattle.disk.specs.Image.{place, Shape, fits_image}
 use Rattle.disk.specs.declared.refusal.Outcome.TheVariants as outcome
 use Rattle.record.specs.Log.{part, area_of, restore_of, restore_answer, after_restore, area_part}
-use Rattle.protocol.specs.World.{log}
 use Rattle.codecs.specs.Shelf.{Shelf, slots, geometry, limits, strips_fit}
-use Rattle.codecs.specs.Records.{piece_of}
-use Rattle.refine.specs.Places.{sector_of, log_inside}
-use Rattle.refine.specs.Disks.{Disks, cur_of, image_fits, cur_bytes}
+use Rattle.refine.specs.Disks.{Disks, image_fits}
 
 module _ (z : Shelf) (img : List ℕ) (disks : Disks z img) (d : ℕ) (below : d < slots z) where
   abbrev start : ℕ
@@ -27,12 +24,12 @@ module _ (z : Shelf) (img : List ℕ) (disks : Disks z img) (d : ℕ) (below : d
   abbrev size : ℕ
   size = (z.c + 1) * sector_bytes
 
-  room : start + size ≤ length img
+  pub room : start + size ≤ length img
   unfolding Shape
   room =
       omega (arith, disks.shape, mul-le-mul_right z.sectors below, suc-mul d z.sectors, (limits z).0.room, (limits z).0.short)
 
-  area_is : area_of (geometry z) img d ≡ take size (drop start img)
+  pub area_is : area_of (geometry z) img d ≡ take size (drop start img)
   unfolding area_of
   area_is =
       ap (λ (b : Bool). cond b (take size (drop start img)) [])
@@ -44,15 +41,3 @@ module _ (z : Shelf) (img : List ℕ) (disks : Disks z img) (d : ℕ) (below : d
   restores j l =
       let e : length (area_of (geometry z) img d) ≡ size = ap length area_is ∙ length-take-le size (drop start img) (omega (arith, room, length-drop start img)) in
       rw (strips_fit z, lt-ltb j z.c l, eq-eqb (length (area_of (geometry z) img d)) size e)
-
-  -- sector j of it is what its place holds
-  part_is : (j : ℕ) → j ≤ z.c → part (area_of (geometry z) img d) j ≡ (cur_of z img (log d j)).bytes
-  unfolding sector_of
-  part_is j l = ap (λ (a : List ℕ). part a j) area_is ∙ area_part z.sectors d z.c j img room l ∙ sym (cur_bytes z img disks (log d j) (log_inside z d j below l))
-
-  pub piece_is : (j : ℕ) → j < z.c
-      → after_restore outcome.Done (area_of (geometry z) img d) z.c j (replicate sector_bytes 0) ≡ (piece_of z (cur_of z img (log d z.c)) (cur_of z img (log d j)) j).bytes
-  unfolding piece_of
-  piece_is j l =
-      ap₂ (λ (x y : List ℕ). restore_of x y j) (part_is j (omega arith)) (part_is z.c (omega arith))
-      ∙ ap (restore_of (cur_of z img (log d j)).bytes (cur_of z img (log d z.c)).bytes) (sym (mod-eq_of_lt l))

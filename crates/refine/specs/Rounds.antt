@@ -11,11 +11,11 @@ use Rattle.std.specs.Int.Count.{ones}
 use Rattle.std.proofs.Math.Dec.{ltb, eqb, leb}
 use Rattle.std.proofs.lemmas.Bool.{not-true}
 use Rattle.disk.specs.Tests.{and_left, and_right}
-use Rattle.disk.specs.Image.{fits_image, fits_image_lem, lt_or_ge}
-use Rattle.disk.specs.Mask.{in_mask, mask_lt, mask_below, mask_past, in_past}
+use Rattle.disk.specs.Image.{fits_image, fits_image_lem}
+use Rattle.disk.specs.Mask.{in_mask}
 use Rattle.disk.specs.declared.geometry.Geometry.{Geometry}
-use Rattle.label.specs.Fields.{no_slot, most_generation, geometry_of, fits_of}
-use Rattle.label.specs.Newest.{copy_of, disk_label, present_label, shelf_label, same_shelf, agreed}
+use Rattle.label.specs.Fields.{no_slot, geometry_of, fits_of}
+use Rattle.label.specs.Newest.{shelf_label, agreed}
 use Rattle.label.specs.declared.fields.Label as bytes
 use Rattle.label.specs.declared.codec.Decoded.{Decoded}
 use Rattle.label.specs.declared.codec.Decoded.TheVariants.{Valid, Nothing}
@@ -27,25 +27,21 @@ use Rattle.rounds.specs.Survey.{slots_that, next_of, fits_shelf}
 use Rattle.rounds.specs.Plans.{Grounds}
 use Rattle.rounds.specs.declared.plan.Plan as plan
 use Rattle.rounds.specs.declared.slot.Question.TheVariants.{Out, Parts, Late, Zeroed, Kept}
-use Rattle.protocol.specs.World.{label, Image}
-use Rattle.protocol.specs.Label.{Label, again, plainly_out as plainly_out', copy, prep_value}
-use Rattle.protocol.specs.Label as Label
-use Rattle.protocol.specs.Startup.{M, without, next}
+use Rattle.protocol.specs.World.{Image}
+use Rattle.protocol.specs.Label.{copy}
+use Rattle.protocol.specs.Startup.{M}
 use Rattle.protocol.specs.Startup as Startup
-use Rattle.protocol.specs.Program.{NO_LABEL, TOO_FEW, NOT_NOW, Verdict, clear, first, beyond, left_out as left_out', may_start}
-use Rattle.protocol.specs.Even.{may_start_by}
+use Rattle.protocol.specs.Program.{TOO_FEW, NOT_NOW, Verdict, first, beyond, left_out as left_out'}
 use Rattle.protocol.specs.Pairs.{no_sets}
-use Rattle.codecs.specs.Sector.{Sector, Bytes, zeros}
+use Rattle.codecs.specs.Sector.{Sector, Bytes}
 use Rattle.codecs.specs.Shelf.{Shelf, slots, geometry, size, few_slots}
-use Rattle.codecs.specs.Labels.{no_label, label_of, ours, meant, slot_meant, side_of, encode_label, labels, sector_side}
-use Rattle.codecs.specs.Labels as Labels
-use Rattle.codecs.specs.Records.{records}
-use Rattle.codecs.specs.Media.{stamps, medium}
-use Rattle.shards.specs.Quorum.{few_of, few_mask}
-use Rattle.shards.specs.Even.{any_code, any_sectors}
+use Rattle.codecs.specs.Labels.{slot_meant, side_of}
+use Rattle.codecs.proofs.Labels.{labels}
+use Rattle.codecs.proofs.Records.{records}
+use Rattle.codecs.specs.Media.{stamps}
+use Rattle.shards.proofs.Even.{any_code, any_sectors}
 use Rattle.refine.specs.Disks.{seen_of}
-use Rattle.refine.specs.Family.{Family, code_in, sectors_in}
-use Rattle.refine.specs.Labels.{shelf_of, shelf_ours, named, Led, labelled_is, copy_is, newest_of_lem, seen_of_lem, M_is, L_is}
+use Rattle.refine.specs.Labels.{shelf_of, shelf_ours, named, Led}
 
 -- the slot being rebuilt: the same test of a slot, whether n or 255 stands for none
 pub slot_test : (z : Shelf) (r d : ℕ) → d < slots z → eqb d (slot_meant (slots z) r) ≡ eqb d r
@@ -56,232 +52,29 @@ slot_test z r d h = by (eqb r no_slot) refl
     by false e = refl
 
 module _ (z : Shelf) (img : List ℕ) (absent : ℕ) (A : ℕ → Bool) (l : bytes.Label) (led : Led z img absent A l) where
-  abbrev f0 : Image Sector
+  abbrev pub f0 : Image Sector
   f0 = seen_of z A img
 
-  abbrev gone_of : ℕ → Bool
+  abbrev pub gone_of : ℕ → Bool
   gone_of = Startup.gone (size z) (labels z) A f0
-
-  -- ---- who is gone
-
-  plainly_same : (a : bytes.Label) (d : ℕ) → d < slots z → plainly_out' (label_of z a) d ≡ plainly_out a d
-  unfolding plainly_out
-  plainly_same a d h = ap (λ (b : Bool). in_mask a.out d && not b) (slot_test z a.rebuilding d h)
-
-  pub stale_is : (d : ℕ) → d < slots z → in_mask absent d ≡ false → Startup.stale (size z) (labels z) A f0 d ≡ Slot.stale (geometry z) img absent l d
-  unfolding Slot.stale Slot.behind Slot.disowned Startup.behind Startup.disowned present_label
-  stale_is d h e =
-      let s = agreed_says (geometry z) img absent l led.agree d h e in
-      let a = s.label in
-      let p1 = seen_of_lem z img absent A l led d a h e s.is in
-      let p2 = M_is z img absent A l led in
-      let p3 = newest_of_lem z img absent A l led d a h e s.is in
-      let p4 = L_is z img absent A l led in
-      let there : present_label (geometry z) img absent d ≡ Valid a = ap (λ (b : Bool). cond b Nothing (disk_label (geometry z) img d)) e ∙ s.is in
-      (λ i. Startup.behind (p1 i) (p2 i) || Startup.disowned (p3 i) (p4 i) d)
-      ∙ ap₂ (λ (x y : Bool). ltb (suc a.generation) l.generation || (x && not y)) (plainly_same a d h) (plainly_same l d h)
-      ∙ ap (λ (x : ℕ). ltb x l.generation || (plainly_out a d && not (plainly_out l d))) (let q : suc a.generation ≡ a.generation + 1 = omega arith in q)
-      ∙ sym (ap (λ (x : Decoded). ltb (age_of x + 1) l.generation || (calls_out x d && not (plainly_out l d))) there)
-
-  pub gone_is : (d : ℕ) → gone_of d ≡ Slot.gone (geometry z) img absent l d
-  unfolding Slot.gone Startup.gone
-  gone_is d = ⊎_elim (λ (h : d < slots z). below h (in_mask absent d) refl) (λ (h : slots z ≤ d). rw (le-ltb d (slots z) h)) (lt_or_ge d (slots z))
-    where
-      below : d < slots z → (b : Bool) → in_mask absent d ≡ b
-          → (ltb d (slots z) && (A d || Startup.stale (size z) (labels z) A f0 d)) ≡ (ltb d (slots z) && (in_mask absent d || Slot.stale (geometry z) img absent l d))
-      below h true e =
-          ap (λ (b : Bool). ltb d (slots z) && (b || Startup.stale (size z) (labels z) A f0 d)) (led.are d h ∙ e)
-          ∙ sym (ap (λ (b : Bool). ltb d (slots z) && (b || Slot.stale (geometry z) img absent l d)) e)
-      below h false e = ap₂ (λ (b c : Bool). ltb d (slots z) && (b || c)) (led.are d h) (stale_is d h e)
-
-  gone_past : (d : ℕ) → slots z ≤ d → Slot.gone (geometry z) img absent l d ≡ false
-  unfolding Slot.gone
-  gone_past d h = rw (le-ltb d (slots z) h)
-
-  -- ---- the settled label
-
-  same : SameShelf (Labels.fields_of z 0 (no_label z)) l
-  same = same_says (Labels.fields_of z 0 (no_label z)) l led.own
-
-  out_past : (d : ℕ) → slots z ≤ d → in_mask l.out d ≡ false
-  out_past d h =
-      let f = fits_says l (named (geometry z) img absent l led.disks.small led.leads).0 in
-      in_past (l.k + l.m) l.out d f.out_below (omega (arith, same.same_k, same.same_m))
-
-  -- Out', as the protocol says it, and as a mask
-  out_is : (d : ℕ) → (in_mask l.out d || gone_of d) ≡ in_mask (slots_that (geometry z) img absent Out l) d
-  unfolding slots_that goes_out
-  out_is d =
-      ap (λ (b : Bool). in_mask l.out d || b) (gone_is d)
-      ∙ ⊎_elim (λ (h : d < slots z). sym (mask_below (goes_out (geometry z) img absent l) (slots z) d h))
-      (λ (h : slots z ≤ d). ap₂ (λ (a b : Bool). a || b) (out_past d h) (gone_past d h) ∙ sym (mask_past (goes_out (geometry z) img absent l) (slots z) d h))
-      (lt_or_ge d (slots z))
-
-  -- whether the slot being rebuilt is gone
-  gone_slot : gone_of (slot_meant (slots z) l.rebuilding) ≡ Slot.gone (geometry z) img absent l l.rebuilding
-  gone_slot = by (eqb l.rebuilding no_slot) refl
-    where
-      by : (b : Bool) → eqb l.rebuilding no_slot ≡ b → gone_of (cond b (slots z) l.rebuilding) ≡ Slot.gone (geometry z) img absent l l.rebuilding
-      by true e = gone_is (slots z) ∙ gone_past (slots z) (omega arith) ∙ sym (gone_past l.rebuilding (omega (arith, eqb-true l.rebuilding no_slot e, few_slots z)))
-      by false e = gone_is l.rebuilding
-
-  pub next_is : next (size z) (labels z) A f0 (suc (suc (M (size z) (labels z) A f0))) ≡ label_of z (next_of (geometry z) img absent l)
-  unfolding next_of
-  next_is =
-      let n = slots z in
-      let r = l.rebuilding in
-      let gen : suc (suc (M (size z) (labels z) A f0)) ≡ l.generation + 2 = omega (arith, M_is z img absent A l led) in
-      let o : ◌≡◌ {A = ℕ → Bool} (λ d. in_mask l.out d || gone_of d) (in_mask (slots_that (geometry z) img absent Out l)) = fun_ext out_is in
-      let s : cond (gone_of (slot_meant n r)) n (slot_meant n r) ≡ slot_meant n (cond (Slot.gone (geometry z) img absent l r) no_slot r) =
-      ap (λ (b : Bool). cond b n (slot_meant n r)) gone_slot ∙ ended (Slot.gone (geometry z) img absent l r) in
-      let m : cond (gone_of (slot_meant n r)) 0 l.mark ≡ cond (Slot.gone (geometry z) img absent l r) 0 l.mark = ap (λ (b : Bool). cond b 0 l.mark) gone_slot in
-      ap (λ (x : Label). without n x gone_of (suc (suc (M (size z) (labels z) A f0)))) (L_is z img absent A l led)
-      ∙ (λ i. record { generation = gen i; out = o i; rebuilding = s i; mark = m i })
-    where
-      ended : (b : Bool) → cond b (slots z) (slot_meant (slots z) l.rebuilding) ≡ slot_meant (slots z) (cond b no_slot l.rebuilding)
-      ended true = refl
-      ended false = refl
 
   -- ---- whether few enough are out
 
-  abbrev left_out : ℕ → Bool
+  abbrev pub left_out : ℕ → Bool
   left_out = left_out' (size z) (no_sets (slots z)) (labels z) (records z) (any_code z) stamps (any_sectors z) A f0
 
-  pub left_out_is : (d : ℕ) → left_out d ≡ in_mask (slots_that (geometry z) img absent Out l) d
-  unfolding left_out'
-  left_out_is d = ap (λ (x : Label). x.out d || gone_of d) (L_is z img absent A l led) ∙ out_is d
-
-  pub few_is : few_of z left_out ≡ leb (ones (slots_that (geometry z) img absent Out l)) l.m
-  unfolding slots_that
-  few_is =
-      ap (few_of z) (fun_ext left_out_is)
-      ∙ few_mask z (slots_that (geometry z) img absent Out l) (mask_lt (goes_out (geometry z) img absent l) (slots z))
-      ∙ ap (leb (ones (slots_that (geometry z) img absent Out l))) same.same_m
-
-  -- ---- who takes part, and who adopts
-
-  pub parts_is : (d : ℕ) → d < slots z → in_mask (slots_that (geometry z) img absent Parts l) d ≡ not (gone_of d)
-  unfolding slots_that
-  parts_is d h = mask_below (asked Parts (geometry z) img absent l) (slots z) d h ∙ ap not (sym (gone_is d))
-
-  pub late_is : (d : ℕ) → d < slots z → in_mask (slots_that (geometry z) img absent Late l) d ≡ (not (A d) && Startup.stale (size z) (labels z) A f0 d)
-  unfolding slots_that adopts
-  late_is d h = mask_below (asked Late (geometry z) img absent l) (slots z) d h ∙ sym (by (in_mask absent d) refl)
-    where
-      by : (b : Bool) → in_mask absent d ≡ b → (not (A d) && Startup.stale (size z) (labels z) A f0 d) ≡ (not (in_mask absent d) && Slot.stale (geometry z) img absent l d)
-      by true e = ap (λ (b : Bool). not b && Startup.stale (size z) (labels z) A f0 d) (led.are d h ∙ e) ∙ sym (ap (λ (b : Bool). not b && Slot.stale (geometry z) img absent l d) e)
-      by false e = ap₂ (λ (b c : Bool). not b && c) (led.are d h) (stale_is d h e)
-
-  -- ---- what a slot that adopts is given first
-
-  ours_lead : (b : bytes.Label) → ours z b ≡ same_shelf l b
-  unfolding same_shelf
-  ours_lead b = λ i.
-      eqb (same.same_k i) b.k
-      && (eqb (same.same_m i) b.m
-      && (eqb (same.same_c i) b.c && (eqb (same.same_sectors i) b.sectors && eqb (same.same_number i) b.shelf)))
-
-  age_same : (x : Decoded) → (meant z x).generation ≡ age_under l x
-  age_same Nothing = refl
-  age_same (Valid b) = ap (λ (t : Bool). (cond t (label_of z b) (no_label z)).generation) (ours_lead b) ∙ go (same_shelf l b)
-    where
-      go : (t : Bool) → (cond t (label_of z b) (no_label z)).generation ≡ cond t b.generation 0
-      go true = refl
-      go false = refl
-
-  -- the generation of the copy in the sector of generation q
-  pub copy_age_lem : (d q : ℕ) → d < slots z → in_mask absent d ≡ false → (copy (labels z) f0 d (side_of q)).generation ≡ copy_age (geometry z) img l d (q % 2)
-  unfolding copy_age
-  copy_age_lem d q h e =
-      ap (λ (x : Label). x.generation) (copy_is z img led.disks absent A led.are d (side_of q) h e)
-      ∙ ap (λ (s : ℕ). (meant z (copy_of (geometry z) img d s)).generation) (sector_side q) ∙ age_same (copy_of (geometry z) img d (q % 2))
-
   -- M + 1
-  abbrev after : ℕ
+  abbrev pub after : ℕ
   after = suc (M (size z) (labels z) A f0)
-
-  pub after_is : after ≡ l.generation + 1
-  after_is = omega (arith, M_is z img absent A l led)
 
   -- the sector that is not the settled label's may be wiped
   abbrev pub may_wipe : ℕ → Bool
   may_wipe d = ltb 0 (copy (labels z) f0 d (side_of (suc after))).generation || eqb (copy (labels z) f0 d (side_of after)).generation 0
 
-  pub prepared_is : (d : ℕ) → d < slots z → in_mask absent d ≡ false → Label.prepared (labels z) f0 after d ≡ Slot.prepared (geometry z) img l d
-  unfolding Slot.prepared
-  prepared_is d h e =
-      ap (λ (q : ℕ). eqb (copy (labels z) f0 d (side_of q)).generation q) after_is ∙ ap (λ (x : ℕ). eqb x (l.generation + 1)) (copy_age_lem d (l.generation + 1) h e)
-
-  pub wiped_is : (d : ℕ) → d < slots z → in_mask absent d ≡ false → may_wipe d ≡ wiped (geometry z) img l d
-  unfolding wiped
-  wiped_is d h e =
-      let q : suc after ≡ l.generation + 2 = omega (arith, after_is) in
-      ap₂ (λ (x y : ℕ). ltb 0 (copy (labels z) f0 d (side_of x)).generation || eqb (copy (labels z) f0 d (side_of y)).generation 0) q after_is
-      ∙ ap₂ (λ (x y : ℕ). ltb 0 x || eqb y 0) (copy_age_lem d (l.generation + 2) h e) (copy_age_lem d (l.generation + 1) h e)
-
-  given : (d : ℕ) → d < slots z → (P : Bool → Bool → Bool)
-      → (adopts (geometry z) img absent l d && P (Slot.prepared (geometry z) img l d) (wiped (geometry z) img l d)) ≡ (adopts (geometry z) img absent l d && P (Label.prepared (labels z) f0 after d) (may_wipe d))
-  unfolding adopts
-  given d h P = by (in_mask absent d) refl
-    where
-      by : (b : Bool) → in_mask absent d ≡ b
-          → ((not (in_mask absent d) && Slot.stale (geometry z) img absent l d) && P (Slot.prepared (geometry z) img l d) (wiped (geometry z) img l d))
-          ≡ ((not (in_mask absent d) && Slot.stale (geometry z) img absent l d) && P (Label.prepared (labels z) f0 after d) (may_wipe d))
-      by true e = rw e
-      by false e = ap₂ (λ (p w : Bool). (not (in_mask absent d) && Slot.stale (geometry z) img absent l d) && P p w) (sym (prepared_is d h e)) (sym (wiped_is d h e))
-
-  -- of those that adopt, these get zeros; and these the new content
-  pub zeroed_is : (d : ℕ) → d < slots z
-      → in_mask (slots_that (geometry z) img absent Zeroed l) d ≡ (in_mask (slots_that (geometry z) img absent Late l) d && (not (Label.prepared (labels z) f0 after d) && may_wipe d))
-  unfolding slots_that gets_zeros
-  zeroed_is d h =
-      mask_below (asked Zeroed (geometry z) img absent l) (slots z) d h
-      ∙ given d h (λ (p w : Bool). not p && w)
-      ∙ ap (λ (b : Bool). b && (not (Label.prepared (labels z) f0 after d) && may_wipe d)) (sym (mask_below (asked Late (geometry z) img absent l) (slots z) d h))
-
-  pub kept_is : (d : ℕ) → d < slots z
-      → in_mask (slots_that (geometry z) img absent Kept l) d ≡ (in_mask (slots_that (geometry z) img absent Late l) d && (not (Label.prepared (labels z) f0 after d) && not (may_wipe d)))
-  unfolding slots_that gets_label
-  kept_is d h =
-      mask_below (asked Kept (geometry z) img absent l) (slots z) d h
-      ∙ given d h (λ (p w : Bool). not p && not w)
-      ∙ ap (λ (b : Bool). b && (not (Label.prepared (labels z) f0 after d) && not (may_wipe d))) (sym (mask_below (asked Late (geometry z) img absent l) (slots z) d h))
-
-  -- what they get, in the protocol's words; `new` is the settled label
-  module _ (new : Label) (d : ℕ) (h : d < slots z) where
-    pub zeroed_value : in_mask (slots_that (geometry z) img absent Zeroed l) d ≡ true → prep_value (labels z) f0 after new (label d (side_of after)) ≡ zeros
-    zeroed_value e =
-        let w = and_right (not (Label.prepared (labels z) f0 after d)) (may_wipe d) (and_right (in_mask (slots_that (geometry z) img absent Late l) d) _ (sym (zeroed_is d h) ∙ e)) in
-        ap (λ (b : Bool). cond b zeros (encode_label z d (again new after))) w
-
-    pub kept_value : in_mask (slots_that (geometry z) img absent Kept l) d ≡ true → prep_value (labels z) f0 after new (label d (side_of after)) ≡ encode_label z d (again new after)
-    kept_value e =
-        let w = and_right (not (Label.prepared (labels z) f0 after d)) (not (may_wipe d)) (and_right (in_mask (slots_that (geometry z) img absent Late l) d) _ (sym (kept_is d h) ∙ e)) in
-        ap (λ (b : Bool). cond b zeros (encode_label z d (again new after))) (not-true (may_wipe d) w)
-
   -- ---- the refusals of the table, once each present disk has a label that agrees
 
   abbrev pub verdict : Bool → Bool → Verdict
   verdict few left = first (record { why = TOO_FEW; holds = not few } ∷ record { why = NOT_NOW; holds = not left } ∷ [])
-
-  pub start_is : may_start_by (size z) (no_sets (slots z)) (labels z) (records z) (any_code z) stamps (any_sectors z) (few_of z) A f0
-      ≡ verdict (leb (ones (slots_that (geometry z) img absent Out l)) l.m) (leb (l.generation + 2) most_generation)
-  unfolding any_sectors medium
-  start_is =
-      let p = labelled_is z img absent A l led in
-      let q = few_is in
-      let r : leb (suc after) most_generation ≡ leb (l.generation + 2) most_generation = ap (λ (x : ℕ). leb x most_generation) (let e : suc after ≡ l.generation + 2 = omega (arith, after_is) in e) in
-      λ i. first (record { why = NO_LABEL; holds = not (p i) } ∷ record { why = TOO_FEW; holds = not (q i) } ∷ record { why = NOT_NOW; holds = not (r i) } ∷ [])
-
-  -- START-UP MAY GO ON IN A FAMILY in which the slots lie that go out
-  pub start_in : (F : Family z) → F.sets.few (in_mask (slots_that (geometry z) img absent Out l)) ≡ true → leb (l.generation + 2) most_generation ≡ true
-      → may_start (size z) F.sets (labels z) (records z) (code_in z F) stamps (sectors_in z F) A f0 ≡ clear
-  unfolding any_sectors medium left_out'
-  start_in F few left =
-      let p = labelled_is z img absent A l led in
-      let q : F.sets.few left_out ≡ true = ap F.sets.few (fun_ext left_out_is) ∙ few in
-      let r : leb (suc after) most_generation ≡ true = ap (λ (x : ℕ). leb x most_generation) (let e : suc after ≡ l.generation + 2 = omega (arith, after_is) in e) ∙ left in
-      λ i. first (record { why = NO_LABEL; holds = not (p i) } ∷ record { why = TOO_FEW; holds = not (q i) } ∷ record { why = NOT_NOW; holds = not (r i) } ∷ [])
 
 -- ---- FROM A PLAN: the shelf that its label names, and all that is said above of it
 

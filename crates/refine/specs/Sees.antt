@@ -11,31 +11,23 @@ use Rattle.std.proofs.Math.Seq.{ext_get_or}
 use Rattle.std.proofs.lemmas.Bool.{not-true}
 use Rattle.disk.specs.Tests.{and_right}
 use Rattle.disk.specs.Limits.{sector_bytes}
-use Rattle.disk.specs.Geometry.{stripes_of}
 use Rattle.disk.specs.Mask.{in_mask, mask_below}
 use Rattle.disk.specs.declared.geometry.Geometry.{Geometry}
 use Rattle.label.specs.Fields.{geometry_of}
 use Rattle.label.specs.declared.fields.Label as bytes
 use Rattle.redo.specs.Decide.{believed}
 use Rattle.protocol.specs.Label as Label
-use Rattle.protocol.specs.Host.{strips_of}
-use Rattle.protocol.specs.Program.{beyond}
-use Rattle.protocol.specs.Pairs.{no_sets}
 use Rattle.codecs.specs.Sector.{Sector, Bytes}
 use Rattle.codecs.specs.Shelf.{Shelf, slots, geometry, size}
 use Rattle.codecs.specs.Labels.{label_of, ours}
-use Rattle.codecs.specs.Records.{strip_bytes, length_strip, records}
+use Rattle.codecs.specs.Records.{strip_bytes}
+use Rattle.codecs.proofs.Records.{length_strip}
 use Rattle.shards.specs.Parity.{byte_of}
 use Rattle.shards.specs.Parity as Parity
-use Rattle.shards.specs.Even.{any_code}
-use Rattle.views.specs.Seen.{Lying}
 use Rattle.blocks.specs.Slots.{there_at, there}
 use Rattle.refine.specs.Given.{shelf_geometry}
-use Rattle.refine.specs.Disks.{Disks, seen_of}
 use Rattle.refine.specs.Keeps.{strip_byte}
 use Rattle.refine.specs.Redo.{believe_is}
-use Rattle.refine.specs.Rounds.{beyond_below}
-use Rattle.refine.specs.Strips.{lying_seen}
 
 -- ---- a block's bytes, as sectors
 
@@ -84,9 +76,3 @@ module _ (z : Shelf) (l : bytes.Label) (own : ours z l ≡ true) (absent t : ℕ
       by true e true q = absurd (dark d i e ((Label.belief (size z) (label_of z l)).believe_look d t (believe_is z l d t ∙ q)))
       by false e true q = refl
       by a e false q = refl
-
-  -- their strips are those that the protocol's program sees
-  pub there_lying : (img : List ℕ) → Disks z img → t < stripes_of (geometry z)
-      → Lying z t img seen_slots (strips_of (size z) (no_sets (slots z)) (records z) (any_code z) (seen_of z (beyond (slots z) (in_mask absent)) img) t)
-  there_lying img disks i =
-      lying_seen z img disks (beyond (slots z) (in_mask absent)) t seen_slots i (λ d h e. beyond_below (slots z) absent d h ∙ there_present d h e)

@@ -13,31 +13,23 @@ use Rattle.redo.specs.Decide.{looked, redo_of}
 use Rattle.redo.specs.declared.Redo.TheVariants.{Forward, Kill}
 use Rattle.rounds.specs.Survey.{slots_that, next_of}
 use Rattle.rounds.specs.declared.slot.Question.TheVariants.{Parts, Late, Zeroed, Kept}
-use Rattle.protocol.specs.World.{Place, label, log, strip, slot, Image, Action, put}
-use Rattle.protocol.specs.Batch.{puts, flushes, actions}
-use Rattle.protocol.specs.Slots.{from, of_from, keep, slots, rows, of_rows, of_slots}
-use Rattle.protocol.specs.Label.{Label, again, belief, prepared, prep, prep_value, round, round_batch}
-use Rattle.protocol.specs.Label as Label
+use Rattle.protocol.specs.World.{label, log, strip, slot, Image, Action}
+use Rattle.protocol.specs.Batch.{puts, flushes}
+use Rattle.protocol.specs.Slots.{from, of_from, keep, slots, rows}
+use Rattle.protocol.specs.Label.{Label, again, belief}
 use Rattle.protocol.specs.Log.{Belief}
-use Rattle.protocol.specs.Write.{stored, store_batch, stored_sectors, involved}
-use Rattle.protocol.specs.Startup.{M, next, stale, rounds, level_to, again_to, last_to}
-use Rattle.protocol.specs.Startup as Startup
-use Rattle.protocol.specs.Decide.{in_turn, startup}
-use Rattle.protocol.specs.Redo.{key, lead, tail, redone, forward, marked, kill_batch, redo}
-use Rattle.protocol.specs.Program.{flushed_first}
-use Rattle.protocol.specs.Walk.{prep_walk}
-use Rattle.protocol.specs.Pairs.{no_sets}
-use Rattle.codecs.specs.Sector.{Sector, zeros}
+use Rattle.protocol.specs.Write.{stored}
+use Rattle.protocol.specs.Startup.{M}
+use Rattle.protocol.specs.Redo.{redone, redo}
+use Rattle.codecs.specs.Sector.{Sector}
+use Rattle.codecs.proofs.Sector.{zeros}
 use Rattle.codecs.specs.Shelf.{Shelf, geometry, size}
 use Rattle.codecs.specs.Shelf as Shelf
-use Rattle.codecs.specs.Labels.{label_of, side_of, encode_label, labels}
-use Rattle.codecs.specs.Records.{stamp_in, stripe_in, changes_in, records}
-use Rattle.codecs.specs.Media.{stamps}
-use Rattle.shards.specs.Even.{any_code, any_sectors}
-use Rattle.refine.specs.Disks.{Disks, seen_of}
-use Rattle.refine.specs.Labels.{Led, L_is}
-use Rattle.refine.specs.Redo.{Fair, redo_forward, redo_kill}
-use Rattle.refine.specs.Rounds.{after_is, parts_is, late_is, next_is, may_wipe, zeroed_is, kept_is, zeroed_value, kept_value}
+use Rattle.codecs.specs.Labels.{label_of, side_of}
+use Rattle.codecs.proofs.Labels.{encode_label, labels}
+use Rattle.codecs.proofs.Records.{records}
+use Rattle.refine.specs.Disks.{seen_of}
+use Rattle.refine.specs.Labels.{Led}
 
 -- ---- lists that go by the same slots, and puts of the same values
 
@@ -49,10 +41,6 @@ pub slots_same : (n : ℕ) (p q : ℕ → Bool) → ((d : ℕ) → d < n → p d
 unfolding slots
 slots_same n p q h = keep_same p q (from 0 n) (λ d m. h d (omega (arith, of_from n 0 d m)))
 
-puts_same : {X : Type 0} (v w : Place → X) (l : List Place) → ((k : Place) → Memᴰ k l → v k ≡ w k) → puts v l ≡ puts w l
-puts_same v w [] h = refl
-puts_same v w (k ∷ l) h = ap₂ (λ x (y : List (Action _)). put k x ∷ y) (h k (Memᴰ.head refl)) (puts_same v w l (λ j m. h j (Memᴰ.tail m)))
-
 -- ---- the stages of start-up
 
 module _ (z : Shelf) where
@@ -63,11 +51,11 @@ module _ (z : Shelf) where
       ++ flushes (slots (Shelf.slots z) slots_in)
 
 module _ (z : Shelf) (img : List ℕ) (absent : ℕ) (A : ℕ → Bool) (l : bytes.Label) (led : Led z img absent A l) where
-  abbrev f0 : Image Sector
+  abbrev pub f0 : Image Sector
   f0 = seen_of z A img
 
   -- M + 1
-  abbrev after : ℕ
+  abbrev pub after : ℕ
   after = suc (M (size z) (labels z) A f0)
 
   -- the plan's masks, and who is given something before it adopts
@@ -83,44 +71,6 @@ module _ (z : Shelf) (img : List ℕ) (absent : ℕ) (A : ℕ → Bool) (l : byt
   abbrev pub prep_in : ℕ → Bool
   prep_in d = zeroed_in d || in_mask (slots_that (geometry z) img absent Kept l) d
 
-  split : (a p w : Bool) → ((a && (p && w)) || (a && (p && not w))) ≡ (a && p)
-  split true true true = refl
-  split true true false = refl
-  split true false w = refl
-  split false p w = refl
-
-  prep_test : (d : ℕ) → d < Shelf.slots z → ((not (A d) && stale (size z) (labels z) A f0 d) && not (prepared (labels z) f0 after d)) ≡ prep_in d
-  prep_test d h =
-      let w = may_wipe z img absent A l led d in
-      let p = not (prepared (labels z) f0 after d) in
-      ap (λ (b : Bool). b && p) (sym (late_is z img absent A l led d h)) ∙ sym (split (late_in d) p w)
-      ∙ ap₂ (λ (a b : Bool). a || b) (sym (zeroed_is z img absent A l led d h)) (sym (kept_is z img absent A l led d h))
-
-  -- what is given
-  prep_values : (new : Label) (d : ℕ) → d < Shelf.slots z → prep_in d ≡ true
-      → prep_value (labels z) f0 after new (label d (side_of after)) ≡ cond (zeroed_in d) zeros (encode_label z d (again new after))
-  prep_values new d h e = by (zeroed_in d) refl
-    where
-      by : (b : Bool) → zeroed_in d ≡ b → prep_value (labels z) f0 after new (label d (side_of after)) ≡ cond b zeros (encode_label z d (again new after))
-      by true q = zeroed_value z img absent A l led new d h q
-      by false q = kept_value z img absent A l led new d h (sym (ap (λ (b : Bool). b || in_mask (slots_that (geometry z) img absent Kept l) d) q) ∙ e)
-
-  prep_giving : (new : Label) → prep (labels z) f0 after new (Startup.late (size z) (labels z) A f0) ≡ giving z prep_in zeroed_in (again new after)
-  unfolding slots
-  prep_giving new =
-      let n = Shelf.slots z in
-      let late : ℕ → Bool = λ d. not (A d) && stale (size z) (labels z) A f0 d in
-      let e : keep (λ d. late d && not (prepared (labels z) f0 after d)) (from 0 n) ≡ slots n prep_in = slots_same n (λ d. late d && not (prepared (labels z) f0 after d)) prep_in prep_test in
-      ap actions (prep_walk (labels z) (records z) (belief (size z) new) f0 after new n late)
-      ∙ ap (λ (ds : List ℕ). puts (prep_value (labels z) f0 after new) (rows (λ d j. label d (side_of after)) (0 ∷ []) ds) ++ flushes ds) e
-      ∙ ap (λ (x : List (Action Sector)). x ++ flushes (slots n prep_in))
-      (puts_same (prep_value (labels z) f0 after new) (λ k. cond (zeroed_in (slot k)) zeros (encode_label z (slot k) (again new after))) (rows (λ d j. label d (side_of after)) (0 ∷ []) (slots n prep_in))
-      (λ k m.
-      let y = of_rows (λ d j. label d (side_of after)) (0 ∷ []) (slots n prep_in) k m in
-      let i = of_slots prep_in n y.0 y.2 in
-      ap (prep_value (labels z) f0 after new) y.4 ∙ prep_values new y.0 i.0 i.1
-      ∙ sym (ap (λ (j : Place). cond (zeroed_in (slot j)) zeros (encode_label z (slot j) (again new after))) y.4)))
-
   -- ---- ALL OF IT
 
   abbrev pub planned : bytes.Label → bytes.Label → List (Action Sector)
@@ -132,24 +82,6 @@ module _ (z : Shelf) (img : List ℕ) (absent : ℕ) (A : ℕ → Bool) (l : byt
       ++ (giving z prep_in zeroed_in (again (label_of z new) (now.generation + 1)) ++ giving z late_in (λ d. false) (label_of z new)))))
       ++ redo (records z) (belief (size z) (label_of z new)) f0)
 
-  pub start_list : flushes (flushed_first (size z) (no_sets (Shelf.slots z)) (labels z) (records z) (any_code z) stamps (any_sectors z) A) ++ startup (size z) (labels z) (records z) A f0
-      ≡ planned l (next_of (geometry z) img absent l)
-  unfolding flushed_first startup in_turn rounds level_to again_to last_to round_batch
-  start_list =
-      let n = Shelf.slots z in
-      let C = labels z in
-      let a : slots n (λ d. not (A d)) ≡ slots n (λ d. not (in_mask absent d)) = slots_same n (λ d. not (A d)) (λ d. not (in_mask absent d)) (λ d h. ap not (led.are d h)) in
-      let p : slots n (λ d. not (Startup.gone (size z) C A f0 d)) ≡ slots n parts_in = slots_same n (λ d. not (Startup.gone (size z) C A f0 d)) parts_in (λ d h. sym (parts_is z img absent A l led d h)) in
-      let q : slots n (λ d. not (A d) && stale (size z) C A f0 d) ≡ slots n late_in = slots_same n (λ d. not (A d) && stale (size z) C A f0 d) late_in (λ d h. sym (late_is z img absent A l led d h)) in
-      let x = L_is z img absent A l led in
-      let y = next_is z img absent A l led in
-      let g = after_is z img absent A l led in
-      let r = prep_giving (next (size z) C A f0 (suc after)) ∙ (λ i. giving z prep_in zeroed_in (again (y i) (g i))) in
-      λ i.
-      flushes (a i)
-      ++ ((round C (x i) (p i) ++ (round C (again (x i) (g i)) (p i) ++ (round C (y i) (p i) ++ (r i ++ round C (y i) (q i)))))
-      ++ redo (records z) (belief (size z) (y i)) f0)
-
 -- ---- the log part: each slot of a mask gets its strip back from its record, or loses its tail; then a flush of each
 
 module _ (z : Shelf) (f : Image Sector) where
@@ -159,27 +91,3 @@ module _ (z : Shelf) (f : Image Sector) where
 
   abbrev pub wiping : (slots_in : ℕ → Bool) → List (Action Sector)
   wiping slots_in = puts (λ k. zeros) (rows (λ d j. log d z.c) (0 ∷ []) (slots (Shelf.slots z) slots_in)) ++ flushes (slots (Shelf.slots z) slots_in)
-
-module _ (z : Shelf) (l : bytes.Label) (img : List ℕ) (disks : Disks z img) (A : ℕ → Bool) (dark : (d : ℕ) → looked (geometry z) l d ≡ true → A d ≡ false) (fair : Fair z l img disks A dark) where
-  pub forward_list : (t m : ℕ) → redo_of (geometry z) img l ≡ Forward t m
-      → redo (records z) (belief (size z) (label_of z l)) (seen_of z A img) ≡ restoring z (seen_of z A img) (in_mask m) t (belief (size z) (label_of z l))
-  unfolding forward store_batch stored_sectors involved belief
-  forward_list t m e =
-      let r = redo_forward z l img disks A dark fair t m e in
-      let B = belief (size z) (label_of z l) in
-      let f = seen_of z A img in
-      let p = tail (records z) B f in
-      let q : slots (Shelf.slots z) (λ d. Label.believed (size z) (label_of z l) d (stripe_in p) && changes_in z p d) ≡ slots (Shelf.slots z) (in_mask m) =
-      slots_same (Shelf.slots z) (λ d. Label.believed (size z) (label_of z l) d (stripe_in p) && changes_in z p d) (in_mask m) (λ d h. sym (r.2 d h)) in
-      let s = r.1 in
-      r.0 ∙ (λ i. puts (stored (records z) (redone (records z) B f)) (rows (λ d j. strip d (s i) j) (from 0 z.c) (q i)) ++ flushes (q i))
-
-  pub kill_list : (m : ℕ) → redo_of (geometry z) img l ≡ Kill m
-      → redo (records z) (belief (size z) (label_of z l)) (seen_of z A img) ≡ wiping z (seen_of z A img) (in_mask m)
-  unfolding kill_batch marked belief
-  kill_list m e =
-      let r = redo_kill z l img disks A dark fair m e in
-      let B = belief (size z) (label_of z l) in
-      let f = seen_of z A img in
-      let test : ℕ → Bool = λ d. Label.looked (size z) (label_of z l) d && eqb (stamp_in (f (log d z.c))) (key (records z) B f (lead (records z) B f)) in
-      r.0 ∙ ap (λ (ds : List ℕ). puts (λ k. zeros) (rows (λ d j. log d z.c) (0 ∷ []) ds) ++ flushes ds) (slots_same (Shelf.slots z) test (in_mask m) (λ d h. sym (r.1 d h)))

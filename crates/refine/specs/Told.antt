@@ -13,7 +13,8 @@ use Rattle.label.specs.declared.fields.Label as bytes
 use Rattle.label.proofs.Fits.{Fits, fits_says}
 use Rattle.label.proofs.Counts.{SameShelf, same_says}
 use Rattle.codecs.specs.Shelf.{Shelf, slots}
-use Rattle.codecs.specs.Labels.{fields_of, slot_byte, slot_meant, no_label, label_of, ours, encode_label}
+use Rattle.codecs.specs.Labels.{fields_of, slot_byte, slot_meant, no_label, label_of, ours}
+use Rattle.codecs.proofs.Labels.{encode_label}
 
 -- ---- two masks with the same slots are one
 

@@ -11,16 +11,16 @@ use Rattle.disk.specs.Limits.{sector_bytes}
 use Rattle.disk.specs.Geometry.{slot_of, slot_lt}
 use Rattle.codeword.specs.Stripe.{InRange, Holds, Bytes, has}
 use Rattle.codeword.specs.Mend.{Mended, put, put_off, put_bytes}
-use Rattle.codeword.specs.Unique.{unique}
+use Rattle.codeword.proofs.Unique.{unique}
 use Rattle.protocol.specs.Count.{count}
 use Rattle.protocol.specs.Host.{accused, several}
 use Rattle.codecs.specs.Sector.{Sector}
 use Rattle.codecs.specs.Shelf.{Shelf, slots, some_slots}
 use Rattle.position.specs.Search.{all, all_at, all_of, some, some_of, first, first_is, first_lt}
-use Rattle.shards.specs.Quorum.{few_of, count_none, count_one}
+use Rattle.shards.specs.Quorum.{count_none, count_one}
 use Rattle.position.specs.Position.{holds, holds_true, holds_is, holds_same, padded, filled_off, filled_is, filled_blind}
 use Rattle.shards.specs.Parity.{byte, sector_ext}
-use Rattle.shards.specs.Strips.{position, position_bytes, missing_of, missing_few, missing_has, in_range_lem, blocks_from, blocks_byte, sound_in, mended_by, one_mends, scrub_of}
+use Rattle.shards.specs.Strips.{position, position_bytes, missing_of, missing_has, in_range_lem, blocks_from, blocks_byte, sound_in, mended_by, one_mends, scrub_of}
 
 -- ---- where two shards can be blamed for a position, none is to be
 
@@ -149,14 +149,6 @@ module _ (z : Shelf) (t : ℕ) where
     blocks_there e =
         sector_ext (blocks_from z t bad g i j) (g (slot_of (slots z) t i) j)
         (λ p l. blocks_byte z t bad g i j p l ∙ filled_off z.k z.m (missing_of z t bad) (position z t g j p) i (missing_has z t bad i hi ∙ e))
-
-    -- one whose slot is bad is that of the stripe y, which meets the equations and has the bytes of the k least shards that are there
-    pub blocks_found : few_of z bad ≡ true → bad (slot_of (slots z) t i) ≡ true → (p : ℕ) → p < sector_bytes → (y : ℕ → ℕ) → Bytes y → Holds z.k z.m y
-        → ((r : ℕ) → r < slots z → has (padded z.k z.m (missing_of z t bad)) r ≡ false → position z t g j p r ≡ y r) → byte (blocks_from z t bad g i j) p ≡ y i
-    blocks_found few e p l y by h off =
-        blocks_byte z t bad g i j p l
-        ∙ filled_is z.k z.m (in_range_lem z) (missing_of z t bad) (missing_few z t bad few) (position z t g j p) y (position_bytes z t g j p) by h off i hi
-        (missing_has z t bad i hi ∙ e)
 
     -- what the bad slots hold makes no difference, whatever the other strips are
     pub blocks_blind : (h : ℕ → ℕ → Sector) → ((d : ℕ) → d < slots z → bad d ≡ false → g d j ≡ h d j) → blocks_from z t bad g i j ≡ blocks_from z t bad h i j

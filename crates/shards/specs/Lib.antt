@@ -6,4 +6,3 @@ pub mod Strips
 pub mod Exact
 pub mod Code
 pub mod Promise
-pub mod Even

@@ -8,11 +8,12 @@ use Rattle.std.proofs.Math.Dec.{ltb}
 use Rattle.std.proofs.lemmas.List.{get_or-replicate}
 use Rattle.disk.specs.Limits.{sector_bytes}
 use Rattle.field.specs.Field.{mul_of}
-use Rattle.field.specs.Bytes.{bytes}
+use Rattle.field.proofs.Bytes.{bytes}
 use Rattle.codeword.specs.Sum.{total_byte, total_zero}
-use Rattle.codeword.specs.Stripe.{coef, parity_of, Holds}
+use Rattle.codeword.specs.Stripe.{coef, parity_of}
 use Rattle.protocol.specs.Host.{Blocks}
-use Rattle.codecs.specs.Sector.{Sector, Bytes, sector_path, zeros}
+use Rattle.codecs.specs.Sector.{Sector, Bytes}
+use Rattle.codecs.proofs.Sector.{sector_path, zeros}
 use Rattle.position.specs.Row.{listed, listed_length, listed_at}
 use Rattle.position.specs.Position.{parity_ext}
 
@@ -56,10 +57,6 @@ parity_of_sectors k m q s = sector_of (λ p. parity_of k m q (λ i. byte (s i) p
 unfoldable pub row_of : ℕ → ℕ → ℕ
 row_of k r = r - k
 
-pub row_of_lem : (k q : ℕ) → row_of k (k + q) ≡ q
-unfolding row_of
-row_of_lem k q = omega arith
-
 -- sector j of shard r for the blocks b: a block's own, or parity
 unfoldable pub shard_sector : ℕ → ℕ → Blocks Sector → ℕ → ℕ → Sector
 shard_sector k m b r j = cond (ltb r k) (b r j) (parity_of_sectors k m (row_of k r) (λ i. b i j))
@@ -82,25 +79,3 @@ module _ (k m : ℕ) where
       (λ p l. let z : byte zeros p ≡ 0 = get_or-replicate sector_bytes p 0 0 l in
       parity_at q (λ i. zeros) p l
       ∙ total_zero k (λ i. mul_of (coef m q i) (byte zeros p)) (λ i h. ap (mul_of (coef m q i)) z ∙ bytes.mul_zero (coef m q i)) ∙ sym z)
-
-  pub data_sector : (b : Blocks Sector) (r j : ℕ) → r < k → shard_sector k m b r j ≡ b r j
-  unfolding shard_sector
-  data_sector b r j h = rw (lt-ltb r k h)
-
-  pub parity_sector : (b : Blocks Sector) (q j : ℕ) → shard_sector k m b (k + q) j ≡ parity_of_sectors k m q (λ i. b i j)
-  unfolding shard_sector
-  parity_sector b q j = rw (le-ltb (k + q) k (omega arith), row_of_lem k q)
-
-  pub shard_ext : (a b : Blocks Sector) (r j : ℕ) → ((i : ℕ) → i < k → a i j ≡ b i j) → shard_sector k m a r j ≡ shard_sector k m b r j
-  unfolding shard_sector
-  shard_ext a b r j e = go (ltb r k) refl
-    where
-      go : (t : Bool) → ltb r k ≡ t → cond t (a r j) (parity_of_sectors k m (row_of k r) (λ i. a i j)) ≡ cond t (b r j) (parity_of_sectors k m (row_of k r) (λ i. b i j))
-      go true q = e r (ltb-true r k q)
-      go false q = parity_same (row_of k r) (λ i. a i j) (λ i. b i j) e
-
-  -- THE EQUATIONS hold of the stripe's sectors at every byte
-  pub sectors_hold : (b : Blocks Sector) (j p : ℕ) → p < sector_bytes → Holds k m (λ r. byte (shard_sector k m b r j) p)
-  sectors_hold b j p l q h =
-      ap (λ (x : Sector). byte x p) (parity_sector b q j) ∙ parity_at q (λ i. b i j) p l
-      ∙ parity_ext k m q (λ i. byte (b i j) p) (λ r. byte (shard_sector k m b r j) p) (λ i g. ap (λ (x : Sector). byte x p) (sym (data_sector b i j g)))

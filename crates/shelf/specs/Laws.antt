@@ -13,8 +13,10 @@ use Rattle.std.proofs.lemmas.Bool.{eqb-false}
 use Rattle.disk.specs.Limits.{sector_bytes, first_log, first_strip}
 use Rattle.disk.specs.Tests.{and_right}
 use Rattle.disk.specs.Mask.{in_mask, mask_below}
-use Rattle.disk.specs.Image.{place, sector, put_sector, Shape, fits_image, on_shelf, put_answer, fits_image_lem, on_shelf_lem, place_fits, length_put, sector_put, sector_put_other, byte_put_other}
-use Rattle.disk.specs.Geometry.{in_range, strip_length, stripes_of, strip_of, shard_of, found, strip_inside}
+use Rattle.disk.specs.Image.{place, sector, put_sector, Shape, fits_image, on_shelf, put_answer, fits_image_lem, on_shelf_lem}
+use Rattle.disk.proofs.Image.{place_fits, length_put, sector_put, sector_put_other, byte_put_other}
+use Rattle.disk.specs.Geometry.{in_range, strip_length, stripes_of, strip_of, shard_of, found}
+use Rattle.disk.proofs.GeometryLaws.{strip_inside}
 use Rattle.disk.specs.declared.geometry.Geometry.{Geometry}
 use Rattle.disk.specs.declared.geometry.Found.{Found}
 use Rattle.disk.specs.declared.geometry.Found.TheVariants as spot

@@ -10,7 +10,8 @@ use Rattle.disk.specs.Limits.{most_n, most_c, most_sectors, sector_bytes, first_
 use Rattle.disk.specs.Tests.{and_left, and_right}
 use Rattle.disk.specs.Mask.{in_mask}
 use Rattle.disk.specs.Image.{fits_image}
-use Rattle.disk.specs.Geometry.{in_range, stripes_of, strip_of, shard_of, found, in_range_lem, strip_inside, shard_lt}
+use Rattle.disk.specs.Geometry.{in_range, stripes_of, strip_of, shard_of, found, in_range_lem, shard_lt}
+use Rattle.disk.proofs.GeometryLaws.{strip_inside}
 use Rattle.disk.specs.declared.geometry.Geometry.{Geometry}
 use Rattle.disk.specs.declared.geometry.Found.{Found}
 use Rattle.disk.specs.declared.geometry.Found.TheVariants as spot

@@ -3,7 +3,7 @@ use Rattle.std.specs.Prelude.{◌≡◌, Bool, true, false, cond, List, ℕ, ◌
 use Rattle.std.proofs.Common.{sym, ap, ap₂, ◌∙◌, arith, lt-ltb, le-ltb}
 use Rattle.std.specs.Int.Bits.{bit_xor}
 use Rattle.field.specs.Field.{mul_of}
-use Rattle.field.specs.Bytes.{bytes}
+use Rattle.field.proofs.Bytes.{bytes}
 use Rattle.codeword.specs.Sum.{total_ext, total_only, total_split}
 use Rattle.codeword.specs.Stripe.{coef, parity_of, Bytes}
 use Rattle.codeword.specs.Table.{unit, column, entry, row_sum, Columns, Equivalent}

@@ -4,11 +4,11 @@ use Rattle.std.specs.Prelude.{◌≡◌, refl, Bool, true, false, cond, List, []
 use Rattle.std.proofs.Common.{sym, ap, ap₂, ◌∙◌, ⊎_elim, eq-or-lt_of_le, eq-zero-or-pos, le_of_suc-le-suc, arith, lit<, eq-eqb}
 use Rattle.std.specs.Int.Bits.{bit_xor}
 use Rattle.field.specs.Field.{mul_of}
-use Rattle.field.specs.Bytes.{bytes}
+use Rattle.field.proofs.Bytes.{bytes}
 use Rattle.codeword.specs.Sum.{total, total_ext, total_byte, total_zero, total_add, total_mul, total_only}
 use Rattle.codeword.specs.Stripe.{InRange, coef, Bytes, Holds, has}
 use Rattle.codeword.specs.Table.{unit, entry, row_sum, AllZero}
-use Rattle.codeword.specs.Unique.{unique}
+use Rattle.codeword.proofs.Unique.{unique}
 use Rattle.codeword.specs.Unit.{one_times, zero_times, unit_same, unit_other}
 use Rattle.solve.specs.Lost.{Lost}
 use Rattle.solve.specs.Solving.{SolvedTo}

@@ -8,8 +8,8 @@ use Rattle.std.proofs.lemmas.Bool.{eqb-false}
 use Rattle.algebra.specs.Ring.{◌⊕◌, ◌⊗◌}
 use Rattle.algebra.specs.Field.{X, Y, Z, P}
 use Rattle.field.specs.Field.{mul_of}
-use Rattle.field.specs.Bytes.{bytes}
-use Rattle.field.specs.Solve.{solve}
+use Rattle.field.proofs.Bytes.{bytes}
+use Rattle.field.proofs.Solve.{solve}
 use Rattle.codeword.specs.Sum.{total_ext, total_byte, total_add, total_mul}
 use Rattle.codeword.specs.Table.{entry, row_sum, AllZero, Equivalent}
 use Rattle.codeword.specs.Unit.{zero_times, sum_zero}

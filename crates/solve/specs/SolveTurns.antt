@@ -4,8 +4,9 @@ use Rattle.std.proofs.Common.{sym, ap, ap₂, ◌∙◌, subst, ⊎_elim, eq-zer
 use Rattle.std.specs.Int.Bits.{bit_xor}
 use Rattle.std.proofs.Math.Arith.{digits_lt, digits_div, digits_mod}
 use Rattle.field.specs.Field.{mul_of}
-use Rattle.field.specs.Bytes.{bytes}
-use Rattle.field.specs.Quotient.{quotient_of, quotient_times}
+use Rattle.field.proofs.Bytes.{bytes}
+use Rattle.field.specs.Quotient.{quotient_of}
+use Rattle.field.proofs.QuotientLaws.{quotient_times}
 use Rattle.field.specs.declared.Quotient.{Quotient}
 use Rattle.field.specs.declared.Quotient.TheVariants.{Value, Refused}
 use Rattle.codeword.specs.Table.{unit, column, entry, Columns}

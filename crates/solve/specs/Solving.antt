@@ -3,7 +3,7 @@ use Rattle.std.specs.Prelude.{◌≡◌, refl, Bool, cond, List, ◌≢◌, ℕ,
 use Rattle.std.proofs.Common.{sym, ap, ap₂, ◌∙◌, subst, ⊎_elim, arith, lit<, below_more, eq-eqb}
 use Rattle.std.specs.Int.Bits.{bit_xor}
 use Rattle.field.specs.Field.{mul_of}
-use Rattle.field.specs.Bytes.{bytes}
+use Rattle.field.proofs.Bytes.{bytes}
 use Rattle.codeword.specs.Table.{unit, entry, Columns, Equivalent, SolvedFor}
 use Rattle.codeword.specs.Unit.{unit_same, unit_other}
 use Rattle.solve.specs.Rows.{Added, Exchanged, Turned, only, swap, by_swap, swap_row, cancel_first, same_or_not, turned_stays, turned_kept, added_turned, exchanged_each, exchanged_kept}

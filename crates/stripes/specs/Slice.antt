@@ -19,12 +19,13 @@ use Rattle.code.specs.Shape.{shaped_of}
 use Rattle.solve.specs.Lists.{shards_lost}
 use Rattle.codecs.specs.Sector.{Sector}
 use Rattle.codecs.specs.Shelf.{Shelf, slots, short_strip, some_sectors}
-use Rattle.codecs.specs.Records.{strip_bytes, length_strip, strip_part}
+use Rattle.codecs.specs.Records.{strip_bytes}
 use Rattle.shards.specs.Quorum.{few_of}
 use Rattle.position.specs.Row.{in_row, row_length, row_at}
 use Rattle.position.specs.Lists.{ascending_shards}
 use Rattle.shards.specs.Parity.{byte}
-use Rattle.shards.specs.Strips.{position, missing_of, missing_few, in_range_lem}
+use Rattle.shards.specs.Strips.{missing_of, in_range_lem}
+use Rattle.shards.proofs.Strips.{missing_few}
 
 -- ---- the slice
 
@@ -45,41 +46,15 @@ pub each_byte : (c : ℕ) (P : ℕ → Type 0) → ((j p : ℕ) → j < c → p 
 each_byte c P h p l = subst P (div-add-mod' p sector_bytes) (h (p / sector_bytes) (p % sector_bytes) (omega arith) (omega arith))
 
 module _ (z : Shelf) where
-  abbrev n : ℕ
+  abbrev pub n : ℕ
   n = slots z
 
-  abbrev len : ℕ
+  abbrev pub len : ℕ
   len = shard_bytes z
 
   -- byte p of sector j of a shard
   pub within : (j p : ℕ) → j < z.c → p < sector_bytes → j * sector_bytes + p < len
   within j p hj hp = digits_lt hj hp
-
-  module _ (t : ℕ) (g : ℕ → ℕ → Sector) where
-    shard_length : (r : ℕ) → length (shard_at z t g r) ≡ len
-    shard_length r = length_strip (g (slot_of (slots z) t r)) z.c
-
-    pub laid_length : length (laid_out z t g) ≡ n * len
-    unfolding laid_out
-    laid_length = row_length len (shard_at z t g) n (λ i l. shard_length i)
-
-    strip_at : (v : ℕ → Sector) (j p : ℕ) → j < z.c → p < sector_bytes → get_or (strip_bytes v z.c) (j * sector_bytes + p) 0 ≡ byte (v j) p
-    unfolding part
-    strip_at v j p hj hp =
-        let s : List ℕ = strip_bytes v z.c in
-        sym (get_or-take sector_bytes (drop (j * sector_bytes) s) p 0 hp ∙ get_or-drop (j * sector_bytes) s p 0)
-        ∙ ap (λ (l : List ℕ). get_or l p 0) (strip_part v z.c j hj)
-
-    -- ITS BYTES are those of the strips
-    pub laid_at : (j p r : ℕ) → j < z.c → p < sector_bytes → r < n → byte_at len (laid_out z t g) (j * sector_bytes + p) r ≡ byte (g (slot_of n t r) j) p
-    unfolding laid_out
-    laid_at j p r hj hp hr =
-        row_at len (shard_at z t g) n (λ i l. shard_length i) r (j * sector_bytes + p) hr (within j p hj hp)
-        ∙ strip_at (g (slot_of n t r)) j p hj hp
-
-    pub laid_position : (j p r : ℕ) → j < z.c → p < sector_bytes → r < n → byte_at len (laid_out z t g) (j * sector_bytes + p) r ≡ position z t g j p r
-    unfolding position
-    laid_position j p r hj hp hr = laid_at j p r hj hp hr
 
   -- ---- a slice that is as long as a stripe
 
@@ -122,29 +97,6 @@ module _ (z : Shelf) where
         let whole : length (sector z.c s r j) ≡ sector_bytes = sector_length e hr hj in
         ext_get_or 0 (sector z.c s r j) x.bytes (whole ∙ sym x.whole)
         (λ p l. let hp : p < sector_bytes = omega arith in sector_byte p hp ∙ h p hp)
-
-  -- every sector of it is the strip's
-  pub laid_sector : (t : ℕ) (g : ℕ → ℕ → Sector) (r j : ℕ) → r < n → j < z.c → sector z.c (laid_out z t g) r j ≡ (g (slot_of n t r) j).bytes
-  laid_sector t g r j hr hj =
-      sector_is (laid_out z t g) r j (laid_length t g) hr hj (g (slot_of n t r) j) (λ p hp. laid_at t g j p r hj hp hr)
-
-  -- AND ONLY THIS SLICE is such
-  pub laid_only : (t : ℕ) (g : ℕ → ℕ → Sector) (s : List ℕ) → length s ≡ n * len
-      → ((r j : ℕ) → r < n → j < z.c → sector z.c s r j ≡ (g (slot_of n t r) j).bytes) → s ≡ laid_out z t g
-  laid_only t g s e h = ext_get_or 0 s (laid_out z t g) (e ∙ sym (laid_length t g)) (λ i l. each i (omega arith))
-    where
-      in_shard : (r : ℕ) → r < n → (p : ℕ) → p < len → byte_at len s p r ≡ byte_at len (laid_out z t g) p r
-      in_shard r hr =
-          each_byte z.c (λ p. byte_at len s p r ≡ byte_at len (laid_out z t g) p r)
-          (λ j p hj hp. sym (sector_byte s r j p hp) ∙ ap (λ (l : List ℕ). get_or l p 0) (h r j hr hj) ∙ sym (laid_at t g j p r hj hp hr))
-
-      some : 0 < len
-      some = omega (arith, some_sectors z)
-
-      each : (i : ℕ) → i < n * len → get_or s i 0 ≡ get_or (laid_out z t g) i 0
-      each i l =
-          subst (λ (i : ℕ). get_or s i 0 ≡ get_or (laid_out z t g) i 0) (div-add-mod' i len)
-          (in_shard (i / len) ((div-lt_iff_lt-mul {k = len} {x = i} {y = n} some).1 l) (i % len) (mod-lt i some))
 
 -- ---- the missing shards
 

@@ -15,7 +15,8 @@ use Rattle.field.specs.declared.Answer.{Answer}
 use Rattle.field.specs.declared.Answer.TheVariants.{Done, Refused}
 use Rattle.field.specs.declared.Refusal.TheVariants.{BadShape, TooMany, BadShard}
 use Rattle.disk.specs.Limits.{sector_bytes}
-use Rattle.disk.specs.Geometry.{strip_of, slot_of, Splits, strip_inside, slot_lt}
+use Rattle.disk.specs.Geometry.{strip_of, slot_of, Splits, slot_lt}
+use Rattle.disk.proofs.GeometryLaws.{strip_inside}
 use Rattle.disk.specs.Image.{place}
 use Rattle.disk.specs.Mask.{in_mask}
 use Rattle.disk.specs.declared.geometry.Geometry.{Geometry}

@@ -6,21 +6,20 @@ use Rattle.std.proofs.Common.{sym, ◌∙◌, arith}
 use Rattle.std.proofs.Math.Path.{ap}
 use Rattle.std.proofs.Math.Bool.{not}
 use Rattle.disk.specs.Limits.{sector_bytes}
-use Rattle.disk.specs.Geometry.{slot_of, shard_of, shard_lt, slot_shard}
+use Rattle.disk.specs.Geometry.{slot_of, shard_of}
 use Rattle.disk.specs.Mask.{in_mask}
 use Rattle.codeword.specs.Stripe.{Holds, Bytes, has}
 use Rattle.position.specs.Position.{padded}
 use Rattle.codecs.specs.Sector.{Sector}
-use Rattle.codecs.specs.Shelf.{Shelf, slots, geometry, some_slots}
-use Rattle.codecs.specs.Records.{strip_bytes}
+use Rattle.codecs.specs.Shelf.{Shelf, slots}
 use Rattle.shards.specs.Quorum.{few_of}
 use Rattle.shards.specs.Parity.{byte, sector_ext}
 use Rattle.shards.specs.Strips.{shard_in, position, position_bytes, missing_of, missing_has, blocks_from, in_range_lem}
-use Rattle.shards.specs.Exact.{blocks_there, blocks_found}
-use Rattle.shards.specs.Even.{any_code}
+use Rattle.shards.specs.Exact.{blocks_there}
+use Rattle.shards.proofs.Exact.{blocks_found}
 use Rattle.stripes.specs.Slice.{missing_lost}
 use Rattle.strips.specs.Seen.{shown_byte, shard_shown}
-use Rattle.views.specs.Seen.{Lying, Keeping, gone, laid_over, shown_is, shown_part}
+use Rattle.views.specs.Seen.{Lying, Keeping, gone, laid_over}
 use Rattle.views.specs.Whole.{shard_by}
 use Rattle.views.specs.Solvable.{completed_least, data_least}
 
@@ -56,28 +55,8 @@ shard_filled z t bad g few r j hr e = sector_ext (blocks_from z t bad g r j) (sh
 
 module _ (z : Shelf) (t : ℕ) (img : List ℕ) (there over : ℕ) (kept : List ℕ) (g h : ℕ → ℕ → Sector) (lies : Lying z t img there g) (keeps : Keeping z t kept over h)
     (few : few_of z (gone there) ≡ true) (d : ℕ) (hd : d < slots z) (out : in_mask there d ≡ false) where
-  abbrev r : ℕ
+  abbrev pub r : ℕ
   r = shard_of (slots z) t d
 
-  abbrev view : ℕ → ℕ → Sector
+  abbrev pub view : ℕ → ℕ → Sector
   view = laid_over over h g
-
-  strip_filled : (j : ℕ) → (any_code z).blocks t (gone there) view r j ≡ (any_code z).shard t ((any_code z).blocks t (gone there) view) d j
-  unfolding gone
-  strip_filled j =
-      let back : slot_of (slots z) t r ≡ d = slot_shard (slots z) t (some_slots z) d hd in
-      shard_filled z t (gone there) view few r j (shard_lt (slots z) t (some_slots z) d) (ap (λ (e : ℕ). not (in_mask there e)) back ∙ ap not out)
-      ∙ ap (λ (e : ℕ). shard_in z t (blocks_from z t (gone there) view) e j) back
-
-  -- BYTE BY BYTE
-  pub filled_is : (j p : ℕ) → j < z.c → p < sector_bytes
-      → shown_byte (geometry z) z.k img there over kept t r (j * sector_bytes + p) ≡ byte ((any_code z).shard t ((any_code z).blocks t (gone there) view) d j) p
-  filled_is j p hj hp =
-      shown_is z t img there over kept g h lies keeps r j p (shard_lt (slots z) t (some_slots z) d) hj hp ∙ ap (λ (s : Sector). byte s p) (strip_filled j)
-
-  -- SECTOR BY SECTOR: some sectors of the strip that are filled in are those that the protocol rebuilds
-  pub filled_part : (first count : ℕ) → first + count ≤ z.c
-      → shard_shown (geometry z) z.k img there over kept t first count r ≡ strip_bytes (λ j. (any_code z).shard t ((any_code z).blocks t (gone there) view) d (first + j)) count
-  filled_part first count hc =
-      shown_part z t img there over kept g h lies keeps r first count (shard_lt (slots z) t (some_slots z) d) hc
-      ∙ (λ i. strip_bytes (λ j. strip_filled (first + j) i) count)

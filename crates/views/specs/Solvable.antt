@@ -12,13 +12,14 @@ use Rattle.std.proofs.Math.ListN.{get_or-eq_default}
 use Rattle.std.proofs.lemmas.Bool.{eqb-false, not-true}
 use Rattle.disk.specs.Tests.{and_left, and_right, both}
 use Rattle.field.specs.Field.{mul_of, inverse_of}
-use Rattle.field.specs.Bytes.{bytes}
-use Rattle.field.specs.Quotient.{quotient_times}
+use Rattle.field.proofs.Bytes.{bytes}
+use Rattle.field.proofs.QuotientLaws.{quotient_times}
 use Rattle.codeword.specs.Stripe.{InRange, coef, Holds, Bytes, has}
 use Rattle.codeword.specs.Table.{column, entry, SolvedFor}
 use Rattle.codeword.specs.Unique.{AllBytes}
 use Rattle.codeword.specs.Chosen.{count, count_split, count_not}
-use Rattle.codeword.specs.Complete.{completed, completed_bytes, completed_off, completed_holds}
+use Rattle.codeword.specs.Complete.{completed, completed_bytes, completed_off}
+use Rattle.codeword.proofs.Complete.{completed_holds}
 use Rattle.solve.specs.Lost.{Lost}
 use Rattle.solve.specs.Rows.{Added, Exchanged, Turned, swap}
 use Rattle.solve.specs.Solving.{SolvedTo, clearing, solved_none, solved_last, exchanged_solved, step_solved}

@@ -3,7 +3,6 @@ use Prim.Native.Nat.{◌≤◌, ◌-◌}
 use native.Mathlib.Omega.{arith}
 use borrow.Author.Rules.{rules}
 use lib.ListN.{length, drop}
-use Rattle.crc32c.specs.Crc.{run}
 use Rattle.crc32c.proofs.turns.Goals as goal
 
 pub loop-i-init : goal.loop-i-init

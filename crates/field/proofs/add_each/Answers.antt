@@ -4,7 +4,7 @@ use native.Mathlib.Omega.{arith}
 use borrow.Author.Rules.{rules}
 use lib.ListN.{length, length-set}
 use lib.Bits.{bit_xor}
-use Rattle.field.specs.Turns.{Begun, each_first, each_turn, each_done}
+use Rattle.field.specs.Turns.{each_first, each_turn, each_done}
 use Rattle.field.proofs.add_each.Goals as goal
 
 pub loop-i-init : goal.loop-i-init

@@ -4,7 +4,7 @@ use native.Mathlib.Omega.{arith}
 use borrow.Author.Rules.{rules}
 use lib.ListN.{length, length-set}
 use lib.Bits.{bit_xor}
-use Rattle.field.specs.Turns.{Begun, each_first, each_turn, each_done}
+use Rattle.field.specs.Turns.{Begun}
 use Rattle.field.proofs.add_each.Given as goal
 
 abbrev pub invariant-loop-i : goal.invariant-loop-i

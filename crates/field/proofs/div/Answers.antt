@@ -1,6 +1,7 @@
 use mathlib.Core.Path.{ap, sym}
 use borrow.Author.Rules.{rules}
-use Rattle.field.specs.Quotient.{quotient_of, quotient_of_lem}
+use Rattle.field.specs.Quotient.{quotient_of}
+use Rattle.field.proofs.QuotientLaws.{quotient_of_lem}
 use Rattle.field.proofs.div.Goals as goal
 
 pub returns-then-b-eq0 : goal.returns-then-b-eq0

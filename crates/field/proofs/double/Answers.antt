@@ -1,5 +1,5 @@
 use borrow.Author.Rules.{rules}
-use Rattle.field.specs.Turns.{double_is}
+use Rattle.field.proofs.Turns.{double_is}
 use Rattle.field.proofs.double.Goals as goal
 
 pub returns : goal.returns

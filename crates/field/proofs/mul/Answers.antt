@@ -2,9 +2,8 @@ use Prim.Native.Nat.{◌<◌}
 use mathlib.Core.Path.{◌≡◌, ◌∙◌}
 use borrow.Author.Rules.{rules}
 use lib.Bits.{bit_xor}
-use Rattle.field.specs.Field.{mul_bits, mul_of}
-use Rattle.field.specs.Product.{mul_bytes}
-use Rattle.field.specs.Turns.{mul_turn, mul_done, double_byte}
+use Rattle.field.proofs.Product.{mul_bytes}
+use Rattle.field.proofs.Turns.{mul_turn, mul_done, double_byte}
 use Rattle.field.proofs.mul.Goals as goal
 
 pub loop-n-init : goal.loop-n-init

@@ -3,8 +3,6 @@ use mathlib.Core.Path.{◌≡◌, ◌∙◌}
 use borrow.Author.Rules.{rules}
 use lib.Bits.{bit_xor}
 use Rattle.field.specs.Field.{mul_bits, mul_of}
-use Rattle.field.specs.Product.{mul_bytes}
-use Rattle.field.specs.Turns.{mul_turn, mul_done, double_byte}
 use Rattle.field.proofs.mul.Given as goal
 
 abbrev pub invariant-loop-n : goal.invariant-loop-n

@@ -1,8 +1,7 @@
 use mathlib.Core.Path.{◌≡◌}
 use borrow.Author.Rules.{rules}
 use Prim.Native.Nat.{◌<◌}
-use Rattle.field.specs.Field.{mul_of, power_of}
-use Rattle.field.specs.Turns.{power_first, power_turn, power_done, double_byte}
+use Rattle.field.proofs.Turns.{power_first, power_turn, power_done, double_byte}
 use Rattle.field.proofs.power_of_g.Goals as goal
 
 pub loop-left-init : goal.loop-left-init

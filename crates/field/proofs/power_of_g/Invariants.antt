@@ -2,7 +2,6 @@ use mathlib.Core.Path.{◌≡◌}
 use borrow.Author.Rules.{rules}
 use Prim.Native.Nat.{◌<◌}
 use Rattle.field.specs.Field.{mul_of, power_of}
-use Rattle.field.specs.Turns.{power_first, power_turn, power_done, double_byte}
 use Rattle.field.proofs.power_of_g.Given as goal
 
 abbrev pub invariant-loop-left : goal.invariant-loop-left

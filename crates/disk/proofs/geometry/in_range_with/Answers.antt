@@ -3,7 +3,7 @@ use borrow.Author.Tests.{not-true, not-false}
 use mathlib.Core.Path.{sym, ◌∙◌}
 use Prim.Native.Nat.{◌-◌}
 use borrow.Author.Rules.{rules}
-use Rattle.disk.specs.Geometry.{in_range_with, in_range_lem}
+use Rattle.disk.specs.Geometry.{in_range_with}
 use Rattle.disk.proofs.geometry.in_range_with.Goals as goal
 
 pub returns-then-not-in_range : goal.returns-then-not-in_range

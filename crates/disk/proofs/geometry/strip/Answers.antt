@@ -5,7 +5,8 @@ use mathlib.Core.Bool.{true}
 use native.Mathlib.Omega.{arith}
 use Prim.Native.Nat.{◌≤◌, ◌-◌, ◌+◌, ◌*◌}
 use borrow.Author.Rules.{rules}
-use Rattle.disk.specs.Geometry.{strip_inside, in_range, stripes_of, strip_of, in_range_lem}
+use Rattle.disk.specs.Geometry.{in_range, stripes_of, strip_of, in_range_lem}
+use Rattle.disk.proofs.GeometryLaws.{strip_inside}
 use Rattle.disk.specs.Limits.{most_sectors, first_strip}
 use Rattle.disk.proofs.geometry.strip.Goals as goal
 

@@ -2,7 +2,8 @@ use mathlib.Core.Path.{◌≡◌, sym, ap₂, ◌∙◌, subst}
 use native.Mathlib.Omega.{arith}
 use Prim.Native.Nat.{◌^◌, ℕ, ◌≤◌, ◌<◌, ◌-◌, ◌+◌, ◌*◌}
 use borrow.Author.Rules.{rules}
-use Rattle.disk.specs.Number.{number_at, read_none, read_turn, read_fits, pow_some, number_past}
+use Rattle.disk.specs.Number.{number_at, read_fits, pow_some}
+use Rattle.disk.proofs.NumberLaws.{read_none, read_turn, number_past}
 use Rattle.disk.proofs.number.number_at.Goals as goal
 
 pub returns-then-b-at : goal.returns-then-b-at

@@ -3,7 +3,7 @@ use mathlib.Core.Path.{◌≡◌, sym, ap₂, ◌∙◌, subst}
 use native.Mathlib.Omega.{arith}
 use Prim.Native.Nat.{◌^◌, ℕ, ◌≤◌, ◌<◌, ◌-◌, ◌+◌, ◌*◌}
 use borrow.Author.Rules.{rules}
-use Rattle.disk.specs.Number.{number_at, read_none, read_turn, read_fits, pow_some, number_past}
+use Rattle.disk.specs.Number.{number_at}
 use Rattle.disk.proofs.number.number_at.Given as goal
 
 abbrev pub invariant-loop-i : goal.invariant-loop-i

@@ -5,7 +5,7 @@ use native.Mathlib.Omega.{arith}
 use lib.ListN.{length, length-set}
 use Prim.Native.Nat.{◌/◌, ◌%◌, ℕ, ◌≤◌, ◌-◌, ◌+◌}
 use borrow.Author.Rules.{rules}
-use Rattle.disk.specs.Number.{with_number, write_start, write_turn, write_done, with_past}
+use Rattle.disk.specs.Number.{with_number}
 use Rattle.disk.proofs.number.put_number.Given as goal
 
 abbrev pub invariant-loop-i : goal.invariant-loop-i

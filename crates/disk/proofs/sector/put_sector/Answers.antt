@@ -5,7 +5,7 @@ use Prim.Native.Nat.{ℕ, ◌-◌, ◌+◌}
 use borrow.Rule.Slice.PartMut.{put_mid}
 use borrow.Author.Rules.{rules}
 use Rattle.disk.specs.Limits.{sector_bytes}
-use Rattle.disk.specs.Image.{place, put_sector, back, copied}
+use Rattle.disk.specs.Image.{place, put_sector, back}
 use Rattle.disk.proofs.sector.put_sector.Goals as goal
 
 pub returns : goal.returns

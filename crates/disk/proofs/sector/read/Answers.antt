@@ -5,7 +5,8 @@ use mathlib.Core.Bool.{true}
 use native.Mathlib.Omega.{arith}
 use lib.ListN.{length}
 use borrow.Author.Rules.{rules}
-use Rattle.disk.specs.Image.{fits_image, on_shelf, read_of, Shape, place_fits, fits_image_lem, on_shelf_lem}
+use Rattle.disk.specs.Image.{fits_image, on_shelf, read_of, Shape, fits_image_lem, on_shelf_lem}
+use Rattle.disk.proofs.Image.{place_fits}
 use Rattle.disk.proofs.sector.read.Goals as goal
 
 pub returns-then-not-fits_image : goal.returns-then-not-fits_image

@@ -7,7 +7,8 @@ use lib.ListN.{length, take, drop}
 use Prim.Native.Nat.{ℕ, ◌≤◌, ◌-◌, ◌+◌, ◌*◌}
 use Rattle.record.specs.Log.{area_of}
 use Rattle.disk.specs.Limits.{sector_bytes, first_log}
-use Rattle.disk.specs.Image.{place, Shape, fits_image, place_fits, fits_image_lem}
+use Rattle.disk.specs.Image.{place, Shape, fits_image, fits_image_lem}
+use Rattle.disk.proofs.Image.{place_fits}
 use Rattle.record.proofs.log.area.Goals as goal
 
 pub returns-then-not-fits_image : goal.returns-then-not-fits_image

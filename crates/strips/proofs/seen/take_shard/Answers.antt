@@ -5,7 +5,8 @@ use native.Mathlib.Nat.{mul_assoc}
 use native.Mathlib.Omega.{arith}
 use lib.ListN.{take, drop, replicate}
 use Rattle.disk.specs.Limits.{sector_bytes}
-use Rattle.disk.specs.Geometry.{slot_of, strip_of, stripes_le, strip_inside, slot_lt}
+use Rattle.disk.specs.Geometry.{slot_of, strip_of, stripes_le, slot_lt}
+use Rattle.disk.proofs.GeometryLaws.{strip_inside}
 use Rattle.disk.specs.Image.{place}
 use Rattle.strips.specs.Laws.{inside, seen_over, seen_there, seen_none}
 use Rattle.strips.proofs.seen.take_shard.Goals as goal

@@ -1,0 +1,7 @@
+pub mod Complete
+pub mod Laid
+pub mod Liars
+pub mod Mend
+pub mod Minors
+pub mod Unique
+pub mod Worked

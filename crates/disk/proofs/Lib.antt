@@ -1,0 +1,3 @@
+pub mod GeometryLaws
+pub mod Image
+pub mod NumberLaws

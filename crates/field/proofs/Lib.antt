@@ -1,0 +1,9 @@
+pub mod Bytes
+pub mod InverseLaws
+pub mod Order
+pub mod Power
+pub mod Product
+pub mod QuotientLaws
+pub mod Solve
+pub mod Turns
+pub mod Vectors
