@@ -22,7 +22,7 @@ use Rattle.protocol.specs.Log.{Write}
 use Rattle.codecs.specs.Sector.{Sector, Bytes}
 use Rattle.codecs.specs.Shelf.{Shelf, slots, geometry, some_slots, strips_fit}
 use Rattle.codecs.specs.Records.{counts, stamp_number, stamp_of, stamp_in, changes_shard, shards_of, tail_of, Fitting}
-use Rattle.codecs.proofs.Records.{stamp_number_lem}
+use Rattle.codecs.proofs.Written.{stamp_number_lem}
 
 -- ---- one number, one stamp
 

@@ -26,123 +26,20 @@ use Rattle.codecs.specs.Sector.{Sector, Bytes}
 use Rattle.codecs.proofs.Sector.{zeros, sector_path, bytes_none, bytes_append, bytes_take, bytes_drop, bytes_zeros, bytes_number}
 use Rattle.codecs.specs.Shelf.{Shelf, slots, some_slots, few_slots, some_sectors, short_strip, stripes_few}
 use Rattle.codecs.specs.Records.{counts, stamp_number, stamp_of, stamp_in, stripe_in, strip_bytes, length_restore, changes_shard, shards_of, tail_of, changes_in, Fitting}
-
-pub stamp_number_lem : (σ : ℕ) → stamp_number (stamp_of σ) ≡ σ
-stamp_number_lem σ = div-add-mod' σ counts
-
-pub stamp_fits : (σ : ℕ) → σ < 2 ^ 128 → StampFits (stamp_of σ)
-stamp_fits σ h = record { epochs = (div-lt_iff_lt-mul {k = counts} {x = σ} {y = 2 ^ 64} (lit< tt)).1 h; counts = mod-lt σ (lit< tt) }
-
-pub stamp_zeros : stamp_in zeros ≡ 0
-unfolding stamp_in stamp_at number_at
-stamp_zeros = refl
-
-pub length_strip : (v : ℕ → Sector) (c : ℕ) → length (strip_bytes v c) ≡ c * sector_bytes
-length_strip v zero = refl
-length_strip v (suc s) = length-append (strip_bytes v s) (v s).bytes ∙ ap₂ (λ (x y : ℕ). x + y) (length_strip v s) (v s).whole ∙ sym (suc-mul s sector_bytes)
-
-pub strip_bytes_lem : (v : ℕ → Sector) (c : ℕ) → Bytes (strip_bytes v c)
-strip_bytes_lem v zero = bytes_none
-strip_bytes_lem v (suc s) = bytes_append (strip_bytes v s) (v s).bytes (strip_bytes_lem v s) (v s).small
-
-pub strip_part : (v : ℕ → Sector) (c j : ℕ) → j < c → part (strip_bytes v c) j ≡ (v j).bytes
-unfolding part
-strip_part v zero j l = absurd (omega arith)
-strip_part v (suc c) j l =
-    ⊎_elim (λ (e : j ≡ c). last e) (λ (h : j < c). before h ∙ strip_part v c j h) (eq-or-lt_of_le (le_of_suc-le-suc l))
-  where
-    n : length (strip_bytes v c) ≡ c * sector_bytes
-    n = length_strip v c
-
-    last : j ≡ c → take sector_bytes (drop (j * sector_bytes) (strip_bytes v c ++ (v c).bytes)) ≡ (v j).bytes
-    last e =
-        ap (λ (i : ℕ). take sector_bytes (drop (i * sector_bytes) (strip_bytes v c ++ (v c).bytes))) e
-        ∙ ap (take sector_bytes) (drop_at (strip_bytes v c) (v c).bytes (c * sector_bytes) n)
-        ∙ take_all sector_bytes (v c).bytes (omega (arith, (v c).whole)) ∙ ap (λ (i : ℕ). (v i).bytes) (sym e)
-
-    before : j < c → take sector_bytes (drop (j * sector_bytes) (strip_bytes v c ++ (v c).bytes)) ≡ take sector_bytes (drop (j * sector_bytes) (strip_bytes v c))
-    before h =
-        ap (take sector_bytes) (drop-append-le (j * sector_bytes) (strip_bytes v c) (v c).bytes (omega (arith, n)))
-        ∙ take-append-le sector_bytes (drop (j * sector_bytes) (strip_bytes v c)) (v c).bytes (omega (arith, n, length-drop (j * sector_bytes) (strip_bytes v c)))
-
--- ---- sectors of bytes
-
-stamp_bytes_lem : (a : Stamp) → Bytes (stamp_bytes a)
-unfolding stamp_bytes
-stamp_bytes_lem a = bytes_append (bytes_of 8 a.epoch) (bytes_of 8 a.count) (bytes_number 8 a.epoch) (bytes_number 8 a.count)
-
-pub log_bytes : (a : Stamp) (v : List ℕ) → Bytes v → Bytes (log_sector a v)
-unfolding log_sector
-log_bytes a v p = bytes_append (stamp_bytes a) (take body v) (stamp_bytes_lem a) (bytes_take body v p)
-
-rests_bytes : (c : ℕ) (v : List ℕ) → Bytes v → Bytes (rests c v)
-unfolding rests
-rests_bytes zero v p = bytes_none
-rests_bytes (suc s) v p =
-    bytes_append (rests s v) (take rest (drop (s * sector_bytes + body) v)) (rests_bytes s v p)
-    (bytes_take rest (drop (s * sector_bytes + body) v) (bytes_drop (s * sector_bytes + body) v p))
-
-field_bytes_lem : (x : Tail) → Bytes (field_bytes x)
-unfolding field_bytes
-field_bytes_lem x =
-    bytes_append (stamp_bytes x.stamp) (bytes_of 8 x.stripe ++ bytes_of 8 x.shards) (stamp_bytes_lem x.stamp)
-    (bytes_append (bytes_of 8 x.stripe) (bytes_of 8 x.shards) (bytes_number 8 x.stripe) (bytes_number 8 x.shards))
-
-pub tail_bytes : (x : Tail) (c : ℕ) (v : List ℕ) → Bytes v → Bytes (tail_sector x c v)
-unfolding tail_sector
-tail_bytes x c v p =
-    bytes_append (field_bytes x) (rests c v ++ replicate (sector_bytes - rests_at - c * rest) 0) (field_bytes_lem x)
-    (bytes_append (rests c v) (replicate (sector_bytes - rests_at - c * rest) 0) (rests_bytes c v p) (bytes_zeros (sector_bytes - rests_at - c * rest)))
-
-pub restore_bytes : (log tail : List ℕ) (s : ℕ) → Bytes log → Bytes tail → Bytes (restore_of log tail s)
-unfolding restore_of
-restore_bytes log tail s p q =
-    bytes_append (take body (drop stamp_length log)) (take rest (drop (rests_at + s * rest) tail)) (bytes_take body (drop stamp_length log) (bytes_drop stamp_length log p))
-    (bytes_take rest (drop (rests_at + s * rest) tail) (bytes_drop (rests_at + s * rest) tail q))
-
--- ---- a record
+use Rattle.codecs.proofs.Written.{stamp_number_lem, stamp_fits, stamp_zeros, length_strip, strip_part, log_of, end_of, record_sector, piece_of}
 
 module _ (z : Shelf) where
-  -- the log sector for sector j of slot d's strip; and its tail
-  unfoldable pub log_of : ℕ → Write Sector → ℕ → ℕ → Sector
-  log_of σ w d j =
-      record {
-        bytes = log_sector (stamp_of σ) (w.new d j).bytes;
-        whole = length_log (stamp_of σ) (w.new d j).bytes (w.new d j).whole;
-        small = log_bytes (stamp_of σ) (w.new d j).bytes (w.new d j).small;
-      }
-
-  unfoldable pub end_of : ℕ → Write Sector → ℕ → Sector
-  end_of σ w d =
-      record {
-        bytes = tail_sector ((tail_of z) σ w) z.c (strip_bytes (w.new d) z.c);
-        whole = length_tail ((tail_of z) σ w) z.c (strip_bytes (w.new d) z.c) (omega (arith, length_strip (w.new d) z.c)) (short_strip z);
-        small = tail_bytes ((tail_of z) σ w) z.c (strip_bytes (w.new d) z.c) (strip_bytes_lem (w.new d) z.c);
-      }
-
-  unfoldable pub record_sector : ℕ → Write Sector → ℕ → ℕ → Sector
-  record_sector σ w d j = cond (ltb j z.c) (log_of σ w d j) (end_of σ w d)
-
-  -- (sectors from c on do not occur: each is taken as one below c, so that the codec is total)
-  unfoldable pub piece_of : Sector → Sector → ℕ → Sector
-  piece_of t x j =
-      record {
-        bytes = restore_of x.bytes t.bytes (j % z.c);
-        whole = length_restore x.bytes t.bytes (j % z.c) x.whole t.whole (omega (arith, mod-lt j (some_sectors z), short_strip z));
-        small = restore_bytes x.bytes t.bytes (j % z.c) x.small t.small;
-      }
-
   -- ---- the laws
 
-  log_at : (σ : ℕ) (w : Write Sector) (d j : ℕ) → j < z.c → record_sector σ w d j ≡ log_of σ w d j
+  log_at : (σ : ℕ) (w : Write Sector) (d j : ℕ) → j < z.c → (record_sector z) σ w d j ≡ (log_of z) σ w d j
   unfolding record_sector
-  log_at σ w d j l = ap (λ (b : Bool). cond b (log_of σ w d j) (end_of σ w d)) (lt-ltb j z.c l)
+  log_at σ w d j l = ap (λ (b : Bool). cond b ((log_of z) σ w d j) ((end_of z) σ w d)) (lt-ltb j z.c l)
 
-  end_at : (σ : ℕ) (w : Write Sector) (d j : ℕ) → z.c ≤ j → record_sector σ w d j ≡ end_of σ w d
+  end_at : (σ : ℕ) (w : Write Sector) (d j : ℕ) → z.c ≤ j → (record_sector z) σ w d j ≡ (end_of z) σ w d
   unfolding record_sector
-  end_at σ w d j l = ap (λ (b : Bool). cond b (log_of σ w d j) (end_of σ w d)) (le-ltb j z.c l)
+  end_at σ w d j l = ap (λ (b : Bool). cond b ((log_of z) σ w d j) ((end_of z) σ w d)) (le-ltb j z.c l)
 
-  pub stamp_sector : (σ : ℕ) (w : Write Sector) (d j : ℕ) → (Fitting z) σ w → stamp_in (record_sector σ w d j) ≡ σ
+  pub stamp_sector : (σ : ℕ) (w : Write Sector) (d j : ℕ) → (Fitting z) σ w → stamp_in ((record_sector z) σ w d j) ≡ σ
   unfolding stamp_in log_of end_of
   stamp_sector σ w d j f = ⊎_elim
       (λ (l : j < z.c). ap stamp_in (log_at σ w d j l) ∙ ap stamp_number (log_stamp (stamp_of σ) (w.new d j).bytes fit) ∙ stamp_number_lem σ)
@@ -160,17 +57,17 @@ module _ (z : Shelf) where
         shardss = lt_of_lt_of_le (mask_lt ((changes_shard z) w) (slots z)) (pow_mono {j = 64} (omega (arith, few_slots z)));
       }
 
-  pub end_back : (σ : ℕ) (w : Write Sector) (d : ℕ) → (Fitting z) σ w → tail_at (record_sector σ w d z.c).bytes ≡ (tail_of z) σ w
+  pub end_back : (σ : ℕ) (w : Write Sector) (d : ℕ) → (Fitting z) σ w → tail_at ((record_sector z) σ w d z.c).bytes ≡ (tail_of z) σ w
   unfolding end_of tail_sector
   end_back σ w d f =
       ap (λ (x : Sector). tail_at x.bytes) (end_at σ w d z.c (omega arith))
       ∙ tail_back ((tail_of z) σ w) (rests z.c (strip_bytes (w.new d) z.c) ++ replicate (sector_bytes - rests_at - z.c * rest) 0) (tail_fits σ w f)
 
-  pub stripe_tail : (σ : ℕ) (w : Write Sector) (d : ℕ) → (Fitting z) σ w → stripe_in (record_sector σ w d z.c) ≡ w.stripe
+  pub stripe_tail : (σ : ℕ) (w : Write Sector) (d : ℕ) → (Fitting z) σ w → stripe_in ((record_sector z) σ w d z.c) ≡ w.stripe
   unfolding stripe_in
   stripe_tail σ w d f = ap (λ (x : Tail). x.stripe) (end_back σ w d f)
 
-  pub changes_tail : (σ : ℕ) (w : Write Sector) (d e : ℕ) → (Fitting z) σ w → (changes_in z) (record_sector σ w d z.c) e ≡ w.changes e
+  pub changes_tail : (σ : ℕ) (w : Write Sector) (d e : ℕ) → (Fitting z) σ w → (changes_in z) ((record_sector z) σ w d z.c) e ≡ w.changes e
   unfolding changes_in
   changes_tail σ w d e f = ap (λ (x : Tail). ltb e n && in_mask x.shards (shard_of n x.stripe e)) (end_back σ w d f) ∙ ⊎_elim below above (lt_or_ge e n)
     where
@@ -194,12 +91,12 @@ module _ (z : Shelf) where
           go false q = sym q
 
   pub piece_back : (σ : ℕ) (w : Write Sector) (d j : ℕ) → (Fitting z) σ w → j < z.c
-      → piece_of (record_sector σ w d z.c) (record_sector σ w d j) j ≡ w.new d j
+      → (piece_of z) ((record_sector z) σ w d z.c) ((record_sector z) σ w d j) j ≡ w.new d j
   unfolding piece_of log_of end_of
   piece_back σ w d j f l =
       let v : List ℕ = strip_bytes (w.new d) z.c in
-      ap₂ (λ (t x : Sector). piece_of t x j) (end_at σ w d z.c (omega arith)) (log_at σ w d j l)
-      ∙ sector_path (piece_of (end_of σ w d) (log_of σ w d j) j) (w.new d j)
+      ap₂ (λ (t x : Sector). (piece_of z) t x j) (end_at σ w d z.c (omega arith)) (log_at σ w d j l)
+      ∙ sector_path ((piece_of z) ((end_of z) σ w d) ((log_of z) σ w d j) j) (w.new d j)
       (ap (restore_of (log_sector (stamp_of σ) (w.new d j).bytes) (tail_sector ((tail_of z) σ w) z.c v)) (mod-eq_of_lt l)
       ∙ ap (λ (y : List ℕ). restore_of (log_sector (stamp_of σ) y) (tail_sector ((tail_of z) σ w) z.c v) j) (sym (strip_part (w.new d) z.c j l))
       ∙ restore_back (stamp_of σ) ((tail_of z) σ w) z.c j v (length_strip (w.new d) z.c) l

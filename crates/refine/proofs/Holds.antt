@@ -49,7 +49,8 @@ use Rattle.codecs.specs.Shelf.{Shelf, slots, geometry, size}
 use Rattle.codecs.specs.Labels.{sector_of, no_label, ours, label_of, meant, decode_label}
 use Rattle.codecs.proofs.Labels.{labels}
 use Rattle.codecs.specs.Records.{counts, stamp_number, stamp_of, stamp_in, stripe_in, changes_in}
-use Rattle.codecs.proofs.Records.{stamp_number_lem, piece_of, end_back, stripe_tail, changes_tail, records}
+use Rattle.codecs.proofs.Written.{stamp_number_lem, piece_of}
+use Rattle.codecs.proofs.Records.{end_back, stripe_tail, changes_tail, records}
 use Rattle.codecs.proofs.Order.{sector_stamp, number_stamp, zero_number, later_number, tail_may}
 use Rattle.codecs.specs.Media.{stamps}
 use Rattle.shards.specs.Quorum.{few_of}

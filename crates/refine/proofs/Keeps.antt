@@ -26,9 +26,9 @@ use Rattle.codecs.specs.Sector.{Sector, Bytes}
 use Rattle.codecs.proofs.Sector.{sector_path}
 use Rattle.codecs.specs.Shelf.{Shelf, slots, geometry, some_slots, in_limits, strips_fit}
 use Rattle.codecs.specs.Records.{counts, stamp_number, stamp_of, strip_bytes, shards_of}
-use Rattle.codecs.proofs.Records.{length_strip, strip_part, log_of, end_of}
+use Rattle.codecs.proofs.Written.{length_strip, strip_part, log_of, end_of}
 use Rattle.codecs.specs.Records as codec
-use Rattle.codecs.proofs.Records as codec_laws
+use Rattle.codecs.proofs.Written as codec_laws
 use Rattle.shards.specs.Parity.{byte_of}
 use Rattle.shelf.specs.Kept.{shard_at, kept_of, part_of, record_sector, logged_answer}
 use Rattle.shelf.specs.Says.{when, unless}

@@ -37,29 +37,25 @@ use Rattle.stages.specs.declared.state.State.{State}
 use Rattle.refine.specs.Places.{sector_of, strip_is_inside}
 use Rattle.refine.specs.Disks.{Disks, cur_of}
 use Rattle.refine.proofs.Disks.{cur_bytes}
-use Rattle.refine.specs.Mends.{Whole, may_whole, asked_refused, stripe_inside, all_believe, repaired_here, l, may}
+use Rattle.refine.specs.Mends.{g, Whole, may_whole, asked_refused, stripe_inside, all_believe, repaired_here, l, may}
 
 -- ---- the verdict
 
 module _ (z : Shelf) (img : List ℕ) (disks : Disks z img) (s : State) (own : ours z s.now ≡ true) (t : ℕ) (v : Host Sector)
     (list : (d j : ℕ) → Label.believed (size z) (label_of z s.now) d t ≡ true → j < z.c → cur_of z img (strip d t j) ≡ (any_code z).shard t (v t) d j) where
-  -- the strips as they lie on the disks
-  g : ℕ → ℕ → Sector
-  g d j = cur_of z img (strip d t j)
-
   module _ (w : Whole s t) where
     -- the code finds nothing
-    sound : (any_code z).scrub t g ≡ all_sound
+    sound : (any_code z).scrub t (g z img disks s own t v list) ≡ all_sound
     unfolding g
-    sound = (any_code z).scrub_sound t (v t) g (λ d j h c. list d j (all_believe z s own t w d h) c)
+    sound = (any_code z).scrub_sound t (v t) (g z img disks s own t v list) (λ d j h c. list d j (all_believe z s own t w d h) c)
 
-    lies : Lying z t img (all_slots (slots z)) g
+    lies : Lying z t img (all_slots (slots z)) (g z img disks s own t v list)
     unfolding sector_of g
     lies d j hd hj e = sym (cur_bytes z img disks (strip d t j) (strip_is_inside z d t j hd (stripe_inside z s own t w) hj))
 
     module _ (found : Verdict) (stripe : List ℕ) (r : RepairedOf (l z img disks s own t v list) img t found stripe) where
       pub finds_nothing : found ≡ verdict.Sound
-      finds_nothing = mend_finds z t img (all_slots (slots z)) g lies (none_lost_lem (slots z) t (some_slots z)) found stripe (repaired_here z (l z img disks s own t v list) own img t found stripe r) ∙ ap verdict_of sound
+      finds_nothing = mend_finds z t img (all_slots (slots z)) (g z img disks s own t v list) lies (none_lost_lem (slots z) t (some_slots z)) found stripe (repaired_here z (l z img disks s own t v list) own img t found stripe r) ∙ ap verdict_of sound
 
   -- THE REPAIR IS REFUSED
   pub mend_refused : (work : List ℕ) (b : Begun) (after : List ℕ) → Repairs s t img work b after → (why : Refusal) × (b.outcome ≡ Refused why)

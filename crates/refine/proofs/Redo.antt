@@ -41,7 +41,8 @@ use Rattle.codecs.specs.Shelf.{Shelf, slots, geometry, size}
 use Rattle.codecs.specs.Labels.{label_of}
 use Rattle.codecs.proofs.Labels.{labels}
 use Rattle.codecs.specs.Records.{counts, stamp_number, stamp_in, stripe_in, changes_in}
-use Rattle.codecs.proofs.Records.{piece_of, records, end_back}
+use Rattle.codecs.proofs.Written.{piece_of}
+use Rattle.codecs.proofs.Records.{records, end_back}
 use Rattle.codecs.proofs.Order.{sector_stamp, stamp_one, later_number, zero_number, tail_may}
 use Rattle.refine.specs.Places.{sector_of, log_inside}
 use Rattle.refine.specs.Disks.{Disks, image_fits, seen_of}

@@ -14,7 +14,7 @@ use Rattle.disk.specs.declared.refusal.Outcome.TheVariants as outcome
 use Rattle.record.specs.Log.{part, area_of, restore_of, restore_answer, after_restore, area_part}
 use Rattle.protocol.specs.World.{log}
 use Rattle.codecs.specs.Shelf.{Shelf, slots, geometry}
-use Rattle.codecs.proofs.Records.{piece_of}
+use Rattle.codecs.proofs.Written.{piece_of}
 use Rattle.refine.specs.Places.{sector_of, log_inside}
 use Rattle.refine.specs.Disks.{Disks, cur_of}
 use Rattle.refine.proofs.Disks.{cur_bytes}

@@ -30,7 +30,8 @@ use Rattle.codecs.proofs.Sector.{zeros}
 use Rattle.codecs.specs.Shelf.{Shelf, slots, size}
 use Rattle.codecs.specs.Labels.{side_of, label_of}
 use Rattle.codecs.proofs.Labels.{encode_label, labels}
-use Rattle.codecs.proofs.Records.{piece_of, records}
+use Rattle.codecs.proofs.Written.{piece_of}
+use Rattle.codecs.proofs.Records.{records}
 use Rattle.codecs.specs.Media.{stamps}
 use Rattle.shards.proofs.Even.{any_code, any_sectors}
 use Rattle.stages.specs.Stage as Stage

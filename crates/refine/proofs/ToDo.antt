@@ -20,7 +20,7 @@ use Rattle.codecs.proofs.Sector.{zeros}
 use Rattle.codecs.specs.Shelf.{Shelf, slots, size}
 use Rattle.codecs.specs.Labels.{label_of}
 use Rattle.codecs.proofs.Labels.{sector_side, encode_label}
-use Rattle.codecs.proofs.Records.{piece_of}
+use Rattle.codecs.proofs.Written.{piece_of}
 use Rattle.stages.specs.Limits.{most_stages}
 use Rattle.stages.specs.State.{moved}
 use Rattle.stages.specs.Stage.{again, round_stage, late_stage, start_stage, create_stage, write_stage, last_stage, begin_stage, fill_stage, stage_at, stage_of}

@@ -28,7 +28,8 @@ use Rattle.codecs.proofs.Sector.{sector_path}
 use Rattle.codecs.specs.Shelf.{Shelf, slots, size}
 use Rattle.codecs.specs.Labels.{label_of}
 use Rattle.codecs.specs.Records.{stamp_number, stamp_of, tail_of}
-use Rattle.codecs.proofs.Records.{log_of, end_of, record_sector, records}
+use Rattle.codecs.proofs.Written.{log_of, end_of, record_sector}
+use Rattle.codecs.proofs.Records.{records}
 use Rattle.stages.specs.Limits.{most_stages}
 use Rattle.stages.specs.State.{moved}
 use Rattle.stages.specs.Stage.{write_stage, stage_at, stage_of}

@@ -25,7 +25,7 @@ use Rattle.protocol.specs.Log.{Write}
 use Rattle.codecs.specs.Sector.{Sector, Bytes}
 use Rattle.codecs.specs.Shelf.{Shelf, slots, geometry}
 use Rattle.codecs.specs.Records.{counts, strip_bytes}
-use Rattle.codecs.proofs.Records.{strip_part}
+use Rattle.codecs.proofs.Written.{strip_part}
 use Rattle.shards.specs.Parity as Parity
 use Rattle.shelf.specs.Kept.{shard_at, kept_of, part_of, record_sector, logged_answer}
 use Rattle.shelf.specs.Says.{when, unless}

@@ -116,3 +116,7 @@ module _ (z : Shelf) (img : List ℕ) (disks : Disks z img) (s : State) (own : o
 
   abbrev pub may : Outcome
   may = may_repair l s.kind s.absent s.count t img
+
+  -- the strips as they lie on the disks
+  unfoldable pub g : ℕ → ℕ → Sector
+  g d j = cur_of z img (strip d t j)

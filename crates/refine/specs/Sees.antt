@@ -21,7 +21,7 @@ use Rattle.codecs.specs.Sector.{Sector, Bytes}
 use Rattle.codecs.specs.Shelf.{Shelf, slots, geometry, size}
 use Rattle.codecs.specs.Labels.{label_of, ours}
 use Rattle.codecs.specs.Records.{strip_bytes}
-use Rattle.codecs.proofs.Records.{length_strip}
+use Rattle.codecs.proofs.Written.{length_strip}
 use Rattle.shards.specs.Parity.{byte_of}
 use Rattle.shards.specs.Parity as Parity
 use Rattle.blocks.specs.Slots.{there_at, there}

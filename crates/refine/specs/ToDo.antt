@@ -27,7 +27,8 @@ use Rattle.codecs.specs.Shelf.{Shelf, slots, size}
 use Rattle.codecs.specs.Labels.{side_of, label_of}
 use Rattle.codecs.proofs.Labels.{encode_label}
 use Rattle.codecs.specs.Records.{stamp_number}
-use Rattle.codecs.proofs.Records.{piece_of, records}
+use Rattle.codecs.proofs.Written.{piece_of}
+use Rattle.codecs.proofs.Records.{records}
 use Rattle.shards.proofs.Parity.{shard_ext}
 use Rattle.shards.specs.Strips.{shard_in, blocks_from}
 use Rattle.shards.specs.Exact.{blocks_blind}

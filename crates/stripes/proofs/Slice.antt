@@ -20,7 +20,7 @@ use Rattle.solve.specs.Lists.{shards_lost}
 use Rattle.codecs.specs.Sector.{Sector}
 use Rattle.codecs.specs.Shelf.{Shelf, slots, some_sectors}
 use Rattle.codecs.specs.Records.{strip_bytes}
-use Rattle.codecs.proofs.Records.{length_strip, strip_part}
+use Rattle.codecs.proofs.Written.{length_strip, strip_part}
 use Rattle.position.specs.Row.{in_row, row_length, row_at}
 use Rattle.position.specs.Lists.{ascending_shards}
 use Rattle.shards.specs.Parity.{byte}

@@ -26,7 +26,8 @@ use Rattle.protocol.specs.Pairs.{no_sets}
 use Rattle.codecs.specs.Sector.{Sector}
 use Rattle.codecs.specs.Shelf.{Shelf, slots, geometry, size, some_slots}
 use Rattle.codecs.specs.Records.{strip_bytes}
-use Rattle.codecs.proofs.Records.{length_strip, records}
+use Rattle.codecs.proofs.Written.{length_strip}
+use Rattle.codecs.proofs.Records.{records}
 use Rattle.shards.specs.Quorum.{few_of}
 use Rattle.shards.specs.Parity.{byte}
 use Rattle.shards.specs.Strips.{position, missing_of}

@@ -19,7 +19,7 @@ use Rattle.position.specs.Position.{filled, filled_blind}
 use Rattle.codecs.specs.Sector.{Sector}
 use Rattle.codecs.specs.Shelf.{Shelf, geometry, some_slots}
 use Rattle.codecs.specs.Records.{strip_bytes}
-use Rattle.codecs.proofs.Records.{length_strip}
+use Rattle.codecs.proofs.Written.{length_strip}
 use Rattle.record.specs.Log.{part}
 use Rattle.shards.specs.Parity.{byte}
 use Rattle.shards.specs.Strips.{position, missing_of, missing_has, blocks_byte}

@@ -19,7 +19,7 @@ use Rattle.position.specs.Position.{filled, filled_blind}
 use Rattle.codecs.specs.Sector.{Sector}
 use Rattle.codecs.specs.Shelf.{Shelf, slots, geometry}
 use Rattle.codecs.specs.Records.{strip_bytes}
-use Rattle.codecs.proofs.Records.{strip_part}
+use Rattle.codecs.proofs.Written.{strip_part}
 use Rattle.record.specs.Log.{part}
 use Rattle.shards.specs.Parity.{byte}
 use Rattle.strips.specs.Seen.{lost_of, seen, shown_byte, shard_shown, row_seen}
