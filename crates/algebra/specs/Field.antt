@@ -1,5 +1,5 @@
 -- Fields of characteristic 2: division, no divisors of zero; and names for the variables of the solver's expressions. Assumes nothing.
-use Rattle.std.specs.Prelude.{◌≡◌, ◌≢◌, List, [], ◌∷◌}
+use Rattle.std.specs.Prelude.{◌≡◌, ◌≢◌, [], ◌∷◌}
 use Rattle.std.proofs.Common.{◌∙◌}
 use Rattle.algebra.specs.Ring.{Ring, Expr, var, one, ◌⊗◌, ring_from, none, given, eq_of_sum, mul_zero}
 

@@ -1,6 +1,6 @@
 -- The equations of up to three lost shards, rows 1, x, x * x, in any field of characteristic 2: the explicit formula is the lost
 -- value. Assumes nothing.
-use Rattle.std.specs.Prelude.{◌≡◌, ◌≢◌, List, [], ◌∷◌}
+use Rattle.std.specs.Prelude.{◌≡◌, ◌≢◌, [], ◌∷◌}
 use Rattle.algebra.specs.Ring.{one, ◌⊕◌, ◌⊗◌, ring_from, none, given}
 use Rattle.algebra.specs.Field.{Field, X, Y, Z, P, Q, S, U, K, W, divided, mul_nonzero, sum_nonzero}
 

@@ -1,6 +1,6 @@
 -- ONE CALL ON TWO IMAGES that are alike: what it may make of the one it may make of the other, with the same answer, state and work area;
 -- and the images are alike again, on the shelf and with the absent slots of the new state. Assumes nothing.
-use Rattle.std.specs.Prelude.{◌≡◌, refl, Bool, true, false, cond, ◌&&◌, List, ◌⊎◌, ℕ, ◌+◌, eqb, length}
+use Rattle.std.specs.Prelude.{◌≡◌, refl, Bool, true, false, cond, ◌&&◌, List, ℕ, ◌+◌, eqb, length}
 use Rattle.std.proofs.Common.{sym, ap, subst, ◌∙◌, inl, inr, eqb-true}
 use Rattle.disk.specs.Tests.{and_left, and_right}
 use Rattle.disk.specs.Mask.{with_slot, without_slot}

@@ -2,8 +2,7 @@
 -- change both images as it likes, as long as they are then alike where the slots are present that the call looks at: so the bytes of
 -- absent slots may be others on each image, at every call anew. The two runs get the same answers, the same states and the same work
 -- areas (`same_answers`); and to each run on the one image there is that run on the other (`other_run`). Assumes nothing.
-use Rattle.std.specs.Prelude.{◌≡◌, refl, false, List, [], ◌∷◌, ℕ, ◌+◌}
-use Rattle.std.proofs.Common.{sym, ap₂, subst, arith}
+use Rattle.std.specs.Prelude.{◌≡◌, List, [], ◌∷◌, ℕ}
 use Rattle.codeword.specs.Unique.{AllBytes}
 use Rattle.disk.specs.declared.geometry.Geometry.{Geometry}
 use Rattle.label.specs.Fields.{geometry_of}

@@ -9,7 +9,7 @@ use Prim.Native.Nat.{ℕ, ◌+◌, ◌≤◌, ◌<◌}
 use Rattle.disk.specs.Limits.{most_n, first_log}
 use Rattle.disk.specs.Geometry.{stripes_of}
 use Rattle.disk.specs.Mask.{in_mask, mask_of}
-use Rattle.disk.specs.Image.{sector, fits_image, fits_image_lem}
+use Rattle.disk.specs.Image.{fits_image, fits_image_lem}
 use Rattle.disk.specs.declared.geometry.Geometry.{Geometry}
 use Rattle.disk.specs.declared.refusal.Refusal.TheVariants.{BadImage, NoLabel, NotNow, BadBuffer}
 use Rattle.disk.specs.declared.refusal.Outcome.{Outcome}

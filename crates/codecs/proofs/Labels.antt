@@ -1,12 +1,12 @@
 -- The protocol's labels as the bytes of a real sector: the codec that document 03's table gives, and its laws. The
 -- protocol writes n where no slot is being rebuilt, the table 255; a sector that tells of another shelf is no label.
 -- Assumes nothing.
-use Rattle.std.specs.Prelude.{◌≡◌, ◌⊎◌, ◌≢◌, List, [], ◌∷◌, Bool, not, ◌&&◌, eqb, ltb, leb}
+use Rattle.std.specs.Prelude.{◌≡◌, ◌⊎◌, ◌≢◌, List, [], ◌∷◌, Bool, ◌&&◌, eqb, ltb, leb}
 use Rattle.std.proofs.Math.Path.{refl, sym, ap, fun_ext}
 use Rattle.std.proofs.Common.{◌∙◌, subst, eq-or-lt_of_le, eq-zero-or-pos, arith}
 use Rattle.std.proofs.Math.Logic.{⊎_elim}
 use Rattle.std.proofs.Math.Bool.{true, false, cond}
-use Prim.Native.Nat.{ℕ, suc, ◌+◌, ◌≤◌, ◌<◌, ◌%◌, ◌^◌}
+use Prim.Native.Nat.{ℕ, ◌+◌, ◌≤◌, ◌<◌, ◌%◌, ◌^◌}
 use borrow.Author.Tests.{eqb-true, eqb-false, eq-eqb, ne_eqb, leb-true, le-leb, ltb-true, lt-ltb}
 use Rattle.disk.specs.Tests.{and_left, and_right, both}
 use Rattle.crc32c.specs.Crc.{crc_of}
@@ -25,7 +25,7 @@ use Rattle.label.specs.declared.codec.Decoded.{Decoded}
 use Rattle.label.specs.declared.codec.Decoded.TheVariants.{Valid, Nothing}
 use Rattle.label.proofs.Build.{length_sealed}
 use Rattle.label.proofs.Fits.{Fits, fits_says}
-use Rattle.label.proofs.Laws.{decode_encode, zeros_nothing, Meant, decode_says}
+use Rattle.label.proofs.Laws.{decode_encode, zeros_nothing, decode_says}
 use Rattle.protocol.specs.Label.{Label, LabelCodec}
 use Rattle.protocol.specs.Strangers.{Strangers}
 use Rattle.codecs.specs.Sector.{Sector, Bytes}

@@ -1,8 +1,8 @@
 -- What the protocol asks of its medium beyond the two codecs, as far as it is about bytes: which labels and records fit,
 -- which stamps belong to an epoch, and what zeros are; and so the medium as a whole, for every code that makes zeros of zeros.
 -- Assumes nothing.
-use Rattle.std.specs.Prelude.{◌≡◌, refl, Bool, true, List, [], ◌∷◌, ℕ, suc, ◌*◌, ◌≤◌, ◌<◌, eqb, length, replicate}
-use Rattle.std.proofs.Common.{ap, ap₂, ◌∙◌, suc-mul, mul-le-mul_right, lt_trans, arith, lit<, eqb-true}
+use Rattle.std.specs.Prelude.{◌≡◌, refl, Bool, true, List, [], ◌∷◌, ℕ, suc, ◌≤◌, ◌<◌, eqb, length, replicate}
+use Rattle.std.proofs.Common.{ap, ap₂, ◌∙◌, lt_trans, lit<, eqb-true}
 use Rattle.disk.specs.Tests.{and_left, and_right}
 use Rattle.label.specs.Fields.{most_generation}
 use Rattle.label.specs.Bytes.{all_zero}

@@ -1,6 +1,6 @@
 -- A sector as the disks hold it: 512 bytes. Two sectors of the same bytes are one sector, and what is put together from
 -- bytes is bytes. Assumes nothing.
-use Rattle.std.specs.Prelude.{◌≡◌, refl, List, [], ◌∷◌, ◌++◌, ℕ, zero, suc, ◌<◌, ◌/◌, length, get_or, take, drop, replicate}
+use Rattle.std.specs.Prelude.{◌≡◌, List, [], ◌∷◌, ◌++◌, ℕ, zero, suc, ◌/◌, length, take, drop, replicate}
 use mathlib.Core.HLevel.{Π_prop, is_prop→PathP}
 use Rattle.std.proofs.Math.Nat.{ℕ_set}
 use Rattle.std.proofs.Math.Bridge.{le_prop}

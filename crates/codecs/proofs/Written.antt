@@ -1,30 +1,27 @@
 -- The log records' sectors, as real bytes: what the protocol's codec of records writes and reads back. Assumes nothing.
-use Rattle.std.specs.Prelude.{◌≡◌, refl, Bool, true, false, ◌&&◌, length, take, drop}
-use Rattle.std.proofs.Common.{sym, ◌∙◌, mod-lt, mod-eq_of_lt, div-add-mod', suc-mul, eq-or-lt_of_le, le_of_suc-le-suc, div-lt_iff_lt-mul, lt_trans, lt_of_lt_of_le, arith, lit<, pow_mono, length-append, length-drop, drop_at, take_all, length-take-le, lt-ltb, le-ltb}
+use Rattle.std.specs.Prelude.{◌≡◌, refl, length, take, drop}
+use Rattle.std.proofs.Common.{sym, ◌∙◌, mod-lt, div-add-mod', suc-mul, eq-or-lt_of_le, le_of_suc-le-suc, div-lt_iff_lt-mul, arith, lit<, length-append, length-drop, drop_at, take_all}
 use Rattle.std.proofs.Math.Path.{ap, ap₂}
 use Rattle.std.proofs.Math.Logic.{⊎_elim}
 use Rattle.std.proofs.Math.Bool.{cond}
-use mathlib.Core.List.{List, [], ◌++◌}
-use Prim.Native.Nat.{ℕ, zero, suc, ◌+◌, ◌*◌, ◌-◌, ◌≤◌, ◌<◌, ◌/◌, ◌%◌, ◌^◌}
+use mathlib.Core.List.{List, ◌++◌}
+use Prim.Native.Nat.{ℕ, zero, suc, ◌+◌, ◌*◌, ◌-◌, ◌<◌, ◌%◌, ◌^◌}
 use Rattle.std.proofs.Math.Dec.{ltb}
 use Rattle.std.proofs.Math.ListN.{replicate}
 use Rattle.std.proofs.lemmas.List.{take-append-le, drop-append-le}
 use Rattle.disk.specs.Limits.{sector_bytes}
 use Rattle.disk.specs.Number.{number_at, bytes_of}
-use Rattle.disk.specs.Image.{lt_or_ge}
-use Rattle.disk.specs.Mask.{in_mask, mask_lt, mask_below}
-use Rattle.disk.specs.Geometry.{shard_of, shard_lt, slot_shard}
 use Rattle.record.specs.Layout.{stamp_length, body, rests_at, rest}
 use Rattle.record.specs.Stamp.{stamp_at, stamp_bytes, StampFits}
-use Rattle.record.specs.Tail.{tail_at, tail_sector, field_bytes, rests, TailFits, tail_back}
-use Rattle.record.specs.Log.{part, log_sector, restore_of, log_stamp, tail_stamp, length_log, length_tail, restore_back}
+use Rattle.record.specs.Tail.{tail_sector, field_bytes, rests}
+use Rattle.record.specs.Log.{part, log_sector, restore_of, length_log, length_tail}
 use Rattle.record.specs.declared.stamp.Stamp.{Stamp}
 use Rattle.record.specs.declared.tail.Tail.{Tail}
-use Rattle.protocol.specs.Log.{Write, RecordCodec}
+use Rattle.protocol.specs.Log.{Write}
 use Rattle.codecs.specs.Sector.{Sector, Bytes}
-use Rattle.codecs.proofs.Sector.{zeros, sector_path, bytes_none, bytes_append, bytes_take, bytes_drop, bytes_zeros, bytes_number}
-use Rattle.codecs.specs.Shelf.{Shelf, slots, some_slots, few_slots, some_sectors, short_strip, stripes_few}
-use Rattle.codecs.specs.Records.{counts, stamp_number, stamp_of, stamp_in, stripe_in, strip_bytes, length_restore, changes_shard, shards_of, tail_of, changes_in, Fitting}
+use Rattle.codecs.proofs.Sector.{zeros, bytes_none, bytes_append, bytes_take, bytes_drop, bytes_zeros, bytes_number}
+use Rattle.codecs.specs.Shelf.{Shelf, some_sectors, short_strip}
+use Rattle.codecs.specs.Records.{counts, stamp_number, stamp_of, stamp_in, strip_bytes, length_restore, tail_of}
 
 pub stamp_number_lem : (σ : ℕ) → stamp_number (stamp_of σ) ≡ σ
 stamp_number_lem σ = div-add-mod' σ counts

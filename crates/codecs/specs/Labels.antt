@@ -1,25 +1,21 @@
 -- The protocol's labels as the bytes of a real sector: the codec that document 03's table gives, and its laws. The
 -- protocol writes n where no slot is being rebuilt, the table 255; a sector that tells of another shelf is no label.
 -- Assumes nothing.
-use Rattle.std.specs.Prelude.{◌≡◌, ◌⊎◌, ◌≢◌, List, [], ◌∷◌, Bool, not, ◌&&◌, eqb, ltb, leb}
-use Rattle.std.proofs.Math.Path.{refl, sym, ap, fun_ext}
-use Rattle.std.proofs.Common.{◌∙◌, subst, eq-or-lt_of_le, eq-zero-or-pos, arith}
-use Rattle.std.proofs.Math.Logic.{⊎_elim}
+use Rattle.std.specs.Prelude.{◌≡◌, Bool, not, ◌&&◌, eqb}
+use Rattle.std.proofs.Math.Path.{refl}
+use Rattle.std.proofs.Common.{arith}
 use Rattle.std.proofs.Math.Bool.{true, false, cond}
-use Prim.Native.Nat.{ℕ, suc, ◌+◌, ◌≤◌, ◌<◌, ◌%◌, ◌^◌}
-use borrow.Author.Tests.{eqb-true, eqb-false, eq-eqb, ne_eqb, leb-true, le-leb, ltb-true, lt-ltb}
+use Prim.Native.Nat.{ℕ, suc, ◌≤◌, ◌<◌, ◌%◌}
+use borrow.Author.Tests.{eqb-true, eqb-false, eq-eqb, ne_eqb}
 use Rattle.disk.specs.Mask.{in_mask, mask_of}
 use Rattle.disk.specs.Geometry.{stripes_of}
-use Rattle.disk.specs.declared.geometry.Geometry.{Geometry}
 use Rattle.label.specs.Fields.{no_slot, most_generation}
 use Rattle.label.specs.Valid.{label_at, decode_of}
 use Rattle.label.specs.Newest.{same_shelf}
 use Rattle.label.specs.declared.fields.Label as bytes
 use Rattle.label.specs.declared.codec.Decoded.{Decoded}
 use Rattle.label.specs.declared.codec.Decoded.TheVariants.{Valid, Nothing}
-use Rattle.label.proofs.Build.{length_sealed}
-use Rattle.label.proofs.Fits.{Fits, fits_says}
-use Rattle.label.proofs.Laws.{decode_encode, zeros_nothing, Meant, decode_says}
+use Rattle.label.proofs.Laws.{Meant}
 use Rattle.protocol.specs.Label.{Label}
 use Rattle.protocol.specs.Program.{Proper}
 use Rattle.codecs.specs.Sector.{Sector}

@@ -1,22 +1,18 @@
 -- The protocol's log records as the bytes of real sectors: a stamp is epoch and count in one number, a strip is its c
 -- sectors in a row, the slots that a write changes are told as its stripe's shards. Assumes nothing.
-use Rattle.std.specs.Prelude.{◌≡◌, refl, Bool, true, false, ◌&&◌, length, take, drop}
-use Rattle.std.proofs.Common.{sym, ◌∙◌, mod-lt, mod-eq_of_lt, div-add-mod', suc-mul, eq-or-lt_of_le, le_of_suc-le-suc, div-lt_iff_lt-mul, lt_trans, lt_of_lt_of_le, arith, lit<, pow_mono, length-append, length-drop, drop_at, take_all, length-take-le, lt-ltb, le-ltb}
-use Rattle.std.proofs.Math.Path.{ap, ap₂}
-use Rattle.std.proofs.Math.Logic.{⊎_elim}
-use Rattle.std.proofs.Math.Bool.{cond}
+use Rattle.std.specs.Prelude.{◌≡◌, Bool, true, ◌&&◌, length, take, drop}
+use Rattle.std.proofs.Common.{◌∙◌, arith, length-append, length-drop, length-take-le}
+use Rattle.std.proofs.Math.Path.{ap₂}
 use mathlib.Core.List.{List, [], ◌++◌}
-use Prim.Native.Nat.{ℕ, zero, suc, ◌+◌, ◌*◌, ◌-◌, ◌≤◌, ◌<◌, ◌/◌, ◌%◌, ◌^◌}
+use Prim.Native.Nat.{ℕ, zero, suc, ◌+◌, ◌*◌, ◌<◌, ◌/◌, ◌%◌, ◌^◌}
 use Rattle.std.proofs.Math.Dec.{ltb}
-use Rattle.std.proofs.Math.ListN.{replicate}
-use Rattle.std.proofs.lemmas.List.{take-append-le, drop-append-le}
 use Rattle.disk.specs.Limits.{sector_bytes, most_c}
 use Rattle.disk.specs.Mask.{in_mask, mask_of}
 use Rattle.disk.specs.Geometry.{stripes_of, slot_of, shard_of}
 use Rattle.record.specs.Layout.{stamp_length, body, rests_at, rest}
-use Rattle.record.specs.Stamp.{stamp_at, stamp_bytes, StampFits}
-use Rattle.record.specs.Tail.{tail_at, tail_sector, field_bytes, rests, TailFits, tail_back}
-use Rattle.record.specs.Log.{part, log_sector, restore_of, log_stamp, tail_stamp, length_log, length_tail, restore_back}
+use Rattle.record.specs.Stamp.{stamp_at}
+use Rattle.record.specs.Tail.{tail_at}
+use Rattle.record.specs.Log.{restore_of}
 use Rattle.record.specs.declared.stamp.Stamp.{Stamp}
 use Rattle.record.specs.declared.tail.Tail.{Tail}
 use Rattle.protocol.specs.Log.{Write}

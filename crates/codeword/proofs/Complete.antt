@@ -1,9 +1,8 @@
 -- Any k shards can be completed: a table solved for m shards gives these from the others, so that the equations hold. Assumes
 -- nothing.
-use Rattle.std.specs.Prelude.{◌≡◌, Bool, true, false, List, ◌≢◌, ◌⊎◌, length, get_or}
-use Rattle.std.proofs.Math.Path.{refl}
-use Rattle.std.proofs.Common.{sym, ap, ◌∙◌, inl, inr, eq-or-lt_of_le, le_of_suc-le-suc, arith}
-use Prim.Native.Nat.{ℕ, zero, suc, ◌+◌, ◌≤◌, ◌<◌}
+use Rattle.std.specs.Prelude.{◌≡◌, List, length, get_or}
+use Rattle.std.proofs.Common.{arith}
+use Prim.Native.Nat.{ℕ, ◌+◌, ◌≤◌, ◌<◌}
 use Rattle.codeword.specs.Stripe.{Holds, Bytes}
 use Rattle.codeword.specs.Table.{SolvedFor}
 use Rattle.codeword.specs.Complete.{completed, completed_bytes, completed_rows}

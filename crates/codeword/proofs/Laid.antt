@@ -1,7 +1,6 @@
 -- Stripes made of their bytes. Assumes nothing.
-use Rattle.std.specs.Prelude.{◌≡◌, refl, List, [], ◌∷◌, ℕ, zero, suc, ◌+◌, ◌*◌, ◌/◌, ◌%◌, ◌≤◌, ◌<◌, get_or}
-use Rattle.std.proofs.Common.{sym, ap, ap₂, ◌∙◌, mod-lt, arith, lit<}
-use Rattle.std.proofs.Math.Arith.{digits_lt, digits_div, digits_mod}
+use Rattle.std.specs.Prelude.{◌≡◌, ℕ, ◌+◌, ◌<◌}
+use Rattle.std.proofs.Common.{sym, ap, ◌∙◌, arith}
 use Rattle.field.specs.Field.{mul_of}
 use Rattle.codeword.specs.Sum.{total_ext}
 use Rattle.codeword.specs.Stripe.{coef, Holds, byte_at, Sound}

@@ -1,7 +1,7 @@
 -- Wrong shards: what a stripe that is not sound tells about them, and for m = 2 what it can't. The theorems come from `determined`
 -- alone. Assumes nothing.
-use Rattle.std.specs.Prelude.{◌≡◌, refl, Bool, true, false, cond, List, [], ◌∷◌, ◌≢◌, ℕ, zero, suc, ◌+◌, ◌*◌, ◌≤◌, ◌<◌, eqb, length, set}
-use Rattle.std.proofs.Common.{sym, ap, ◌∙◌, true≢false, arith, lit<, get_or-set_other, eqb-true, eq-eqb, ne_eqb}
+use Rattle.std.specs.Prelude.{◌≡◌, refl, Bool, true, false, cond, List, [], ◌∷◌, ◌≢◌, ℕ, zero, suc, ◌+◌, ◌≤◌, ◌<◌, eqb, length, set}
+use Rattle.std.proofs.Common.{sym, ap, ◌∙◌, true≢false, arith, lit<, eqb-true, ne_eqb}
 use Rattle.std.specs.Int.Bits.{bit_xor}
 use Rattle.std.proofs.lemmas.Bool.{eqb-false}
 use Rattle.field.specs.Field.{mul_of, power_of}

@@ -1,8 +1,7 @@
 -- What a solved table is for: a row gives its lost shard from the others, and whether one shard alone can be to blame for a
 -- position is told by the rows that leave it out. Assumes nothing.
-use Rattle.std.specs.Prelude.{◌≡◌, refl, Bool, true, false, cond, List, [], ◌∷◌, ◌≢◌, ◌⊎◌, ℕ, ◌+◌, ◌≤◌, ◌<◌, eqb, length, get_or}
-use Rattle.std.proofs.Common.{sym, ap, ap₂, ◌∙◌, subst, inl, inr, eq-zero-or-pos, arith, lit<, eq-eqb, ne_eqb}
-use Rattle.std.specs.Int.Bits.{bit_xor}
+use Rattle.std.specs.Prelude.{◌≡◌, List, [], ◌∷◌, ◌⊎◌, ℕ, ◌+◌, ◌≤◌, ◌<◌}
+use Rattle.std.proofs.Common.{sym, ◌∙◌, subst, inl, inr, eq-zero-or-pos, arith, lit<}
 use Rattle.field.proofs.Bytes.{bytes}
 use Rattle.codeword.specs.Stripe.{Holds, Bytes}
 use Rattle.codeword.specs.Table.{row_sum, SolvedFor}

@@ -1,6 +1,6 @@
 -- Stripes made of their bytes. Assumes nothing.
 use Rattle.std.specs.Prelude.{◌≡◌, refl, List, [], ◌∷◌, ℕ, zero, suc, ◌+◌, ◌*◌, ◌/◌, ◌%◌, ◌≤◌, ◌<◌, get_or}
-use Rattle.std.proofs.Common.{sym, ap, ap₂, ◌∙◌, mod-lt, arith, lit<}
+use Rattle.std.proofs.Common.{ap₂, ◌∙◌, mod-lt, arith, lit<}
 use Rattle.std.proofs.Math.Arith.{digits_lt, digits_div, digits_mod}
 use Rattle.codeword.specs.Stripe.{byte_at}
 use Rattle.codeword.specs.Unique.{AllBytes}

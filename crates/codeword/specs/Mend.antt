@@ -1,7 +1,7 @@
 -- What a solved table is for: a row gives its lost shard from the others, and whether one shard alone can be to blame for a
 -- position is told by the rows that leave it out. Assumes nothing.
-use Rattle.std.specs.Prelude.{◌≡◌, refl, Bool, true, false, cond, List, [], ◌∷◌, ◌≢◌, ◌⊎◌, ℕ, ◌+◌, ◌≤◌, ◌<◌, eqb, length, get_or}
-use Rattle.std.proofs.Common.{sym, ap, ap₂, ◌∙◌, subst, inl, inr, eq-zero-or-pos, arith, lit<, eq-eqb, ne_eqb}
+use Rattle.std.specs.Prelude.{◌≡◌, refl, Bool, true, false, cond, List, ◌≢◌, ℕ, ◌+◌, ◌<◌, eqb, length, get_or}
+use Rattle.std.proofs.Common.{sym, ap, ap₂, ◌∙◌, eq-eqb, ne_eqb}
 use Rattle.std.specs.Int.Bits.{bit_xor}
 use Rattle.field.specs.Field.{mul_of}
 use Rattle.field.proofs.Bytes.{bytes}

@@ -1,10 +1,7 @@
 -- The coefficients: any rows of them determine as many data shards. `Minors` says so of a shape, and `minors` proves it of each
 -- that is in range; nothing else about the coefficients is used elsewhere. Assumes nothing.
-use Rattle.std.specs.Prelude.{◌≡◌, refl, List, [], ◌∷◌, ◌≢◌, ℕ, ◌+◌, ◌-◌, ◌*◌, ◌≤◌, ◌<◌, length}
-use Rattle.std.proofs.Common.{sym, ap, ◌∙◌, ⊎_elim, mul-le-mul_right, mul-add, suc-mul, arith}
+use Rattle.std.specs.Prelude.{◌≡◌, List, ℕ, ◌*◌, ◌≤◌, length}
 use Rattle.std.specs.Int.Bits.{bit_xor}
-use Rattle.algebra.specs.Ring.{zer, one, ◌⊕◌, ◌⊗◌, none, given}
-use Rattle.algebra.specs.Field.{X, Y, Z, P, Q, S, U, K}
 use Rattle.field.specs.Field.{mul_of, power_of}
 use Rattle.codeword.specs.Stripe.{coef, Bytes}
 use Rattle.codeword.specs.Chosen.{All, Falling, over}

@@ -1,6 +1,6 @@
 -- The code of document 01, section 2: what the parity shards hold, and when a stripe is sound. A stripe is k + m shards of `len`
 -- bytes one behind the other; shard r begins at r * len; each byte position is on its own. Assumes nothing.
-use Rattle.std.specs.Prelude.{◌≡◌, Bool, true, false, cond, List, [], ◌∷◌, ◌≢◌, ℕ, zero, suc, ◌+◌, ◌*◌, ◌≤◌, ◌<◌, eqb, ltb, length, get_or}
+use Rattle.std.specs.Prelude.{◌≡◌, Bool, true, false, cond, List, [], ◌∷◌, ℕ, ◌+◌, ◌*◌, ◌≤◌, ◌<◌, eqb, get_or}
 use Rattle.field.specs.Field.{mul_of, power_of}
 use Rattle.codeword.specs.Sum.{total}
 

@@ -1,9 +1,9 @@
 -- Sums of n terms in the field. Assumes nothing.
-use Rattle.std.specs.Prelude.{◌≡◌, refl, Bool, true, false, cond, List, [], ◌∷◌, ◌≢◌, ◌⊎◌, ℕ, zero, suc, ◌+◌, ◌≤◌, ◌<◌, eqb}
-use Rattle.std.proofs.Common.{sym, ap, ap₂, ◌∙◌, subst, inl, inr, ⊎_elim, eq-or-lt_of_le, le_of_suc-le-suc, add-zero, add-suc, arith, lit<, eq-eqb, ne_eqb}
+use Rattle.std.specs.Prelude.{◌≡◌, refl, Bool, true, false, cond, [], ◌∷◌, ◌≢◌, ◌⊎◌, ℕ, zero, suc, ◌+◌, ◌<◌, eqb}
+use Rattle.std.proofs.Common.{sym, ap, ap₂, ◌∙◌, inl, inr, eq-or-lt_of_le, le_of_suc-le-suc, add-zero, add-suc, arith, lit<, eq-eqb, ne_eqb}
 use Rattle.std.specs.Int.Bits.{bit_xor}
 use Rattle.std.proofs.lemmas.Bool.{eqb-false}
-use Rattle.algebra.specs.Ring.{◌⊕◌, ◌⊗◌}
+use Rattle.algebra.specs.Ring.{◌⊕◌}
 use Rattle.algebra.specs.Field.{X, Y, Z, P}
 use Rattle.field.specs.Field.{mul_of}
 use Rattle.field.proofs.Bytes.{bytes}

@@ -1,7 +1,7 @@
 -- Tables of equations. Row j of a table with n columns says of the bytes x 0 .. x (n - 1) of a position: the sum of the row's
 -- entries times the bytes is 0. The code's own table has a column for each shard: a data shard's coefficients, and for parity
 -- shard j a 1 in row j. Assumes nothing.
-use Rattle.std.specs.Prelude.{◌≡◌, Bool, true, false, cond, List, [], ◌∷◌, ℕ, zero, suc, ◌+◌, ◌*◌, ◌≤◌, ◌<◌, eqb, ltb, length, get_or}
+use Rattle.std.specs.Prelude.{◌≡◌, cond, List, ℕ, ◌+◌, ◌*◌, ◌<◌, eqb, ltb, length, get_or}
 use Rattle.field.specs.Field.{mul_of}
 use Rattle.codeword.specs.Sum.{total}
 use Rattle.codeword.specs.Stripe.{coef, Holds, Bytes}

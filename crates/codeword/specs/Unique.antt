@@ -1,7 +1,6 @@
 -- Any k of the k + m shards determine the rest: two sound stripes that agree but for at most m shards agree everywhere. The
 -- coefficients enter by `minors` alone. Assumes nothing.
-use Rattle.std.specs.Prelude.{◌≡◌, refl, Bool, true, false, not, List, ℕ, ◌+◌, ◌-◌, ◌*◌, ◌≤◌, ◌<◌, length, get_or}
-use Rattle.std.proofs.Common.{sym, ap, ap₂, ◌∙◌, ⊎_elim, eq-zero-or-pos, arith}
+use Rattle.std.specs.Prelude.{◌≡◌, Bool, false, not, List, ℕ, ◌+◌, ◌≤◌, ◌<◌, length, get_or}
 use Rattle.std.specs.Int.Bits.{bit_xor}
 use Rattle.codeword.specs.Stripe.{Holds, Bytes, has}
 use Rattle.codeword.specs.Chosen.{chosen}

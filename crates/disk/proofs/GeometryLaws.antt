@@ -1,18 +1,11 @@
 -- Where things lie on a shelf, in the words of the document: n slots, S sectors a disk, strips of c sectors, k data
 -- shards a stripe. The laws: strips lie apart, behind the log and within the disk; for each stripe shards and slots are
 -- one to one; blocks and data shards are one to one. Assumes nothing.
-use Rattle.std.specs.Prelude.{◌≡◌, refl, Bool, true, false, ◌&&◌, ◌||◌, cond, ℕ, ◌+◌, ◌*◌, ◌-◌, ◌≤◌, ◌<◌, ◌/◌, ◌%◌, leb, eqb}
-use Rattle.std.proofs.Common.{sym, ◌∙◌, le_trans, mul-le-mul_left, mul-le-mul_right, div-mul-le_self, div-le_self, le-div_iff_mul-le, one-mul, mod-eq_of_lt, suc-mul, div-lt_iff_lt-mul, leb-true, eqb-true}
-use Rattle.std.proofs.Math.Path.{ap}
-use Rattle.std.proofs.Math.Nat.{mod-lt, mod-add-mod, add-mod_right, div-add-mod', add-mul-mod_self_right}
+use Rattle.std.specs.Prelude.{ℕ, ◌+◌, ◌-◌, ◌≤◌, ◌<◌, ◌/◌}
+use Rattle.std.proofs.Common.{mul-le-mul_right, div-mul-le_self, suc-mul}
 use native.Mathlib.Omega.{arith}
-use Rattle.std.proofs.Math.Arith.{digits_lt, digits_div, digits_mod}
 use Rattle.disk.specs.Limits.{first_strip}
-use Rattle.disk.specs.declared.refusal.Refusal.TheVariants.{BadImage, BadBlock}
 use Rattle.disk.specs.declared.geometry.Geometry.{Geometry}
-use Rattle.disk.specs.declared.geometry.Found.{Found}
-use Rattle.disk.specs.declared.geometry.Found.TheVariants.{At, Refused}
-use Rattle.disk.specs.declared.geometry.Placed as declared
 use Rattle.disk.specs.Geometry.{stripes_of, strip_of, InRange}
 
 -- every strip lies within the disk

@@ -1,22 +1,16 @@
 -- The lent image: sector s of slot d begins at (d * S + s) * 512. Reading a sector, putting one, and the laws that later
 -- proofs live on: after a put that sector is the new one; every other sector of every slot, the length, and every byte
 -- outside the 512 are as before. They hold for every n and S. Assumes nothing.
-use Rattle.std.specs.Prelude.{◌≡◌, ◌⊎◌, Bool, true, ◌&&◌, cond, ltb, eqb, get_or}
-use Rattle.std.proofs.Common.{sym, ap₂, ◌∙◌, ⊎_elim, eq-zero-or-pos, arith, length-drop, drop_of_length-le, take-append-drop, length-take-le, drop_at, get_or-take, get_or-drop, ext_get_or, get_or-append-add, drop-drop, ltb-true, eqb-true}
+use Rattle.std.specs.Prelude.{◌≡◌, ◌⊎◌, get_or}
+use Rattle.std.proofs.Common.{sym, ◌∙◌, ⊎_elim, arith, length-drop, length-take-le, drop_at}
 use Rattle.std.proofs.Math.Path.{ap}
 use Rattle.std.proofs.Math.Logic.{inl, inr}
-use mathlib.Core.List.{List, [], ◌++◌, append_assoc, append-nil}
-use Prim.Native.Nat.{ℕ, ◌+◌, ◌*◌, ◌-◌, ◌≤◌, ◌<◌, ◌/◌, ◌%◌}
+use mathlib.Core.List.{List, ◌++◌, append_assoc}
+use Prim.Native.Nat.{ℕ, ◌+◌, ◌*◌, ◌≤◌, ◌<◌, ◌/◌, ◌%◌}
 use Rattle.std.proofs.Math.Arith.{digits_lt, digits_div, digits_mod}
-use Rattle.std.proofs.Math.ListN.{length, take, drop, get_or-append}
-use Rattle.std.proofs.Math.Seq.{paste, length-paste, length_paste_head, take_at, take_all, take-length}
-use Rattle.std.proofs.lemmas.List.{drop-append-le, take-append-le}
-use borrow.Rule.Slice.PartMut.{put_mid, mid_of, Post-is}
+use Rattle.std.proofs.Math.ListN.{length, take, drop}
+use Rattle.std.proofs.Math.Seq.{paste, length-paste, take_at, take_all}
 use Rattle.disk.specs.Limits.{sector_bytes}
-use Rattle.disk.specs.declared.geometry.Geometry.{Geometry}
-use Rattle.disk.specs.declared.refusal.Refusal.TheVariants.{BadImage, BadBlock, BadBuffer}
-use Rattle.disk.specs.declared.refusal.Outcome.{Outcome}
-use Rattle.disk.specs.declared.refusal.Outcome.TheVariants.{Done, Refused}
 use Rattle.disk.specs.Image.{place, sector, put_sector, Shape, lt_or_ge, get_or_paste_other, part_ext}
 
 -- a sector in range lies within the image

@@ -1,13 +1,12 @@
 -- Numbers in bytes, lowest byte first, of any width: the number of w bytes at a place, the bytes with a number written
 -- there, and a number's own bytes. What is written reads back, and no byte outside changes. Assumes nothing.
-use Rattle.std.specs.Prelude.{◌≡◌, refl, ◌⊎◌, List, [], ◌∷◌, ◌++◌, length, get_or, set, drop}
-use Rattle.std.proofs.Common.{sym, ap₂, ◌∙◌, subst, inl, inr, ⊎_elim, pow-suc, lit<, length-set, length-append, get_or-set_same, get_or-set_other}
+use Rattle.std.specs.Prelude.{◌≡◌, refl, ◌⊎◌, List, [], ◌∷◌, ◌++◌, length, get_or, set}
+use Rattle.std.proofs.Common.{sym, ap₂, ◌∙◌, inl, inr, ⊎_elim, pow-suc, length-set, length-append, get_or-set_same}
 use Rattle.std.proofs.Math.Path.{ap}
 use Prim.Native.Nat.{ℕ, zero, suc, ◌+◌, ◌*◌, ◌-◌, ◌≤◌, ◌<◌, ◌/◌, ◌%◌, ◌^◌}
-use Rattle.std.proofs.Math.Nat.{pow-le-pow_right, one-le-pow}
 use native.Mathlib.Omega.{arith}
 use Rattle.std.proofs.Math.ListN.{get_or-eq_default}
-use Rattle.std.proofs.Math.Seq.{set_out, set-append_seam, append_snoc, get_or-append_seam}
+use Rattle.std.proofs.Math.Seq.{append_snoc, get_or-append_seam}
 use Rattle.disk.specs.Number.{number_at, with_number, byte_other, bytes_of}
 
 -- a number depends on its own bytes only

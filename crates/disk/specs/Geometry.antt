@@ -2,7 +2,7 @@
 -- shards a stripe. The laws: strips lie apart, behind the log and within the disk; for each stripe shards and slots are
 -- one to one; blocks and data shards are one to one. Assumes nothing.
 use Rattle.std.specs.Prelude.{◌≡◌, refl, Bool, true, false, ◌&&◌, ◌||◌, cond, ℕ, ◌+◌, ◌*◌, ◌-◌, ◌≤◌, ◌<◌, ◌/◌, ◌%◌, leb, eqb}
-use Rattle.std.proofs.Common.{sym, ◌∙◌, le_trans, mul-le-mul_left, mul-le-mul_right, div-mul-le_self, div-le_self, le-div_iff_mul-le, one-mul, mod-eq_of_lt, suc-mul, div-lt_iff_lt-mul, leb-true, eqb-true}
+use Rattle.std.proofs.Common.{sym, ◌∙◌, le_trans, mul-le-mul_left, mul-le-mul_right, div-le_self, le-div_iff_mul-le, one-mul, mod-eq_of_lt, div-lt_iff_lt-mul, leb-true, eqb-true}
 use Rattle.std.proofs.Math.Path.{ap}
 use Rattle.std.proofs.Math.Nat.{mod-lt, mod-add-mod, add-mod_right, div-add-mod', add-mul-mod_self_right}
 use native.Mathlib.Omega.{arith}

@@ -2,14 +2,13 @@
 -- proofs live on: after a put that sector is the new one; every other sector of every slot, the length, and every byte
 -- outside the 512 are as before. They hold for every n and S. Assumes nothing.
 use Rattle.std.specs.Prelude.{◌≡◌, ◌⊎◌, Bool, true, ◌&&◌, cond, ltb, eqb, get_or}
-use Rattle.std.proofs.Common.{sym, ap₂, ◌∙◌, ⊎_elim, eq-zero-or-pos, arith, length-drop, drop_of_length-le, take-append-drop, length-take-le, drop_at, get_or-take, get_or-drop, ext_get_or, get_or-append-add, drop-drop, ltb-true, eqb-true}
+use Rattle.std.proofs.Common.{sym, ap₂, ◌∙◌, ⊎_elim, eq-zero-or-pos, arith, length-drop, drop_of_length-le, take-append-drop, length-take-le, get_or-take, get_or-drop, ext_get_or, get_or-append-add, drop-drop, ltb-true, eqb-true}
 use Rattle.std.proofs.Math.Path.{ap}
 use Rattle.std.proofs.Math.Logic.{inl, inr}
 use mathlib.Core.List.{List, [], ◌++◌, append_assoc, append-nil}
-use Prim.Native.Nat.{ℕ, ◌+◌, ◌*◌, ◌-◌, ◌≤◌, ◌<◌, ◌/◌, ◌%◌}
-use Rattle.std.proofs.Math.Arith.{digits_lt, digits_div, digits_mod}
+use Prim.Native.Nat.{ℕ, ◌+◌, ◌*◌, ◌-◌, ◌≤◌, ◌<◌}
 use Rattle.std.proofs.Math.ListN.{length, take, drop, get_or-append}
-use Rattle.std.proofs.Math.Seq.{paste, length-paste, length_paste_head, take_at, take_all, take-length}
+use Rattle.std.proofs.Math.Seq.{paste, length_paste_head, take_all, take-length}
 use Rattle.std.proofs.lemmas.List.{drop-append-le, take-append-le}
 use borrow.Rule.Slice.PartMut.{put_mid, mid_of, Post-is}
 use Rattle.disk.specs.Limits.{sector_bytes}

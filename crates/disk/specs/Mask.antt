@@ -1,6 +1,6 @@
 -- Masks of slots: slot d is in a mask where bit d is set. Putting a slot in and taking it out change that bit alone; a
 -- test makes a mask, and the mask tells the test; the count of set bits is the count of slots. Assumes nothing.
-use Rattle.std.specs.Prelude.{◌≡◌, refl, ◌⊎◌, Bool, true, false, ◌&&◌, ◌||◌, cond, not, ℕ, zero, suc, ◌+◌, ◌*◌, ◌-◌, ◌≤◌, ◌<◌, ◌/◌, ◌%◌, ◌^◌, eqb}
+use Rattle.std.specs.Prelude.{◌≡◌, refl, Bool, true, false, ◌&&◌, ◌||◌, cond, not, ℕ, zero, suc, ◌+◌, ◌*◌, ◌-◌, ◌≤◌, ◌<◌, ◌/◌, ◌%◌, ◌^◌, eqb}
 use Rattle.std.proofs.Common.{sym, ap, ap₂, ◌∙◌, ⊎_elim, div-one, pow-suc, mod-lt, lt_of_lt_of_le, eq-zero-or-pos, eq-or-lt_of_le, le_of_suc-le-suc, zero-mul, arith, pow_pos, pow_mono, shr-shr, lit<, eqb-true, eq-eqb, ne_eqb}
 use Rattle.std.proofs.Math.Nat.{pow-succ', div-div-eq-div-mul, div-eq_of_lt, div-eq-sub-div}
 use Rattle.std.proofs.Math.Arith.{lt-one, bin_ind}

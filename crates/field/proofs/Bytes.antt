@@ -1,8 +1,8 @@
 -- The bytes are such a field. Its laws are `bytes.mul_comm` and so on; `field256` is the same as a field in the sense of
 -- `algebra`, so that a theorem there is read of numbers below 256 through `Fin 256`. Assumes nothing.
-use Rattle.std.specs.Prelude.{◌≡◌, refl, ◌≢◌}
+use Rattle.std.specs.Prelude.{refl}
 use Rattle.std.proofs.Common.{◌∙◌, mod-eq_of_lt, lit<}
-use Prim.Native.Nat.{ℕ, Fin}
+use Prim.Native.Nat.{Fin}
 use Rattle.std.specs.Int.Bits.{bit_xor, xor_self, xor_zero_r}
 use Rattle.std.proofs.lemmas.Nat.{xor_comm}
 use Rattle.algebra.specs.Ring.{Ring}

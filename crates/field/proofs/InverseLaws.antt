@@ -1,5 +1,5 @@
 -- Inverses, cancelling, no divisors of zero: all from the powers of g, with no further computing. Assumes nothing.
-use Rattle.std.specs.Prelude.{◌≡◌, refl, ◌≢◌, ◌⊎◌, ℕ, zero, suc, ◌+◌, ◌*◌, ◌<◌}
+use Rattle.std.specs.Prelude.{◌≡◌, refl, ◌≢◌, ◌⊎◌, ℕ, ◌+◌, ◌*◌, ◌<◌}
 use Rattle.std.proofs.Common.{sym, ap, ap₂, ◌∙◌, inl, inr, ⊎_elim, eq-zero-or-pos, arith, lit<}
 use Rattle.field.specs.Field.{mul_of, power_of, inverse_of}
 use Rattle.field.proofs.Product.{product_comm, product_assoc, one_product, product_zero_left, product_lt}

@@ -1,5 +1,5 @@
 -- The powers of g: exponents add, and count modulo 255; each byte but 0 is a power. Assumes nothing.
-use Rattle.std.specs.Prelude.{◌≡◌, refl, Bool, true, false, List, [], ◌∷◌, ◌≢◌, ℕ, zero, suc, ◌+◌, ◌*◌, ◌/◌, ◌%◌, ◌<◌, T, eqb}
+use Rattle.std.specs.Prelude.{◌≡◌, refl, Bool, true, false, ◌≢◌, ℕ, zero, suc, ◌+◌, ◌*◌, ◌/◌, ◌%◌, ◌<◌, T, eqb}
 use Rattle.std.proofs.Common.{sym, ap, ap₂, ◌∙◌, subst, div-add-mod', mod-eq_of_lt, suc-add, zero-add, arith, eqb→eq, lit<}
 use Rattle.std.specs.Int.Bits.{bit_xor, xor_zero_r}
 use Rattle.bits.specs.Below.{below, at}

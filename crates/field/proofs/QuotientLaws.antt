@@ -1,13 +1,11 @@
 -- What a division answers: refused for a divisor 0; else the one byte whose product with the divisor is the dividend.
 -- Assumes nothing.
 use Rattle.std.specs.Prelude.{◌≡◌, refl, ◌≢◌, ℕ, zero, suc, ◌<◌}
-use Rattle.std.proofs.Common.{sym, ap, ap₂, ◌∙◌, arith}
+use Rattle.std.proofs.Common.{sym, ap, ◌∙◌}
 use Rattle.field.specs.Field.{mul_of, inverse_of}
 use Rattle.field.proofs.Bytes.{bytes}
 use Rattle.field.proofs.InverseLaws.{cancel}
-use Rattle.field.specs.declared.Quotient as declared
-use Rattle.field.specs.declared.Quotient.TheVariants.{Value, Refused}
-use Rattle.field.specs.declared.Refusal.TheVariants.{Zero}
+use Rattle.field.specs.declared.Quotient.TheVariants.{Value}
 use Rattle.field.specs.Quotient.{quotient_of}
 
 pub quotient_of_lem : (a b q : ℕ) → b ≢ 0 → q ≡ mul_of a (inverse_of b) → Value q ≡ quotient_of a b

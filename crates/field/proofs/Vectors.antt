@@ -1,8 +1,8 @@
 -- The worked values of document 01: those of section 1, and what the examples of sections 4 and 5 multiply. The latter are laws for
 -- the crates above, which never compute a product. Assumes nothing.
-use Rattle.std.specs.Prelude.{◌≡◌, refl, ℕ, ◌^◌, ◌<◌, T, eqb}
+use Rattle.std.specs.Prelude.{◌≡◌, refl, ℕ, ◌^◌, ◌<◌, eqb}
 use Rattle.std.proofs.Common.{eqb→eq}
-use Rattle.bits.specs.Below.{below, at}
+use Rattle.bits.specs.Below.{at}
 use Rattle.field.specs.Field.{double_of, mul_of, power_of, inverse_of}
 
 products : (double_of 0x80 ≡ 0x1d) × (mul_of 0x80 2 ≡ 0x1d) × (mul_of 0x53 0xca ≡ 0x8f) × (mul_of 0xff 0xff ≡ 0xe2)

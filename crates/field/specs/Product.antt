@@ -1,13 +1,10 @@
 -- The laws of the product: bilinear, commutative, associative, all without a bound. Assumes nothing.
-use Rattle.std.specs.Prelude.{◌≡◌, refl, Bool, true, false, ℕ, zero, suc, ◌+◌, ◌-◌, ◌*◌, ◌/◌, ◌%◌, ◌^◌, ◌≤◌, ◌<◌, T, eqb}
-use Rattle.std.proofs.Common.{sym, ap, ap₂, ◌∙◌, subst, mod-lt, zero-lt-suc, mul-div_cancel, add-zero, mod-eq_of_lt, pow-suc, div-lt_iff_lt-mul, zero-mul, one-mul, mul_comm, arith, pow_pos, eqb→eq, lit<}
-use Rattle.std.proofs.Math.Nat.{mul-mod_left}
+use Rattle.std.specs.Prelude.{◌≡◌, ℕ, zero, suc, ◌*◌, ◌/◌, ◌%◌, ◌^◌, ◌<◌}
+use Rattle.std.proofs.Common.{sym, ap, ap₂, ◌∙◌, subst, mod-lt, pow-suc, div-lt_iff_lt-mul, zero-mul, one-mul, mul_comm, arith, pow_pos}
 use Rattle.std.proofs.Math.Arith.{lt-one}
 use Rattle.std.proofs.Math.Pow.{split}
-use Rattle.std.specs.Int.Bits.{bit_xor, differ, xor_step, xor_self, xor_zero_r, xor_shifted}
-use Rattle.std.proofs.lemmas.Nat.{xor_comm, xor_mod, xor_shr}
-use Rattle.bits.specs.Xor.{bit_ind, xor_half, xor_odd, xor_swap, xor_byte, xor_assoc}
-use Rattle.bits.specs.Below.{below, at}
+use Rattle.std.specs.Int.Bits.{bit_xor, xor_self, xor_shifted}
+use Rattle.bits.specs.Xor.{bit_ind}
 
 -- two linear functions that agree at the powers of 2 agree below 2 ^ k
 module _ (f g : ℕ → ℕ) (lf : (a b : ℕ) → f (bit_xor a b) ≡ bit_xor (f a) (f b)) (lg : (a b : ℕ) → g (bit_xor a b) ≡ bit_xor (g a) (g b)) where

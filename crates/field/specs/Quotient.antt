@@ -1,7 +1,6 @@
 -- What a division answers: refused for a divisor 0; else the one byte whose product with the divisor is the dividend.
 -- Assumes nothing.
-use Rattle.std.specs.Prelude.{◌≡◌, refl, ◌≢◌, ℕ, zero, suc, ◌<◌}
-use Rattle.std.proofs.Common.{sym, ap, ap₂, ◌∙◌, arith}
+use Rattle.std.specs.Prelude.{ℕ, zero, suc}
 use Rattle.field.specs.Field.{mul_of, inverse_of}
 use Rattle.field.specs.declared.Quotient as declared
 use Rattle.field.specs.declared.Quotient.TheVariants.{Value, Refused}

@@ -1,10 +1,5 @@
 -- The solver of `algebra` for numbers under `bit_xor` and `mul_of`: identities of all numbers, bytes or not. Assumes nothing.
-use Rattle.std.specs.Prelude.{◌≡◌, Bool, false, List, [], ◌∷◌, ℕ, T}
-use Rattle.std.proofs.Common.{ap}
-use Rattle.std.specs.Int.Bits.{bit_xor}
-use Rattle.algebra.specs.Ring.{Expr, one, ◌⊕◌, ◌⊗◌, norm, empty, eval, ring, ring_from, Given, none, given}
-use Rattle.algebra.specs.Adjoin.{Rng, adjoin}
-use Rattle.algebra.specs.Field.{X, Y, Z, P, Q, S}
+use Rattle.std.specs.Prelude.{◌≡◌, Bool, false, List, [], ◌∷◌, ℕ}
 
 -- the variables of an identity
 abbrev pub vars : List ℕ → List (Bool × ℕ)

@@ -7,7 +7,6 @@ use Rattle.std.proofs.Math.Path.{refl, sym, ap, subst, fun_ext}
 use Rattle.std.proofs.Common.{◌∙◌, true≢false, inl, inr, arith, eq-eqb, ne_eqb, eqb-true}
 use Rattle.std.proofs.Math.Bool.{true, false, cond}
 use Rattle.std.proofs.Math.Logic.{⊎_elim}
-use Rattle.std.proofs.Math.Decide.{ℕ_discrete}
 use Rattle.protocol.specs.World.{label, log, strip, slot, Image, World, Possible}
 use Rattle.protocol.specs.Log.{RecordCodec, Belief, within_self}
 use Rattle.protocol.specs.Label.{Label, Size, looked, belief, Quorum, LabelCodec, copy, copy_same, Aged, Labels}

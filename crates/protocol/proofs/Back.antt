@@ -1,6 +1,6 @@
 -- A run with exchanged disks on the shelf of Toy, computed. Two blocks are written; power is off, and a strange disk comes into slot 0, is rebuilt there, and the first block is written anew.
 -- Power is off again, and the old disk of slot 0 is back, with the old block on it: start-up notices it, and reads are right. So they are when the last disk is back after that.
-use Rattle.std.specs.Prelude.{ℕ, zero, suc, ◌≡◌, refl, List, [], ◌∷◌, ◌++◌, Bool, true, false, ◌≢◌, eqb}
+use Rattle.std.specs.Prelude.{ℕ, zero, suc, ◌≡◌, refl, List, [], ◌∷◌, ◌++◌, true, false, ◌≢◌, eqb}
 use Rattle.std.proofs.Common.{ap, inl, arith, eq-eqb, ne_eqb}
 use Rattle.std.proofs.lemmas.Bool.{false≢true}
 use Rattle.protocol.specs.World.{slot, update, World, after, Possible, Sane, sane_after, sane_act, always_after}

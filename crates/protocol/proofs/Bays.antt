@@ -1,10 +1,9 @@
 -- A slot's bay may hold another disk than the slot's last one: such a slot is odd. Its last disk lies elsewhere, and the shelf is what all the last disks hold.
 -- What the labels on all of these disks may be, while rounds are written on the disks in the bays.
-use Rattle.std.specs.Prelude.{ℕ, suc, ◌≤◌, ◌<◌, ◌≡◌, Bool, ◌≢◌}
-use Rattle.std.proofs.Math.Path.{refl, ap, subst}
-use Rattle.std.proofs.Common.{sym, ◌∙◌, true≢false, arith}
-use Rattle.std.proofs.Math.Bool.{true, false, cond}
-use Rattle.std.proofs.Math.Logic.{⊎_elim}
+use Rattle.std.specs.Prelude.{ℕ, suc, ◌≤◌, ◌<◌, ◌≡◌, Bool}
+use Rattle.std.proofs.Math.Path.{refl, subst}
+use Rattle.std.proofs.Common.{sym, true≢false, arith}
+use Rattle.std.proofs.Math.Bool.{true, false}
 use Rattle.protocol.specs.World.{Place, label, Image, update}
 use Rattle.protocol.specs.Label.{Label, Size, looked, Quorum, LabelCodec, copy, copy_told, Aged, MayRule, Labels}
 use Rattle.protocol.proofs.Label.{labels_put, labels_rise, labels_same}

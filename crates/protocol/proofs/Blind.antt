@@ -1,5 +1,5 @@
 -- Start-up does not depend on what an absent slot holds: with the same present sectors it does the same.
-use Prim.Native.Nat.{ℕ, zero, suc, ◌+◌, ◌<◌}
+use Prim.Native.Nat.{ℕ, zero, suc, ◌<◌}
 use Rattle.std.specs.Prelude.{◌≡◌, ◌&&◌, ◌||◌}
 use Rattle.std.proofs.Math.Path.{refl, ap, ap₂, fun_ext}
 use Rattle.std.proofs.Common.{sym, subst, ◌∙◌, arith, ne_eqb}

@@ -1,11 +1,11 @@
 -- Start-up as a whole: the rounds, then the log. THE DECISION, and that it is made once.
-use Prim.Native.Nat.{ℕ, suc, ◌≤◌, ◌<◌}
+use Prim.Native.Nat.{ℕ, ◌≤◌, ◌<◌}
 use Rattle.std.specs.Prelude.{◌≡◌, refl, cond, ◌&&◌, ◌||◌}
 use Rattle.std.proofs.Common.{ap, ◌∙◌, arith}
 use Rattle.std.proofs.Math.Bool.{Bool, true, false, or-true}
 use Rattle.std.proofs.lemmas.Bool.{false≢true}
 use Rattle.std.proofs.Math.Logic.{⊎_elim, inl, inr}
-use mathlib.Core.List.{List, [], ◌∷◌, ◌++◌}
+use mathlib.Core.List.{List, [], ◌∷◌}
 use Rattle.std.proofs.Math.Dec.{eqb}
 use Rattle.protocol.specs.World.{Place, label, log, strip, Image, update, update_other, World, Action, run, after, Sane, Always, During, sane_after, sane_run, always_after, always_map, during_map, during_append, during_end, run_append}
 use Rattle.protocol.specs.Batch.{Each, each_batch, each_during, during_both}

@@ -1,6 +1,6 @@
 -- EVERY ACCEPTED REQUEST ENDS IN ITS OWN SUCCESS. Left alone it carries out its actions one by one, with no refusal midway, and then answers; and the
 -- number of its actions is bounded.
-use Prim.Native.Nat.{ℕ, zero, suc, ◌+◌, ◌*◌, ◌-◌, ◌≤◌, ◌<◌}
+use Prim.Native.Nat.{ℕ, zero, suc, ◌+◌, ◌*◌, ◌≤◌, ◌<◌}
 use Rattle.std.specs.Prelude.{◌≡◌, Bool, cond, ◌&&◌, ◌⊎◌, ltb}
 use Rattle.std.proofs.Math.Path.{refl, ap}
 use Rattle.std.proofs.Common.{◌∙◌, inl, inr, ltb-false, le-ltb, leb-false}

@@ -1,5 +1,5 @@
 -- The C6 shape of every disk, in the bays or not, along every history with exchanged disks.
-use Rattle.std.specs.Prelude.{ℕ, ◌<◌, ◌≡◌, Bool, true, ◌≢◌, List}
+use Rattle.std.specs.Prelude.{ℕ, ◌≡◌, Bool, true, ◌≢◌, List}
 use Rattle.std.proofs.Common.{sym, ◌∙◌, eq-eqb, ne_eqb}
 use Rattle.std.proofs.Math.Path.{ap}
 use Rattle.std.proofs.Math.Bool.{true≢false}

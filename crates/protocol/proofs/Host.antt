@@ -1,6 +1,6 @@
 -- The host's view: a list of blocks. What is asked of the code that spreads a stripe's blocks over the slots; read, and the strips of a write and of a rebuild, computed from what is believed.
 use Prim.Native.Nat.{ℕ, ◌<◌}
-use Rattle.std.specs.Prelude.{◌≡◌, Bool, not, ◌&&◌, ◌⊎◌, ◌≢◌, ltb}
+use Rattle.std.specs.Prelude.{◌≡◌, Bool, not, ◌&&◌}
 use Rattle.std.proofs.Math.Path.{refl, ap}
 use Rattle.std.proofs.Common.{sym, ◌∙◌, inl}
 use Rattle.std.proofs.Math.Bool.{true, false, cond, true≢false}

@@ -6,7 +6,7 @@ use Rattle.std.proofs.Common.{◌∙◌, ⊎_elim, inr, arith}
 use Rattle.std.proofs.Math.Bool.{true, false, cond, not, true≢false}
 use Rattle.std.proofs.lemmas.Bool.{false≢true}
 use Rattle.std.proofs.Math.Logic.{inl}
-use mathlib.Core.List.{List, [], ◌∷◌, ◌++◌, Memᴰ}
+use mathlib.Core.List.{List, [], ◌∷◌, Memᴰ}
 use Rattle.std.proofs.Math.Dec.{eqb, ltb}
 use borrow.Author.Tests.{eq-eqb, eqb-true, ltb-true, ltb-false, lt-ltb}
 use Rattle.protocol.specs.World.{Place, label, slot, Image, update, update_other, update_cases, World, run, Sane, Always, During}

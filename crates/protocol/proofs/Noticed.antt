@@ -1,8 +1,8 @@
 -- WHAT FOLLOWS from the promise with exchanged disks: another disk than the last is noticed; when nothing is asked of the world; what every sector holds; what labels may say; which slots are touched.
 use Prim.Native.Nat.{ℕ, ◌≤◌, ◌<◌}
-use Rattle.std.specs.Prelude.{◌≡◌, not, ◌||◌, ◌⊎◌}
+use Rattle.std.specs.Prelude.{◌≡◌, ◌||◌, ◌⊎◌}
 use Rattle.std.proofs.Math.Path.{refl, subst}
-use Rattle.std.proofs.Common.{sym, ap, ◌∙◌, true≢false, inl, arith, eq-eqb}
+use Rattle.std.proofs.Common.{sym, ◌∙◌, inl}
 use Rattle.std.proofs.Math.Bool.{Bool, true, false, or-true}
 use Rattle.std.proofs.Math.Logic.{⊎_elim}
 use Rattle.protocol.specs.World.{Place, strip, slot, Image, World, Action, Sane, Always, always_cur, always_map}

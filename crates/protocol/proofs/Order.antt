@@ -1,6 +1,6 @@
 -- THE DISK OF DOCUMENT 03, SECTION 4: sector writes reach it in the order in which they were issued, so a cut leaves every one of them. Whatever
 -- happens on such disks happens, in the same words, on disks with caches: so all that is promised there is promised here.
-use Rattle.std.specs.Prelude.{◌≡◌, true, false, List, [], ◌∷◌}
+use Rattle.std.specs.Prelude.{◌≡◌, true, false, List, ◌∷◌}
 use Rattle.std.proofs.Math.Path.{refl, ap, subst}
 use Rattle.std.proofs.Common.{◌∙◌}
 use Rattle.protocol.specs.World.{Image, World, Action, put, flush, act, after, Sane, sane_act, sane_after, always_after, Always}

@@ -1,11 +1,9 @@
 -- FAMILIES OF SETS OF SLOTS of which any two leave a slot out, for shelves with k <= m; a code and a medium for each of them; and that the family is no part of the program. What is asked of the world
 -- there, and the promise: Since.
-use Rattle.std.specs.Prelude.{ℕ, zero, suc, ◌<◌, ◌≡◌, Bool, true, false, cond, not, ◌&&◌, ◌||◌, ◌⊎◌}
+use Rattle.std.specs.Prelude.{ℕ, ◌≡◌, Bool, true, cond}
 use Rattle.std.proofs.Math.Path.{refl}
-use Rattle.std.proofs.Common.{sym, ap, subst, ◌∙◌, true≢false, ⊎_elim, inl, inr, eq-or-lt_of_le, le_of_suc-le-suc, arith}
-use Rattle.std.proofs.lemmas.Bool.{false≢true}
-use mathlib.Core.List.Memᴰ
-use mathlib.Core.List.{List, [], ◌∷◌, ◌++◌, Memᴰ}
+use Rattle.std.proofs.Common.{sym, ap, subst}
+use mathlib.Core.List.{List, []}
 use Rattle.protocol.specs.World.{Image}
 use Rattle.protocol.specs.Log.{RecordCodec}
 use Rattle.protocol.specs.Label.{Size, Quorum, LabelCodec}

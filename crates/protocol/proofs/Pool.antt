@@ -1,7 +1,7 @@
 -- EXCHANGED DISKS, WITH k <= m: the machine of Exchange with the program of Even; what is asked of the world there, from one moment of rest to the next; and the promise. Among the sets of slots that
 -- are left out (Since) there is then, for each accepted start-up, also the set of the slots that are absent or hold another disk than their last; but not where every slot has its last disk, nor where
 -- start-up sees the newest label that there is on any disk.
-use Rattle.std.specs.Prelude.{ℕ, ◌<◌, ◌≡◌, Bool, false, cond, ◌||◌, ◌⊎◌, ◌≢◌}
+use Rattle.std.specs.Prelude.{ℕ, ◌<◌, ◌≡◌, Bool, false, cond}
 use Rattle.std.proofs.Math.Path.{refl, subst}
 use Rattle.std.proofs.Common.{sym, ap, ◌∙◌, inl, inr, arith}
 use Rattle.std.proofs.Math.Bool.{true}

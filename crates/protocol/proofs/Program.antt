@@ -1,7 +1,7 @@
 -- THE PROGRAM: a function from what it remembers and what it sees to what it remembers next and its reply. It sees the sectors of the present slots
 -- alone: all others read as zeros to it. When it accepts a request it makes the whole list of the request's actions; each step then carries out
 -- one of them, a put of one sector or a flush of one slot. Nothing here is assumed; that it keeps the promise is shown in Promise.
-use Rattle.std.specs.Prelude.{ℕ, zero, suc, ◌+◌, ◌-◌, ◌≤◌, ◌<◌, ◌≡◌, refl, Bool, not, ◌&&◌, ◌||◌, List, [], ◌∷◌, ◌++◌, eqb, ltb, leb}
+use Rattle.std.specs.Prelude.{◌≡◌, refl, Bool}
 use Rattle.std.proofs.Math.Path.{ap, fun_ext}
 use Rattle.std.proofs.Math.Bool.{true, false, cond}
 use Rattle.protocol.specs.World.{Place, slot, Image}

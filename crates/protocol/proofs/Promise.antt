@@ -7,7 +7,7 @@ use Rattle.std.proofs.Math.Bool.{true, false, cond, not, false≢true, or-true}
 use Rattle.std.proofs.Math.Logic.{⊎_elim, inl, inr}
 use mathlib.Core.List.{List, [], ◌∷◌, ◌++◌, Memᴰ}
 use Rattle.std.proofs.Math.Dec.{eqb, ltb}
-use borrow.Author.Tests.{eq-eqb, ne_eqb, eqb-true, ltb-true, ltb-false, lt-ltb, leb-true, leb-false, not-true}
+use borrow.Author.Tests.{eq-eqb, ne_eqb, eqb-true, ltb-true, ltb-false, leb-true, leb-false, not-true}
 use Rattle.protocol.specs.World.{Place, log, strip, slot, Image, World, Action, act, run, after, Possible, Sane, Always, During, sane_after, sane_act, sane_run, always_after, always_cur, always_map, during_map, during_start}
 use Rattle.protocol.specs.Batch.{flushes, each_append, each_tail}
 use Rattle.protocol.specs.Slots.{from, in_from, of_from, in_slots, every, every_of}

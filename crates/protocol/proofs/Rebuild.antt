@@ -1,6 +1,6 @@
 -- Rebuild: begin, on, healthy. A rebuild never changes the table; what a label calls rebuilt or healthy is right on disk, flushed, before any disk may hold that label.
 use Prim.Native.Nat.{ℕ, suc, ◌+◌, ◌≤◌, ◌<◌}
-use Rattle.std.specs.Prelude.{◌≡◌, Bool, not, ◌&&◌, ◌⊎◌, eqb}
+use Rattle.std.specs.Prelude.{◌≡◌, Bool, not, ◌⊎◌}
 use Rattle.std.proofs.Math.Path.{refl, ap}
 use Rattle.std.proofs.Common.{sym, subst, ◌∙◌, true≢false, arith}
 use Rattle.std.proofs.Math.Bool.{true, false}

@@ -1,7 +1,7 @@
 -- A REFRESH: a write of what a strip should hold already. The table stays as it is, and whatever a cut leaves at any moment of its log and of its strips, the
 -- shelf is at rest with that table. A repair is such a write, seen from a shelf on which no sector ever changed by itself. Assumes nothing.
 use Prim.Native.Nat.{ℕ, suc, ◌≤◌, ◌<◌}
-use Rattle.std.specs.Prelude.{◌≡◌, Bool, ◌⊎◌, ◌++◌}
+use Rattle.std.specs.Prelude.{◌≡◌, Bool, ◌++◌}
 use Rattle.std.proofs.Math.Path.{refl, subst}
 use Rattle.std.proofs.Common.{sym, ⊎_elim, arith}
 use Rattle.std.proofs.Math.Bool.{true}

@@ -1,13 +1,13 @@
 -- A REPAIR IS CUT. While its log is written the strip is as it was found. Once the log is flushed, whatever a cut leaves, the next start-up that takes the slot in
 -- has stored the mended strip when it answers: so the strip is as found or repaired, and never a mixture that stays. Assumes nothing.
-use Prim.Native.Nat.{ℕ, zero, suc, ◌≤◌, ◌<◌}
+use Prim.Native.Nat.{ℕ, suc, ◌<◌}
 use Rattle.std.specs.Prelude.{◌≡◌, Bool, ◌≢◌, eqb}
 use Rattle.std.proofs.Math.Path.{refl, sym, ap, subst, fun_ext}
-use Rattle.std.proofs.Common.{◌∙◌, arith}
+use Rattle.std.proofs.Common.{◌∙◌}
 use Rattle.std.proofs.Math.Bool.{true, false}
 use Rattle.std.proofs.lemmas.Bool.{false≢true}
 use Rattle.std.proofs.Math.Logic.{inl}
-use mathlib.Core.List.{List, [], ◌∷◌, ◌++◌}
+use mathlib.Core.List.{List, ◌++◌}
 use borrow.Author.Tests.{eq-eqb, eqb-true}
 use Rattle.protocol.specs.World.{Place, log, strip, slot, Image, update_other, World, Action, run, after, Sane, Always, During, sane_after, sane_run, always_map, during_map, run_append}
 use Rattle.protocol.specs.Batch.{flushes, Kept, Covered, Done, stage}

@@ -2,10 +2,10 @@
 -- generations follow each other. Every disk keeps it at every moment, whatever the caches do. (A disk without a label of this shelf may hold anything.)
 use Prim.Native.Nat.{ℕ, suc, ◌<◌}
 use Rattle.std.specs.Prelude.{◌≡◌, refl, true, false, cond, ◌||◌, ◌⊎◌, ◌≢◌, eqb, ltb}
-use Rattle.std.proofs.Common.{sym, ◌∙◌, true≢false, eq-zero-or-pos, arith, eqb-true, ltb-false}
+use Rattle.std.proofs.Common.{sym, ◌∙◌, eq-zero-or-pos, arith, eqb-true, ltb-false}
 use Rattle.std.proofs.Math.Path.{ap, subst}
 use Rattle.std.proofs.Math.Bool.{Bool, not}
-use Rattle.std.proofs.lemmas.Bool.{false≢true, eqb-false}
+use Rattle.std.proofs.lemmas.Bool.{eqb-false}
 use Rattle.std.proofs.Math.Logic.{⊎_elim, inl, inr}
 use mathlib.Core.List.{List, [], ◌∷◌, Memᴰ}
 use Rattle.std.proofs.Math.Decide.{ℕ_discrete}

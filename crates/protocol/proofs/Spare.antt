@@ -1,5 +1,5 @@
 -- No action touches an absent slot: neither a put nor a flush.
-use Rattle.std.specs.Prelude.{ℕ, suc, ◌+◌, ◌<◌, ◌≡◌, refl, Bool, true, ◌&&◌}
+use Rattle.std.specs.Prelude.{ℕ, suc, ◌<◌, ◌≡◌, refl, Bool, true, ◌&&◌}
 use Rattle.std.proofs.Math.Bool.{false, not}
 use Rattle.std.proofs.Common.{inr}
 use mathlib.Core.List.Memᴰ

@@ -8,7 +8,7 @@ use Rattle.std.proofs.Common.{ap₂, ◌∙◌, true≢false, arith}
 use Rattle.std.proofs.Math.Bool.{true, false, not, or-true}
 use Rattle.std.proofs.lemmas.Bool.{false≢true}
 use Rattle.std.proofs.Math.Logic.{⊎_elim, inl, inr}
-use mathlib.Core.List.{List, ◌++◌, Memᴰ}
+use mathlib.Core.List.{◌++◌, Memᴰ}
 use Rattle.std.proofs.Math.Dec.{ltb}
 use borrow.Author.Tests.{ne_eqb, eqb-true, eqb-false, ltb-true, ltb-false, lt-ltb, not-true}
 use Rattle.protocol.specs.World.{label, log, strip, Image, World, run, Sane, Always, During, sane_run, always_map, during_map, during_append, run_append}

@@ -1,5 +1,5 @@
 -- EVERY DISK HAS THE C6 SHAPE AT EVERY MOMENT, as long as every disk that is put in has it (one without a label of this shelf has it, and an older disk of the shelf kept it).
-use Rattle.std.specs.Prelude.{ℕ, zero, suc, ◌+◌, ◌≤◌, ◌<◌, ◌≡◌, Bool, ◌&&◌, ◌||◌, ◌⊎◌, ◌≢◌, ltb}
+use Rattle.std.specs.Prelude.{ℕ, zero, suc, ◌≤◌, ◌<◌, ◌≡◌, Bool, ◌&&◌, ◌||◌, ◌⊎◌, ◌≢◌, ltb}
 use Rattle.std.proofs.Math.Path.{refl}
 use Rattle.std.proofs.Common.{sym, ap, subst, ◌∙◌, true≢false, ⊎_elim, inl, inr, arith, ltb-true, lt-ltb}
 use Rattle.std.proofs.Math.Bool.{true, false, not, or-true}

@@ -1,11 +1,10 @@
 -- COUNTERS INSTEAD OF LISTS. A batch that goes over a range of slots (or stripes), and over a range of sectors of each, can be carried out by a machine that
 -- remembers where it is: slot and sector. Each tick does the next action, or moves on without one. It does what the list says, in that order (`walks`).
-use Prim.Native.Nat.{ℕ, zero, suc, ◌+◌}
+use Prim.Native.Nat.{ℕ, zero, suc}
 use Rattle.std.specs.Prelude.{◌≡◌, Bool, true, false, cond, ◌&&◌, eqb}
 use Rattle.std.proofs.Math.Path.{refl, ap}
-use Rattle.std.proofs.Common.{sym, ◌∙◌}
 use Rattle.std.proofs.Math.Bool.{not}
-use mathlib.Core.List.{List, [], ◌∷◌, ◌++◌}
+use mathlib.Core.List.{List, [], ◌∷◌}
 use Rattle.protocol.specs.World.{label, log, strip, Image}
 use Rattle.protocol.specs.Slots.{from, keep, slots, rows}
 use Rattle.protocol.specs.Log.{Write, RecordCodec, Belief}

@@ -1,10 +1,9 @@
 -- The write request: log, flush (`log_safe`), strips, flush (`strips_safe`). Whatever a cut leaves at any moment, the shelf is in the old state or in the new one;
 -- at the end it is quiet, with the new table.
 use Prim.Native.Nat.{ℕ, suc, ◌≤◌, ◌<◌}
-use Rattle.std.specs.Prelude.{◌≡◌, Bool, true, false, ◌&&◌, ◌⊎◌, ◌≢◌}
+use Rattle.std.specs.Prelude.{◌≡◌, Bool, true, ◌&&◌}
 use Rattle.std.proofs.Math.Path.{refl, sym, ap}
 use Rattle.std.proofs.Common.{◌∙◌, inr, arith}
-use Rattle.std.proofs.lemmas.Bool.{false≢true}
 use mathlib.Core.List.{List, Memᴰ}
 use Rattle.protocol.specs.World.{Place, log, strip, World, run, Sane, Always, During, always_map}
 use Rattle.protocol.specs.Batch.{Kept, Covered, Done, stage}

@@ -2,11 +2,10 @@
 -- disks of a shelf must be (Shelf). Every other disk of a slot is aside (Aside): each of its labels is two or more generations older than the settled label Q, or calls its own slot
 -- plainly out, or is one generation older, where Q calls the slot plainly out itself. So start-up notices such a disk and calls its slot out. The disk that belongs to the shelf is the
 -- slot's last disk, the one that was there when the program was last ready, but for slots that neither Q nor N looks at.
-use Rattle.std.specs.Prelude.{ℕ, suc, ◌≤◌, ◌<◌, ◌≡◌, Bool, not, ◌||◌, ◌⊎◌, ◌≢◌, eqb}
-use Rattle.std.proofs.Math.Path.{refl, sym, ap, subst, fun_ext}
-use Rattle.std.proofs.Common.{◌∙◌, true≢false, inl, inr, arith, eq-eqb, ne_eqb, eqb-true}
-use Rattle.std.proofs.Math.Bool.{true, false, cond}
-use Rattle.std.proofs.Math.Logic.{⊎_elim}
+use Rattle.std.specs.Prelude.{ℕ, ◌≤◌, ◌<◌, ◌≡◌, Bool, not, ◌⊎◌, ◌≢◌, eqb}
+use Rattle.std.proofs.Math.Path.{refl, sym, fun_ext}
+use Rattle.std.proofs.Common.{inl, inr, eq-eqb, ne_eqb}
+use Rattle.std.proofs.Math.Bool.{true}
 use Rattle.std.proofs.Math.Decide.{ℕ_discrete}
 use Rattle.protocol.specs.World.{Place, label, slot, Image}
 use Rattle.protocol.specs.Log.{RecordCodec, Belief}

@@ -2,7 +2,7 @@
 -- batches. What has to be shown of a batch is about images alone: that a statement is kept by each single put of the batch.
 -- Then it holds whatever a cut leaves at any moment of the batch, in whatever order the cache wrote; and at the end of
 -- the batch every place of it certainly holds its value.
-use Rattle.std.specs.Prelude.{ℕ, ◌≡◌, refl, ◌⊎◌}
+use Rattle.std.specs.Prelude.{ℕ, ◌≡◌, refl}
 use Rattle.std.proofs.Common.{subst, ◌∙◌}
 use Rattle.std.proofs.Math.Logic.{⊎_elim}
 use mathlib.Core.List.{List, [], ◌∷◌, ◌++◌, Memᴰ}

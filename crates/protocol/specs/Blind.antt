@@ -1,12 +1,9 @@
 -- Start-up does not depend on what an absent slot holds: with the same present sectors it does the same.
-use Prim.Native.Nat.{ℕ, zero, suc, ◌+◌, ◌<◌}
-use Rattle.std.specs.Prelude.{◌≡◌, ◌&&◌, ◌||◌}
-use Rattle.std.proofs.Math.Path.{refl, ap, ap₂, fun_ext}
-use Rattle.std.proofs.Common.{sym, subst, ◌∙◌, arith, ne_eqb}
-use Rattle.std.proofs.Math.Bool.{Bool, true, false, cond, not}
-use mathlib.Core.List.{List, [], ◌∷◌, ◌++◌, Memᴰ}
-use Rattle.std.proofs.Math.Dec.{eqb, ltb}
-use Rattle.std.proofs.lemmas.Bool.{not-true}
+use Prim.Native.Nat.{ℕ, ◌<◌}
+use Rattle.std.specs.Prelude.{◌≡◌}
+use Rattle.std.proofs.Math.Path.{refl, ap, fun_ext}
+use Rattle.std.proofs.Math.Bool.{Bool, true, false, cond}
+use Rattle.std.proofs.Math.Dec.{ltb}
 use Rattle.protocol.specs.World.{Place, label, slot, Image}
 use Rattle.protocol.specs.Slots.{leader}
 use Rattle.protocol.specs.Log.{RecordCodec}

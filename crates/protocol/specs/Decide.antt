@@ -1,12 +1,9 @@
 -- Start-up as a whole: the rounds, then the log. THE DECISION, and that it is made once.
-use Prim.Native.Nat.{ℕ, suc, ◌≤◌, ◌<◌}
-use Rattle.std.specs.Prelude.{◌≡◌, refl, cond, ◌&&◌, ◌||◌}
-use Rattle.std.proofs.Common.{ap, ◌∙◌, arith}
-use Rattle.std.proofs.Math.Bool.{Bool, true, false, or-true}
-use Rattle.std.proofs.lemmas.Bool.{false≢true}
+use Prim.Native.Nat.{ℕ, suc, ◌≤◌}
+use Rattle.std.specs.Prelude.{◌≡◌, ◌||◌}
+use Rattle.std.proofs.Math.Bool.{Bool, true, false}
 use Rattle.std.proofs.Math.Logic.{⊎_elim, inl, inr}
-use mathlib.Core.List.{List, [], ◌∷◌, ◌++◌}
-use Rattle.std.proofs.Math.Dec.{eqb}
+use mathlib.Core.List.{List, ◌++◌}
 use Rattle.protocol.specs.World.{Place, label, log, strip, slot, Image, World, Action, run, after}
 use Rattle.protocol.specs.Log.{Write, RecordCodec, Belief, Table, New, Quiet, old_frame, new_frame}
 use Rattle.protocol.specs.Write.{Mid}

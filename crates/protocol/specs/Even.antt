@@ -1,13 +1,10 @@
 -- WHERE TWO SETS OF FEW SLOTS CAN BE ALL SLOTS (k <= m). The program is the same one, and its own test of few slots is any test at all: "at most m", say. As long as the sets of slots that are left
 -- out by accepted start-ups and take-outs lie in one family of which any two sets leave a slot out (a Quorum), it does what the program does whose test is that family. (What is asked of the world
 -- there, and the promise: Since.)
-use Rattle.std.specs.Prelude.{ℕ, suc, ◌≡◌, Bool, cond, not, ◌||◌, ◌⊎◌, ltb, leb}
-use Rattle.std.proofs.Math.Path.{refl, subst}
-use Rattle.std.proofs.Common.{sym, ap, ◌∙◌, true≢false, inr}
+use Rattle.std.specs.Prelude.{ℕ, suc, ◌≡◌, Bool, cond, not, ◌||◌, ltb, leb}
+use Rattle.std.proofs.Common.{sym, ap, ◌∙◌}
 use Rattle.std.proofs.Math.Bool.{true, false}
 use Rattle.std.proofs.lemmas.Bool.{false≢true}
-use Rattle.std.proofs.Math.Logic.{⊎_elim, inl}
-use mathlib.Core.List.Memᴰ
 use mathlib.Core.List.{List, [], ◌∷◌, Memᴰ, ◌++◌}
 use Rattle.protocol.specs.World.{Image, World}
 use Rattle.protocol.specs.Log.{RecordCodec}

@@ -1,9 +1,5 @@
 -- The C6 shape of every disk, in the bays or not, along every history with exchanged disks.
 use Rattle.std.specs.Prelude.{ℕ, ◌<◌, ◌≡◌, Bool, true, ◌≢◌, List}
-use Rattle.std.proofs.Common.{sym, ◌∙◌, eq-eqb, ne_eqb}
-use Rattle.std.proofs.Math.Path.{ap}
-use Rattle.std.proofs.Math.Bool.{true≢false}
-use Rattle.std.proofs.Math.Logic.{⊎_elim}
 use Rattle.protocol.specs.Log.{RecordCodec}
 use Rattle.protocol.specs.Label.{Size, Quorum, LabelCodec}
 use Rattle.protocol.specs.Host.{Code}

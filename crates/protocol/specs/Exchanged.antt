@@ -1,14 +1,10 @@
 -- THE PROMISE WITH EXCHANGED DISKS: whatever happens, older disks in the bays and the last ones back among it, the host's view goes on as it is allowed to.
 use Prim.Native.Nat.{ℕ, suc, ◌≤◌, ◌<◌}
-use Rattle.std.specs.Prelude.{◌≡◌, not, ◌&&◌, ◌⊎◌, ◌≢◌, ltb}
-use Rattle.std.proofs.Math.Path.{refl, sym, ap, subst, fun_ext}
-use Rattle.std.proofs.Common.{◌∙◌, true≢false, arith}
+use Rattle.std.specs.Prelude.{◌≡◌, ◌⊎◌, ◌≢◌}
 use Rattle.std.proofs.Math.Bool.{Bool, true, false, cond}
-use Rattle.std.proofs.lemmas.Bool.{false≢true}
-use Rattle.std.proofs.Math.Logic.{⊎_elim, inl, inr}
-use mathlib.Core.List.{List, [], ◌∷◌}
+use mathlib.Core.List.{List}
 use Rattle.std.proofs.Math.Dec.{eqb}
-use borrow.Author.Tests.{eq-eqb, ne_eqb, eqb-true, eqb-false}
+use borrow.Author.Tests.{ne_eqb}
 use Rattle.protocol.specs.World.{Place, slot, Image, World, Action, run, Possible, Sane, Always, During}
 use Rattle.protocol.specs.Log.{RecordCodec}
 use Rattle.protocol.specs.Label.{Label, Size, looked, Quorum, LabelCodec}

@@ -1,13 +1,11 @@
 -- The C6 shape along every history: `shaped` for each event, `shaped_always` for any sequence of them. A disk that is put in has it itself: strictly, or a disk without a label of this
 -- shelf and slot may hold anything.
-use Rattle.std.specs.Prelude.{ℕ, suc, ◌+◌, ◌-◌, ◌≤◌, ◌<◌, ◌≡◌, Bool, ◌&&◌, ◌⊎◌, ◌≢◌, eqb}
-use Rattle.std.proofs.Math.Path.{refl, sym, ap, subst}
-use Rattle.std.proofs.Common.{◌∙◌, ⊎_elim, inr, arith, eq-eqb, ne_eqb, eqb-true, leb-false}
-use Rattle.std.proofs.Math.Bool.{true, false, cond, not, true≢false}
+use Rattle.std.specs.Prelude.{ℕ, ◌<◌, ◌≡◌, Bool, ◌⊎◌, ◌≢◌}
+use Rattle.std.proofs.Math.Path.{sym}
+use Rattle.std.proofs.Common.{◌∙◌, arith}
+use Rattle.std.proofs.Math.Bool.{true, false}
 use Rattle.std.proofs.Math.Logic.{inl}
-use mathlib.Core.List.{List, [], ◌∷◌, ◌++◌, Memᴰ}
-use Rattle.std.proofs.Math.Decide.{ℕ_discrete}
-use Rattle.std.proofs.lemmas.Bool.{eqb-false}
+use mathlib.Core.List.{List}
 use Rattle.protocol.specs.World.{Place, label, Image, World, run, Sane, Always, During}
 use Rattle.protocol.specs.Log.{RecordCodec}
 use Rattle.protocol.specs.Label.{alien, Size, Quorum, LabelCodec}

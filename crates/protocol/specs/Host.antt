@@ -1,12 +1,8 @@
 -- The host's view: a list of blocks. What is asked of the code that spreads a stripe's blocks over the slots; read, and the strips of a write and of a rebuild, computed from what is believed.
 use Prim.Native.Nat.{ℕ, ◌<◌}
 use Rattle.std.specs.Prelude.{◌≡◌, Bool, not, ◌&&◌, ◌⊎◌, ◌≢◌, ltb}
-use Rattle.std.proofs.Math.Path.{refl, ap}
-use Rattle.std.proofs.Common.{sym, ◌∙◌, inl}
-use Rattle.std.proofs.Math.Bool.{true, false, cond, true≢false}
-use Rattle.std.proofs.Math.Decide.{ℕ_discrete}
+use Rattle.std.proofs.Math.Bool.{true, false, cond}
 use Rattle.std.proofs.Math.Dec.{eqb}
-use borrow.Author.Tests.{eq-eqb, ne_eqb, eqb-true, eqb-false, not-true, ltb-true, lt-ltb}
 use Rattle.protocol.specs.World.{strip, Image}
 use Rattle.protocol.specs.Log.{Write, RecordCodec, Table}
 use Rattle.protocol.specs.Label.{Label, Size, believed, Quorum}

@@ -1,12 +1,7 @@
 -- WHAT FOLLOWS from the promise: the whole history of a shelf from zeros on; what every sector holds; what labels may say; which slots are touched.
-use Prim.Native.Nat.{ℕ, zero, suc, ◌≤◌, ◌<◌}
-use Rattle.std.specs.Prelude.{◌≡◌, Bool, false, cond, ◌⊎◌, List, [], ◌∷◌, ◌++◌}
-use Rattle.std.proofs.Math.Path.{refl, sym, ap}
-use Rattle.std.proofs.Common.{ap₂, subst, ◌∙◌, arith, ne_eqb}
-use Rattle.std.proofs.Math.Bool.{true, not}
-use Rattle.std.proofs.lemmas.Bool.{false≢true}
-use Rattle.std.proofs.Math.Logic.{⊎_elim, inl, inr}
-use Rattle.std.proofs.Math.Decide.{ℕ_discrete}
+use Prim.Native.Nat.{ℕ, suc, ◌≤◌, ◌<◌}
+use Rattle.std.specs.Prelude.{◌≡◌, Bool, false, ◌⊎◌}
+use Rattle.std.proofs.Math.Bool.{true}
 use Rattle.protocol.specs.World.{Place, label, log, strip, slot, Image, World, Action, put, flush, Always}
 use Rattle.protocol.specs.Log.{Write, RecordCodec, Wrote, Complete}
 use Rattle.protocol.specs.Label.{Label, Size, looked, believed, Quorum, LabelCodec, copy, Aged}

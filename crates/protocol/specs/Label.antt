@@ -1,14 +1,12 @@
 -- Labels: which slots are out, which one is being rebuilt and how far; and what the labels on all disks, present or not, may be while
 -- rounds of labels are written, cut, and begun again by start-ups that meet other slots.
-use Rattle.std.specs.Prelude.{ℕ, suc, ◌≤◌, ◌<◌, ◌≡◌, Bool, ◌&&◌, ◌||◌, ◌⊎◌, ◌≢◌}
+use Rattle.std.specs.Prelude.{ℕ, suc, ◌≤◌, ◌<◌, ◌≡◌, Bool, ◌&&◌, ◌||◌, ◌⊎◌}
 use Rattle.std.proofs.Math.Path.{refl, sym, ap, subst}
-use Rattle.std.proofs.Common.{◌∙◌, ⊎_elim, inr, arith}
-use Rattle.std.proofs.Math.Bool.{true, false, cond, not, true≢false}
-use Rattle.std.proofs.lemmas.Bool.{false≢true}
-use Rattle.std.proofs.Math.Logic.{inl}
-use mathlib.Core.List.{List, [], ◌∷◌, ◌++◌, Memᴰ}
+use Rattle.std.proofs.Common.{◌∙◌, arith}
+use Rattle.std.proofs.Math.Bool.{true, false, cond, not}
+use mathlib.Core.List.{List, [], ◌∷◌, ◌++◌}
 use Rattle.std.proofs.Math.Dec.{eqb, ltb}
-use borrow.Author.Tests.{eq-eqb, eqb-true, ltb-true, ltb-false, lt-ltb}
+use borrow.Author.Tests.{ltb-true}
 use Rattle.protocol.specs.World.{Place, label, log, strip, slot, Image, update, update_cases, Action}
 use Rattle.protocol.specs.Batch.{Batch, actions}
 use Rattle.protocol.specs.Slots.{keep, rows}

@@ -1,10 +1,9 @@
 -- WHAT FOLLOWS from the promise with exchanged disks: another disk than the last is noticed; when nothing is asked of the world; what every sector holds; what labels may say; which slots are touched.
 use Prim.Native.Nat.{ℕ, ◌≤◌, ◌<◌}
-use Rattle.std.specs.Prelude.{◌≡◌, not, ◌||◌, ◌⊎◌}
-use Rattle.std.proofs.Math.Path.{refl, subst}
-use Rattle.std.proofs.Common.{sym, ap, ◌∙◌, true≢false, inl, arith, eq-eqb}
-use Rattle.std.proofs.Math.Bool.{Bool, true, false, or-true}
-use Rattle.std.proofs.Math.Logic.{⊎_elim}
+use Rattle.std.specs.Prelude.{◌≡◌, not, ◌||◌}
+use Rattle.std.proofs.Math.Path.{refl}
+use Rattle.std.proofs.Common.{sym, ap, ◌∙◌, true≢false, arith, eq-eqb}
+use Rattle.std.proofs.Math.Bool.{Bool, true, false}
 use Rattle.protocol.specs.World.{strip, Image, World, Possible}
 use Rattle.protocol.specs.Log.{RecordCodec}
 use Rattle.protocol.specs.Label.{Size, believed, Quorum, LabelCodec, copy, Aged}

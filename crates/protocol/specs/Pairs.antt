@@ -2,7 +2,7 @@
 -- there, and the promise: Since.
 use Rattle.std.specs.Prelude.{ℕ, zero, suc, ◌<◌, ◌≡◌, Bool, true, false, cond, not, ◌&&◌, ◌||◌, ◌⊎◌}
 use Rattle.std.proofs.Math.Path.{refl}
-use Rattle.std.proofs.Common.{sym, ap, subst, ◌∙◌, true≢false, ⊎_elim, inl, inr, eq-or-lt_of_le, le_of_suc-le-suc, arith}
+use Rattle.std.proofs.Common.{sym, ap, ◌∙◌, true≢false, ⊎_elim, inl, inr, eq-or-lt_of_le, le_of_suc-le-suc, arith}
 use Rattle.std.proofs.lemmas.Bool.{false≢true}
 use mathlib.Core.List.Memᴰ
 use mathlib.Core.List.{List, [], ◌∷◌, ◌++◌, Memᴰ}

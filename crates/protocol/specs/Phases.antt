@@ -1,10 +1,10 @@
 -- A REQUEST AS PHASES. Each request of the program is a few walks, one after the other: a machine that remembers its phase, and slot and sector in it, does
 -- exactly the request's list of actions (`advances`, and a law for each request).
-use Prim.Native.Nat.{ℕ, zero, suc, ◌+◌}
+use Prim.Native.Nat.{ℕ, zero, suc}
 use Rattle.std.specs.Prelude.{◌≡◌, ◌&&◌, eqb}
 use Rattle.std.proofs.Math.Path.{refl, sym, ap}
 use Rattle.std.proofs.Common.{◌∙◌}
-use Rattle.std.proofs.Math.Bool.{Bool, true, false, cond, not}
+use Rattle.std.proofs.Math.Bool.{Bool, true, cond, not}
 use mathlib.Core.List.{List, [], ◌∷◌, ◌++◌}
 use Rattle.protocol.specs.World.{label, log, strip, Image, Action}
 use Rattle.protocol.specs.Batch.{actions}

@@ -1,13 +1,12 @@
 -- THE PROMISE. Whatever happens, the host's view goes on as it is allowed to, and only so: `simulate` for each event, `promise` for any sequence of them.
-use Prim.Native.Nat.{ℕ, suc, ◌+◌, ◌-◌, ◌≤◌, ◌<◌}
-use Rattle.std.specs.Prelude.{◌≡◌, Bool, ◌&&◌, ◌||◌, ◌⊎◌, leb}
-use Rattle.std.proofs.Math.Path.{refl, sym, ap, subst}
+use Prim.Native.Nat.{ℕ, suc, ◌≤◌, ◌<◌}
+use Rattle.std.specs.Prelude.{◌≡◌, Bool, ◌&&◌, ◌||◌, leb}
+use Rattle.std.proofs.Math.Path.{refl, sym, ap}
 use Rattle.std.proofs.Common.{◌∙◌, true≢false, arith}
-use Rattle.std.proofs.Math.Bool.{true, false, cond, not, false≢true, or-true}
-use Rattle.std.proofs.Math.Logic.{⊎_elim, inl, inr}
+use Rattle.std.proofs.Math.Bool.{true, false, cond, not, false≢true}
 use mathlib.Core.List.{List, [], ◌∷◌, ◌++◌, Memᴰ}
-use Rattle.std.proofs.Math.Dec.{eqb, ltb}
-use borrow.Author.Tests.{eq-eqb, ne_eqb, eqb-true, ltb-true, ltb-false, lt-ltb, leb-true, leb-false, not-true}
+use Rattle.std.proofs.Math.Dec.{ltb}
+use borrow.Author.Tests.{ltb-true, lt-ltb, leb-true}
 use Rattle.protocol.specs.World.{Place, label, log, strip, slot, Image, World, Action, Sane}
 use Rattle.protocol.specs.Batch.{flushes}
 use Rattle.protocol.specs.Slots.{from, in_from, in_slots, every, every_of}

@@ -1,12 +1,7 @@
 -- Rebuild: begin, on, healthy. A rebuild never changes the table; what a label calls rebuilt or healthy is right on disk, flushed, before any disk may hold that label.
-use Prim.Native.Nat.{ℕ, suc, ◌+◌, ◌≤◌, ◌<◌}
-use Rattle.std.specs.Prelude.{◌≡◌, Bool, not, ◌&&◌, ◌⊎◌, eqb}
-use Rattle.std.proofs.Math.Path.{refl, ap}
-use Rattle.std.proofs.Common.{sym, subst, ◌∙◌, true≢false, arith}
-use Rattle.std.proofs.Math.Bool.{true, false}
-use Rattle.std.proofs.Math.Logic.{⊎_elim, inl, inr}
-use mathlib.Core.List.Memᴰ
-use mathlib.Core.List.{List, [], ◌∷◌, ◌++◌, Memᴰ}
+use Prim.Native.Nat.{ℕ, suc}
+use Rattle.std.specs.Prelude.{not, ◌&&◌, eqb}
+use mathlib.Core.List.{List, [], ◌∷◌, ◌++◌}
 use Rattle.protocol.specs.World.{Place, label, log, strip, Image, Action}
 use Rattle.protocol.specs.Batch.{Batch, actions, flushes}
 use Rattle.protocol.specs.Slots.{from, rows}

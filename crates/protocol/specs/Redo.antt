@@ -1,16 +1,12 @@
 -- The log part of start-up. Its list of actions is computed from what is read, f0, once the label is settled: the greatest stamp among the
 -- tails decides. Complete on every believed slot that its write changes: forward. Otherwise: kill.
-use Prim.Native.Nat.{ℕ, zero, suc, ◌≤◌, ◌<◌}
-use Rattle.std.proofs.Math.Path.{◌≡◌, refl, sym, ap, ap₂, fun_ext}
-use Rattle.std.proofs.Common.{subst, ◌∙◌, arith}
+use Prim.Native.Nat.{ℕ, suc, ◌≤◌, ◌<◌}
+use Rattle.std.proofs.Math.Path.{◌≡◌, refl, ap}
+use Rattle.std.proofs.Common.{◌∙◌, arith}
 use Rattle.std.proofs.Math.Bool.{Bool, true}
-use Rattle.std.specs.Prelude.{false, cond, ◌&&◌, ◌⊎◌, ◌≢◌}
-use Rattle.std.proofs.lemmas.Bool.{false≢true}
-use Rattle.std.proofs.Math.Logic.{⊎_elim, inl, inr}
-use mathlib.Core.List.{List, [], ◌∷◌, Memᴰ}
-use Rattle.std.proofs.Math.Decide.{ℕ_discrete}
+use Rattle.std.specs.Prelude.{false, cond, ◌&&◌, ◌⊎◌}
+use mathlib.Core.List.{List, [], ◌∷◌}
 use Rattle.std.proofs.Math.Dec.{eqb}
-use borrow.Author.Tests.{eq-eqb, ne_eqb, eqb-true}
 use Rattle.protocol.specs.World.{log, Image, World, Action, run, Always, During}
 use Rattle.protocol.specs.Batch.{Batch, actions}
 use Rattle.protocol.specs.Slots.{from, slots, rows, leader, leader_top, every}

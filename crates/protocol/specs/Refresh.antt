@@ -1,11 +1,8 @@
 -- A REFRESH: a write of what a strip should hold already. The table stays as it is, and whatever a cut leaves at any moment of its log and of its strips, the
 -- shelf is at rest with that table. A repair is such a write, seen from a shelf on which no sector ever changed by itself. Assumes nothing.
-use Prim.Native.Nat.{ℕ, suc, ◌≤◌, ◌<◌}
-use Rattle.std.specs.Prelude.{◌≡◌, Bool, ◌⊎◌, ◌++◌}
-use Rattle.std.proofs.Math.Path.{refl, subst}
-use Rattle.std.proofs.Common.{sym, ⊎_elim, arith}
+use Prim.Native.Nat.{ℕ, ◌≤◌, ◌<◌}
+use Rattle.std.specs.Prelude.{◌≡◌, Bool}
 use Rattle.std.proofs.Math.Bool.{true}
-use Rattle.std.proofs.Math.Logic.{inr}
 use Rattle.protocol.specs.World.{strip, Image}
 use Rattle.protocol.specs.Log.{Write, RecordCodec, Belief, Table}
 use Rattle.protocol.specs.Label.{Label, Size, belief, Quorum, LabelCodec, Labels}

@@ -1,14 +1,11 @@
 -- A REPAIR IS CUT. While its log is written the strip is as it was found. Once the log is flushed, whatever a cut leaves, the next start-up that takes the slot in
 -- has stored the mended strip when it answers: so the strip is as found or repaired, and never a mixture that stays. Assumes nothing.
 use Prim.Native.Nat.{ℕ, zero, suc, ◌≤◌, ◌<◌}
-use Rattle.std.specs.Prelude.{◌≡◌, Bool, ◌≢◌, eqb}
-use Rattle.std.proofs.Math.Path.{refl, sym, ap, subst, fun_ext}
+use Rattle.std.specs.Prelude.{◌≡◌, Bool}
+use Rattle.std.proofs.Math.Path.{refl, ap}
 use Rattle.std.proofs.Common.{◌∙◌, arith}
 use Rattle.std.proofs.Math.Bool.{true, false}
-use Rattle.std.proofs.lemmas.Bool.{false≢true}
-use Rattle.std.proofs.Math.Logic.{inl}
 use mathlib.Core.List.{List, [], ◌∷◌, ◌++◌}
-use borrow.Author.Tests.{eq-eqb, eqb-true}
 use Rattle.protocol.specs.World.{log, strip, Image, World, Action, act, run, after, Sane, Always, During, sane_act}
 use Rattle.protocol.specs.Batch.{flushes}
 use Rattle.protocol.specs.Log.{Write, RecordCodec, Belief, Table, Complete, Quiet}

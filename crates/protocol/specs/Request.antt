@@ -1,10 +1,7 @@
 -- The requests of a shelf at rest: write, take a slot out, begin to rebuild one, rebuild on. Each goes from rest to rest; a cut at any moment
 -- leaves the invariant, with nothing undecided but the one write.
-use Rattle.std.specs.Prelude.{ℕ, suc, ◌≤◌, ◌<◌, true, false}
-use Rattle.std.proofs.Math.Path.{◌≡◌, refl}
-use Rattle.std.proofs.Common.{⊎_elim}
-use Rattle.std.proofs.Math.Logic.{inl, inr}
-use mathlib.Core.List.{List, Memᴰ}
+use Rattle.std.specs.Prelude.{ℕ, suc}
+use Rattle.std.proofs.Math.Path.{◌≡◌}
 use native.Mathlib.Omega.{arith}
 use Rattle.std.proofs.Math.Dec.{eqb}
 use Rattle.protocol.specs.World.{label, log, strip, Image, update, update_other}

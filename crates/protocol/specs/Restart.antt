@@ -1,7 +1,7 @@
 -- A program that dies and is started again with no cut finds the caches as they were. Start-up flushes every present slot first: from then on what it
 -- read is certain. What the absent slots will turn out to hold is open, but start-up neither sees nor touches them. So all that is proved of
 -- start-up after a cut, for whatever the absent slots hold, is true of it here as well (`restart`).
-use Rattle.std.specs.Prelude.{ℕ, ◌≡◌, Bool, cond, ◌⊎◌, ◌≢◌}
+use Rattle.std.specs.Prelude.{ℕ, ◌≡◌, Bool, cond}
 use Rattle.std.proofs.Math.Path.{refl, sym}
 use Rattle.std.proofs.Common.{ap, subst, ◌∙◌, true≢false, inl, inr}
 use Rattle.std.proofs.Math.Bool.{true, false}

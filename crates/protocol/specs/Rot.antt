@@ -2,15 +2,10 @@
 -- (Veil), which satisfy the old invariant; a repair is on these a refresh (Refresh). So the host's list goes on as it is allowed to (`rot_promise`), reads of blocks that are fine
 -- give its entries, and the acknowledgement of a repair, or of a write into a rotten stripe, ends the rot there. Assumes nothing.
 use Prim.Native.Nat.{ℕ, suc, ◌≤◌, ◌<◌}
-use Rattle.std.specs.Prelude.{◌≡◌, Bool, ◌&&◌, ◌⊎◌, ◌≢◌}
-use Rattle.std.proofs.Math.Path.{refl, sym, ap, subst, fun_ext}
-use Rattle.std.proofs.Common.{◌∙◌, true≢false, ⊎_elim, inl, inr, arith}
-use Rattle.std.proofs.Math.Bool.{true, false, cond, not}
-use Rattle.std.proofs.lemmas.Bool.{false≢true}
-use mathlib.Core.List.{List, [], ◌∷◌, ◌++◌}
-use Rattle.std.proofs.Math.Decide.{ℕ_discrete}
-use Rattle.std.proofs.Math.Dec.{eqb, ltb}
-use borrow.Author.Tests.{eq-eqb, ne_eqb, eqb-true, eqb-false, ltb-true, ltb-false, not-true}
+use Rattle.std.specs.Prelude.{◌≡◌, Bool, ◌⊎◌, ◌≢◌}
+use Rattle.std.proofs.Math.Path.{refl, fun_ext}
+use Rattle.std.proofs.Math.Bool.{true, false}
+use mathlib.Core.List.{List, ◌++◌}
 use Rattle.protocol.specs.World.{Place, label, log, strip, Image, World, Action, run, after, Possible, Sane, Always, During}
 use Rattle.protocol.specs.Log.{Write, RecordCodec}
 use Rattle.protocol.specs.Write.{store}

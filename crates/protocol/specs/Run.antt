@@ -1,7 +1,7 @@
 -- A run of the program on the shelf of Toy, computed: create, two writes, a third one cut in the middle of its strips, start-up with another disk
 -- lost, and reads. This is the classic hole of document 03, section 5: the data strip is written, the parity strip is not, power is lost, then
 -- another disk; and the block that nobody was writing comes back right.
-use Rattle.std.specs.Prelude.{ℕ, zero, suc, ◌≡◌, refl, eqb}
+use Rattle.std.specs.Prelude.{ℕ, zero, suc, eqb}
 use Rattle.protocol.specs.World.{after}
 use Rattle.protocol.specs.Host.{one_block}
 use Rattle.protocol.specs.Program.{nothing, Input, create, start, read_block, write, step, Reply, accepted, refused, did, safe, done, block, found, program}

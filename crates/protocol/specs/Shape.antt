@@ -1,13 +1,13 @@
 -- THE SHAPE OF A DISK'S TWO LABELS (document 02, C6): where one label sector is a valid copy, the other is zeros or a valid copy, and where both are valid their
 -- generations follow each other. Every disk keeps it at every moment, whatever the caches do. (A disk without a label of this shelf may hold anything.)
 use Prim.Native.Nat.{ℕ, suc, ◌<◌}
-use Rattle.std.specs.Prelude.{◌≡◌, refl, true, false, cond, ◌||◌, ◌⊎◌, ◌≢◌, eqb, ltb}
-use Rattle.std.proofs.Common.{sym, ◌∙◌, true≢false, eq-zero-or-pos, arith, eqb-true, ltb-false}
-use Rattle.std.proofs.Math.Path.{ap, subst}
+use Rattle.std.specs.Prelude.{◌≡◌, refl, true, false, ◌⊎◌, ◌≢◌}
+use Rattle.std.proofs.Common.{sym, ◌∙◌, true≢false, arith}
+use Rattle.std.proofs.Math.Path.{ap}
 use Rattle.std.proofs.Math.Bool.{Bool, not}
-use Rattle.std.proofs.lemmas.Bool.{false≢true, eqb-false}
+use Rattle.std.proofs.lemmas.Bool.{false≢true}
 use Rattle.std.proofs.Math.Logic.{⊎_elim, inl, inr}
-use mathlib.Core.List.{List, [], ◌∷◌, Memᴰ}
+use mathlib.Core.List.{List, Memᴰ}
 use Rattle.std.proofs.Math.Decide.{ℕ_discrete}
 use Rattle.protocol.specs.World.{label, slot, Image, update, update_here, update_other}
 use Rattle.protocol.specs.Label.{Label, again, LabelCodec, copy, copy_same, prep_value}

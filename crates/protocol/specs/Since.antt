@@ -2,8 +2,7 @@
 -- and what was left out before no longer matters. So it is asked, from each such moment up to the next one: any two of the sets of slots that accepted start-ups and take-outs leave out in between, the
 -- set that the settled label calls out among them, leave a slot out in common, one that took part in both. Some such thing has to be asked: if two sets are all slots, and a write was acknowledged with
 -- the first one left out, a start-up that leaves out the second cannot tell (no-telling, in Limits).
-use Rattle.std.specs.Prelude.{ℕ, ◌<◌, ◌≡◌, refl, Bool, true, false, cond}
-use Rattle.std.proofs.Common.{ap, subst, ◌∙◌, ⊎_elim, arith}
+use Rattle.std.specs.Prelude.{ℕ, ◌≡◌, Bool, true, false, cond}
 use mathlib.Core.List.Memᴰ
 use mathlib.Core.List.{List, [], ◌∷◌, ◌++◌, Memᴰ}
 use Rattle.protocol.specs.World.{World}

@@ -1,9 +1,7 @@
 -- No action touches an absent slot: neither a put nor a flush.
-use Rattle.std.specs.Prelude.{ℕ, suc, ◌+◌, ◌<◌, ◌≡◌, refl, Bool, true, ◌&&◌}
+use Rattle.std.specs.Prelude.{ℕ, ◌≡◌, Bool}
 use Rattle.std.proofs.Math.Bool.{false, not}
-use Rattle.std.proofs.Common.{inr}
-use mathlib.Core.List.Memᴰ
-use mathlib.Core.List.{List, [], ◌∷◌, ◌++◌, Memᴰ}
+use mathlib.Core.List.{List, [], Memᴰ}
 use borrow.Author.Tests.{not-true}
 use Rattle.protocol.specs.World.{Place, slot, Action}
 use Rattle.protocol.specs.Batch.{flushes, each_flushes, Each}

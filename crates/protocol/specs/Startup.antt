@@ -2,15 +2,13 @@
 -- then the stale slots adopt it. An absent disk may carry a label that no present one has, but at most one generation further: after these rounds it
 -- can neither tie with the settled label nor beat it.
 use Prim.Native.Nat.{ℕ, suc, ◌≤◌, ◌<◌}
-use Rattle.std.specs.Prelude.{◌≡◌, Bool, cond, ◌&&◌, ◌||◌, ◌⊎◌, eqb}
-use Rattle.std.proofs.Math.Path.{refl, sym, ap}
-use Rattle.std.proofs.Common.{ap₂, ◌∙◌, true≢false, arith}
-use Rattle.std.proofs.Math.Bool.{true, false, not, or-true}
-use Rattle.std.proofs.lemmas.Bool.{false≢true}
-use Rattle.std.proofs.Math.Logic.{⊎_elim, inl, inr}
-use mathlib.Core.List.{List, ◌++◌, Memᴰ}
+use Rattle.std.specs.Prelude.{◌≡◌, Bool, cond, ◌&&◌, ◌||◌, ◌⊎◌}
+use Rattle.std.proofs.Math.Path.{refl, ap}
+use Rattle.std.proofs.Common.{◌∙◌, arith}
+use Rattle.std.proofs.Math.Bool.{true, false, not}
+use mathlib.Core.List.{List, ◌++◌}
 use Rattle.std.proofs.Math.Dec.{ltb}
-use borrow.Author.Tests.{ne_eqb, eqb-true, eqb-false, ltb-true, ltb-false, lt-ltb, not-true}
+use borrow.Author.Tests.{ltb-true, ltb-false}
 use Rattle.protocol.specs.World.{label, log, strip, Image, update_other, Action}
 use Rattle.protocol.specs.Slots.{from, slots, every, leader, leader_top, leader_below}
 use Rattle.protocol.specs.Log.{Belief, Within, Agrees}

@@ -1,15 +1,8 @@
 -- THE OLD SHELF of a disk that begins to be rebuilt here. The disk in slot d may carry labels of another shelf, or of another slot. Whatever a cut leaves
 -- while begin runs, the disk is for its old shelf as it was before the request, label, log and strips, or it has no label of it at all: never a
 -- label over a log or over strips that this shelf has changed. Assumes nothing.
-use Rattle.std.specs.Prelude.{ℕ, suc, ◌≤◌, ◌<◌, ◌≡◌, ◌&&◌, ◌||◌, ◌⊎◌, ◌≢◌, eqb, ltb}
-use Rattle.std.proofs.Math.Path.{refl, sym, ap}
-use Rattle.std.proofs.Common.{subst, ◌∙◌, true≢false, eq-zero-or-pos, arith, eq-eqb, lt-ltb, le-ltb}
-use Rattle.std.proofs.Math.Bool.{Bool, true, false, cond, not}
-use Rattle.std.proofs.lemmas.Bool.{false≢true}
-use Rattle.std.proofs.Math.Logic.{⊎_elim, inl, inr}
-use mathlib.Core.List.Memᴰ
-use mathlib.Core.List.{List, [], ◌∷◌, ◌++◌, Memᴰ}
-use Rattle.std.proofs.Math.Decide.{ℕ_discrete}
+use Rattle.std.specs.Prelude.{ℕ, ◌<◌, ◌≡◌, ◌⊎◌, ltb}
+use Rattle.std.proofs.Math.Bool.{Bool, true, false, cond}
 use Rattle.protocol.specs.World.{label, log, strip, Image, World, Possible, Sane}
 use Rattle.protocol.specs.Label.{Label, LabelCodec, last_side}
 

@@ -1,12 +1,5 @@
 -- Another disk in a slot that is absent: what it holds does not matter, as long as its labels are older than the settled one.
-use Rattle.std.specs.Prelude.{ℕ, ◌≤◌, ◌<◌, ◌≡◌, Bool, cond, ◌⊎◌, ◌≢◌}
-use Rattle.std.proofs.Math.Path.{refl, subst}
-use Rattle.std.proofs.Common.{sym, inl, inr, arith, ne_eqb}
-use Rattle.std.proofs.Math.Bool.{true, false}
-use Rattle.std.proofs.Math.Logic.{⊎_elim}
-use Rattle.std.proofs.Math.Decide.{ℕ_discrete}
-use Rattle.std.proofs.Math.Dec.{eqb}
-use Rattle.std.proofs.lemmas.Bool.{eqb-false}
+use Rattle.std.specs.Prelude.{ℕ, ◌<◌, Bool, ◌≢◌}
 use Rattle.protocol.specs.World.{Place, slot, Image, World, Possible, Sane}
 use Rattle.protocol.specs.Label.{LabelCodec, copy}
 

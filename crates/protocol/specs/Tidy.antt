@@ -1,11 +1,9 @@
 -- EVERY DISK HAS THE C6 SHAPE AT EVERY MOMENT, as long as every disk that is put in has it (one without a label of this shelf has it, and an older disk of the shelf kept it).
-use Rattle.std.specs.Prelude.{ℕ, zero, suc, ◌+◌, ◌≤◌, ◌<◌, ◌≡◌, Bool, ◌&&◌, ◌||◌, ◌⊎◌, ◌≢◌, ltb}
-use Rattle.std.proofs.Math.Path.{refl}
-use Rattle.std.proofs.Common.{sym, ap, subst, ◌∙◌, true≢false, ⊎_elim, inl, inr, arith, ltb-true, lt-ltb}
-use Rattle.std.proofs.Math.Bool.{true, false, not, or-true}
-use Rattle.std.proofs.lemmas.Bool.{false≢true, not-true}
-use mathlib.Core.List.{◌++◌, Memᴰ}
-use Rattle.std.proofs.Math.Decide.{ℕ_discrete}
+use Rattle.std.specs.Prelude.{ℕ, suc, ◌<◌, ◌≡◌, Bool}
+use Rattle.std.proofs.Common.{sym, ap, subst, ◌∙◌, ⊎_elim, inl, inr, arith}
+use Rattle.std.proofs.Math.Bool.{true, false}
+use Rattle.std.proofs.lemmas.Bool.{false≢true}
+use mathlib.Core.List.{Memᴰ}
 use Rattle.protocol.specs.World.{Place, label, Image, update, update_other}
 use Rattle.protocol.specs.Log.{RecordCodec}
 use Rattle.protocol.specs.Label.{Label, Size, Quorum, LabelCodec, copy, copy_same}

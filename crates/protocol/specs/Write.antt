@@ -1,9 +1,9 @@
 -- The write request: log, flush (`log_safe`), strips, flush (`strips_safe`). Whatever a cut leaves at any moment, the shelf is in the old state or in the new one;
 -- at the end it is quiet, with the new table.
-use Prim.Native.Nat.{ℕ, suc, ◌≤◌, ◌<◌}
-use Rattle.std.specs.Prelude.{◌≡◌, Bool, true, false, ◌&&◌, ◌⊎◌, ◌≢◌}
-use Rattle.std.proofs.Math.Path.{refl, sym, ap}
-use Rattle.std.proofs.Common.{◌∙◌, inr, arith}
+use Prim.Native.Nat.{ℕ, suc, ◌<◌}
+use Rattle.std.specs.Prelude.{◌≡◌, Bool, true, false, ◌&&◌, ◌⊎◌}
+use Rattle.std.proofs.Math.Path.{refl}
+use Rattle.std.proofs.Common.{arith}
 use Rattle.std.proofs.lemmas.Bool.{false≢true}
 use mathlib.Core.List.{List, Memᴰ}
 use Rattle.protocol.specs.World.{Place, label, log, strip, Image, Action}

@@ -4,12 +4,12 @@
 use Rattle.std.proofs.Math.Path.{◌≡◌, refl, sym, ap, ap₂, fun_ext}
 use Rattle.std.proofs.Common.{subst, ◌∙◌, inl, inr, suc-mul, arith, lit<, ext_get_or}
 use Rattle.std.proofs.Math.Bool.{Bool, true, false, cond, not}
-use Rattle.std.specs.Prelude.{◌&&◌, ◌||◌, List, [], ◌∷◌, eqb, leb, get_or}
-use Prim.Native.Nat.{ℕ, zero, suc, ◌+◌, ◌*◌, ◌≤◌, ◌<◌, ◌%◌, ◌^◌}
+use Rattle.std.specs.Prelude.{◌&&◌, ◌||◌, List, [], ◌∷◌, leb, get_or}
+use Prim.Native.Nat.{ℕ, suc, ◌+◌, ◌*◌, ◌≤◌, ◌<◌, ◌%◌}
 use Rattle.std.proofs.Math.Nat.{mod-lt}
 use Rattle.std.specs.Int.Count.{ones}
 use Rattle.std.proofs.lemmas.List.{get_or-replicate}
-use borrow.Author.Tests.{eq-eqb, ne_eqb, eqb-true, eqb-false, lt-ltb, le-leb}
+use borrow.Author.Tests.{lt-ltb, le-leb}
 use Rattle.disk.specs.Limits.{sector_bytes}
 use Rattle.disk.specs.Image.{place}
 use Rattle.disk.specs.Tests.{both}
@@ -17,9 +17,6 @@ use Rattle.disk.specs.Mask.{in_mask}
 use Rattle.disk.specs.declared.refusal.Outcome.TheVariants.{Done}
 use Rattle.label.specs.Fields.{most_generation}
 use Rattle.label.specs.Bytes.{all_zero}
-use Rattle.label.specs.declared.fields.Label as bytes
-use Rattle.label.proofs.Fits.{fits_says}
-use Rattle.label.proofs.Counts.{same_says}
 use Rattle.rounds.specs.Survey.{slots_that, next_of, plan_of, survey_of}
 use Rattle.rounds.specs.declared.slot.Question.TheVariants.{Out}
 use Rattle.rounds.specs.declared.plan.Plan.{Plan}
@@ -55,9 +52,7 @@ use Rattle.shards.specs.Parity.{byte_of}
 use Rattle.shards.specs.Parity as Parity
 use Rattle.shards.proofs.Even.{any_code, any_sectors}
 use Rattle.stages.specs.declared.state.State.{State}
-use Rattle.requests.specs.Ready.{is_idle}
-use Rattle.requests.specs.TakeOut.{out_with, plainly_out, take_answer, next_label, outed}
-use Rattle.requests.specs.Accepted.{Goes, take_done}
+use Rattle.requests.specs.TakeOut.{take_answer, outed}
 use Rattle.refine.specs.Places.{sector_of, inside}
 use Rattle.refine.specs.Disks.{Disks, byte_in, cur_of, seen_of}
 use Rattle.refine.proofs.Disks.{seen_mask, seen_present}

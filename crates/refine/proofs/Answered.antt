@@ -1,29 +1,27 @@
 -- EVERY BLOCK CAN BE READ. Along every chain of calls from an image of zeros on, whatever was cut, taken out or exchanged on it, a read at rest of any block of the shelf, with a block's buffer and the chain's
 -- work area, is answered Done: at most m slots are out or absent, and the state's label is in range. With Serves: at rest every block reads as its entry of the host's list. And a write of
 -- any block is accepted where each present disk holds the state's label. What is asked is what Promise asks. Assumes nothing.
-use Rattle.std.specs.Prelude.{◌≡◌, not, ◌&&◌, ◌||◌, List, [], ◌∷◌, length}
+use Rattle.std.specs.Prelude.{◌≡◌, not, ◌&&◌, List, [], ◌∷◌, length}
 use Rattle.std.proofs.Math.Path.{refl, ap, ap₂}
 use Rattle.std.proofs.Common.{sym, subst, ◌∙◌, ⊎_elim, inl, inr, arith}
 use Rattle.std.proofs.Math.Bool.{Bool, true, false, cond}
 use Rattle.std.proofs.lemmas.Bool.{false≢true}
 use Prim.Native.Nat.{ℕ, zero, suc, ◌+◌, ◌*◌, ◌≤◌, ◌<◌, ◌/◌, ◌%◌}
-use Rattle.std.proofs.Math.Dec.{eqb, ltb}
-use Rattle.std.specs.Int.Count.{ones}
-use borrow.Author.Tests.{lt-ltb, le-ltb, eq-eqb}
+use Rattle.std.proofs.Math.Dec.{eqb}
+use borrow.Author.Tests.{lt-ltb}
 use Rattle.disk.specs.Limits.{sector_bytes}
 use Rattle.disk.specs.Mask.{in_mask, with_slot, without_slot}
 use Rattle.disk.specs.Tests.{and_right}
 use Rattle.disk.specs.Geometry.{blocks_of}
 use Rattle.disk.specs.Image.{fits_image}
 use Rattle.disk.specs.declared.geometry.Geometry.{Geometry}
-use Rattle.disk.specs.declared.refusal.Refusal.TheVariants.{BadImage, NoLabel, TooFew, BadBlock, Busy, NotNow, BadBuffer}
+use Rattle.disk.specs.declared.refusal.Refusal.TheVariants.{BadImage, NoLabel, NotNow, BadBuffer}
 use Rattle.disk.specs.declared.refusal.Outcome.{Outcome}
 use Rattle.disk.specs.declared.refusal.Outcome.TheVariants.{Done, Refused}
 use Rattle.label.specs.Bytes.{all_zero}
 use Rattle.label.specs.Fields.{geometry_of, fits_of, no_slot}
 use Rattle.label.specs.Newest.{all_of}
 use Rattle.label.proofs.Fits.{fits_says}
-use Rattle.label.proofs.Counts.{same_says}
 use Rattle.label.specs.declared.fields.Label as bytes
 use Rattle.rounds.specs.Survey.{survey_of, next_of, plan_of}
 use Rattle.rounds.specs.declared.plan.Plan.{Plan}
@@ -52,8 +50,7 @@ use Rattle.requests.specs.TakeOut.{plainly_out, next_label, outed, take_answer, 
 use Rattle.requests.specs.Ready.{is_nothing, is_idle, has_shelf, holding, ready_of}
 use Rattle.rebuilds.specs.Begin.{begin_answer, began}
 use Rattle.rebuilds.specs.On.{first_stage, at_least_one, last_batch, on_label, on_answer, went_on}
-use Rattle.blocks.specs.Slots.{missing_at, missing, too_few}
-use Rattle.blocks.specs.Answers.{serves, look_answer, answered, sizes, block_answer}
+use Rattle.blocks.specs.Slots.{too_few}
 use Rattle.blocks.specs.Read.{read_answer, after_read}
 use Rattle.blocks.specs.Repair.{repair_accuses, repair_refused}
 use Rattle.blocks.specs.Write.{most_count, stamp_left, write_answer, AfterWrite}

@@ -2,13 +2,12 @@
 -- an accepted begin begins has the program's list before it. Assumes nothing.
 use Rattle.std.specs.Prelude.{◌≡◌, ◌&&◌, ◌||◌, ℕ, suc, ◌<◌, ◌%◌}
 use Rattle.std.proofs.Math.Path.{refl, sym, ap, ap₂, fun_ext}
-use Rattle.std.proofs.Common.{◌∙◌, add-one, arith, eq-eqb, ne_eqb, eqb-true, lt-ltb, le-leb}
+use Rattle.std.proofs.Common.{◌∙◌, add-one, eq-eqb}
 use Rattle.std.proofs.Math.Bool.{Bool, true, false, cond, not}
 use mathlib.Core.List.{List, [], ◌∷◌, ◌++◌}
 use Rattle.std.proofs.Math.Dec.{eqb, ltb}
 use Rattle.disk.specs.Image.{read_of}
 use Rattle.disk.specs.Mask.{in_mask, in_without}
-use Rattle.disk.specs.declared.geometry.Geometry.{Geometry}
 use Rattle.label.specs.Valid.{label_at, decode_of}
 use Rattle.label.specs.Newest.{copy_of, same_shelf}
 use Rattle.label.specs.Strange as strange
@@ -36,9 +35,8 @@ use Rattle.codecs.proofs.Records.{records}
 use Rattle.rounds.specs.Slot.{age_under, copy_age}
 use Rattle.shelf.specs.Act.{odd_sector}
 use Rattle.stages.specs.declared.state.State.{State}
-use Rattle.requests.specs.Begun.{slots_but}
 use Rattle.rebuilds.specs.Readied as readied
-use Rattle.rebuilds.specs.Begin.{only, begin_marks, begun_label, began_with, began}
+use Rattle.rebuilds.specs.Begin.{begun_label}
 use Rattle.refine.specs.Places.{copy_sector, sector_of, label_inside}
 use Rattle.refine.specs.Disks.{Disks}
 use Rattle.refine.proofs.Disks.{cur_read, seen_present}

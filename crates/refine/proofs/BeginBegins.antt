@@ -1,17 +1,16 @@
 -- BEGIN, ACCEPTED AT REST, is accepted by the protocol's program too: it begins with a state in order, beside which the program remembers
 -- that same request. Asked is that the slot, if it is absent, is not looked at, as the protocol's invariant has it at rest; so it is out.
 -- Assumes nothing.
-use Rattle.std.specs.Prelude.{◌≡◌, Bool, cond, ◌&&◌, ◌||◌, List, [], ◌∷◌, eqb, ltb, leb}
+use Rattle.std.specs.Prelude.{◌≡◌, List}
 use Rattle.std.proofs.Math.Path.{refl, ap₂}
-use Rattle.std.proofs.Common.{sym, ap, subst, ◌∙◌, true≢false, arith}
-use Rattle.std.proofs.Math.Bool.{true, false, not}
-use Prim.Native.Nat.{ℕ, suc, ◌+◌, ◌<◌, ◌^◌}
-use borrow.Author.Tests.{eq-eqb, ne_eqb, eqb-true, lt-ltb, le-ltb, le-leb, leb-false, not-true}
+use Rattle.std.proofs.Common.{sym, ap, subst, ◌∙◌, arith}
+use Rattle.std.proofs.Math.Bool.{true, not}
+use Prim.Native.Nat.{ℕ}
+use borrow.Author.Tests.{lt-ltb, not-true}
 use Rattle.disk.specs.Tests.{both}
 use Rattle.disk.specs.Mask.{in_mask}
 use Rattle.disk.specs.declared.refusal.Outcome.TheVariants.{Done}
 use Rattle.label.specs.Fields.{fits_of}
-use Rattle.label.specs.declared.fields.Label as bytes
 use Rattle.label.proofs.Fits.{fits_says}
 use Rattle.protocol.specs.World.{Image}
 use Rattle.protocol.specs.Label as protocol
@@ -27,14 +26,9 @@ use Rattle.codecs.specs.Media.{stamps}
 use Rattle.shards.proofs.Even.{any_code, any_sectors}
 use Rattle.shelf.specs.Step.{sound}
 use Rattle.stages.specs.declared.state.State.{State}
-use Rattle.stages.specs.declared.state.Kind.{Kind}
 use Rattle.stages.specs.declared.state.Kind.TheVariants.{Beginning}
-use Rattle.requests.specs.Begun.{work_bytes}
-use Rattle.requests.specs.Ready.{is_idle, ready_of}
-use Rattle.requests.specs.Accepted.{ready_done}
-use Rattle.rebuilds.specs.Judge.{too_few, last_one, sized, judged_done, first_done, one_more}
 use Rattle.rebuilds.specs.Readied.{odd_first, alien, prepared}
-use Rattle.rebuilds.specs.Begin.{lacks, other_rebuilt, cannot_begin, asked_begin, begin_answer, begun_label, began}
+use Rattle.rebuilds.specs.Begin.{begin_answer, begun_label}
 use Rattle.refine.specs.Disks.{Disks, cur_of}
 use Rattle.refine.proofs.Disks.{seen_mask}
 use Rattle.refine.specs.ToDo.{to_do}

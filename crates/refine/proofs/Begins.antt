@@ -1,16 +1,14 @@
 -- The states with which requests begin are in order: their masks name present slots, and their labels can be told to each slot.
 -- Assumes nothing.
-use Rattle.std.specs.Prelude.{◌≡◌, refl, Bool, false, List, [], ℕ, ◌+◌, ◌≤◌, ◌<◌, ltb, leb}
-use Rattle.std.proofs.Common.{sym, ap, subst, ◌∙◌, inl, inr, arith}
+use Rattle.std.specs.Prelude.{◌≡◌, refl, Bool, false, List, [], ℕ, ◌+◌, ◌≤◌, ◌<◌}
+use Rattle.std.proofs.Common.{sym, subst, ◌∙◌, inl, inr, arith}
 use Rattle.std.proofs.Math.Bool.{true, not}
 use Rattle.std.proofs.lemmas.Bool.{false≢true}
-use borrow.Author.Tests.{lt-ltb, le-leb, not-true}
+use borrow.Author.Tests.{not-true}
 use Rattle.disk.specs.Tests.{and_left}
 use Rattle.disk.specs.Geometry.{stripes_of}
 use Rattle.disk.specs.Mask.{in_mask}
 use Rattle.label.specs.Fields.{most_generation, fits_of}
-use Rattle.label.specs.declared.fields.Label as bytes
-use Rattle.label.proofs.Fits.{fits_says}
 use Rattle.protocol.specs.Label.{belief}
 use Rattle.protocol.proofs.Label.{believe_of}
 use Rattle.protocol.specs.Startup.{gone, stale}
@@ -18,8 +16,7 @@ use Rattle.codecs.specs.Shelf.{Shelf, slots, geometry, size}
 use Rattle.codecs.specs.Labels.{ours}
 use Rattle.codecs.proofs.Labels.{labels}
 use Rattle.codecs.proofs.Records.{records}
-use Rattle.shelf.specs.Act.{named}
-use Rattle.stages.specs.Stage.{again, stage_at, stage_of}
+use Rattle.stages.specs.Stage.{stage_at, stage_of}
 use Rattle.shelf.specs.Step.{sound}
 use Rattle.stages.specs.declared.state.State.{State}
 use Rattle.stages.specs.declared.state.Kind.{Kind}

@@ -5,18 +5,16 @@
 --
 -- A refusal is an answer that leaves everything as it was, and needs no event. The code may refuse more than the protocol's program:
 -- a disk whose newest label is another shelf's.
-use Rattle.std.specs.Prelude.{◌≡◌, ◌⊎◌, Bool, true, ◌&&◌, ℕ, ◌<◌, eqb, leb, length}
+use Rattle.std.specs.Prelude.{◌≡◌, ◌⊎◌, Bool, true, ℕ, ◌<◌, eqb, length}
 use Rattle.std.proofs.Math.Path.{refl, ap, subst}
-use Rattle.std.proofs.Common.{sym, ap₂, ◌∙◌, ⊎_elim, inl, inr, true≢false}
+use Rattle.std.proofs.Common.{sym, ap₂, ◌∙◌, ⊎_elim, inl, inr}
 use Rattle.std.proofs.Math.Bool.{false, cond}
-use Rattle.std.proofs.lemmas.Bool.{false≢true}
 use mathlib.Core.List.Memᴰ
-use mathlib.Core.List.{List, [], ◌∷◌, ◌++◌, Memᴰ}
-use Rattle.std.proofs.Math.Dec.{ltb}
+use mathlib.Core.List.{List, [], ◌∷◌, Memᴰ}
 use Rattle.disk.specs.Mask.{in_mask}
 use Rattle.disk.specs.declared.geometry.Geometry.{Geometry}
 use Rattle.disk.specs.declared.refusal.Refusal.{Refusal}
-use Rattle.disk.specs.declared.refusal.Refusal.TheVariants.{BadImage, BadBuffer, NotNow}
+use Rattle.disk.specs.declared.refusal.Refusal.TheVariants.{BadBuffer, NotNow}
 use Rattle.disk.specs.declared.refusal.Outcome.{Outcome}
 use Rattle.disk.specs.declared.refusal.Outcome.TheVariants.{Done, Refused}
 use Rattle.label.specs.Bytes.{all_zero}
@@ -45,21 +43,17 @@ use Rattle.codecs.proofs.Records.{records}
 use Rattle.codecs.specs.Media.{stamps}
 use Rattle.shards.specs.Quorum.{few_of}
 use Rattle.shelf.specs.Act.{Move, refuses}
-use Rattle.shelf.specs.Step.{under_way, sound, walk, step_move, finished}
-use Rattle.shelf.specs.Step as Step
-use Rattle.stages.specs.Limits.{most_stages}
+use Rattle.shelf.specs.Step.{finished}
 use Rattle.stages.specs.declared.state.State.{State}
 use Rattle.stages.specs.declared.state.Kind.{Kind}
-use Rattle.stages.specs.declared.state.Kind.TheVariants.{Nothing, Idle, Creating, Starting, Labelling, Writing, Beginning, Filling}
+use Rattle.stages.specs.declared.state.Kind.TheVariants.{Idle}
 use Rattle.stages.specs.declared.state.Answer.{Answer}
-use Rattle.stages.specs.declared.state.Answer.TheVariants as answer
 use Rattle.requests.specs.Begun.{work_bytes, begun}
 use Rattle.requests.specs.Create.{create_answer, created, create_of}
 use Rattle.requests.specs.Start.{started, by_survey, start_of}
 use Rattle.requests.specs.TakeOut.{outed, take_answer, took_out, take_out_of}
-use Rattle.requests.specs.Step.{other_work, step_with, step_short, step_goes, step_unsound}
+use Rattle.requests.specs.Step.{other_work, step_with, step_short, step_goes}
 use Rattle.requests.specs.Accepted.{create_done, take_done}
-use Rattle.requests.specs.Ready.{is_idle}
 use Rattle.requests.specs.declared.begun.Begun.{Begun}
 use Rattle.refine.specs.Family.{Family, code_in, sectors_in, ZerosIn, HappensIn, leaves_of, program_in_lem}
 use Rattle.refine.proofs.Places.{place_one}

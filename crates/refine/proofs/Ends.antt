@@ -1,20 +1,16 @@
 -- EACH ACCEPTED REQUEST ENDS IN ITS OWN SUCCESS: with a work area of the right size its steps are what is left to do, an action each,
 -- and the next one is done; none is refused. A step that answers Done ends its request. Assumes nothing.
-use Rattle.std.specs.Prelude.{◌≡◌, refl, Bool, true, false, cond, ◌&&◌, List, [], ◌∷◌, ℕ, zero, suc, ◌<◌, length}
-use Rattle.std.proofs.Common.{sym, ap, subst, ◌∙◌, arith}
-use Rattle.std.proofs.lemmas.Bool.{false≢true}
+use Rattle.std.specs.Prelude.{◌≡◌, refl, true, List, [], ◌∷◌, ℕ, zero, suc, ◌<◌, length}
+use Rattle.std.proofs.Common.{ap, subst, ◌∙◌, arith}
 use Rattle.protocol.specs.World.{Action, put, flush}
 use Rattle.codecs.specs.Sector.{Sector}
 use Rattle.codecs.specs.Shelf.{Shelf, slots}
-use Rattle.disk.specs.declared.refusal.Refusal.TheVariants.{BadBuffer}
-use Rattle.shelf.specs.Act.{Move, refuses}
-use Rattle.shelf.specs.Step.{done, finished, sound, step_move}
-use Rattle.shelf.specs.Laws.{step_done}
+use Rattle.shelf.specs.Act.{Move}
+use Rattle.shelf.specs.Step.{done}
 use Rattle.shelf.specs.Bound.{acted}
 use Rattle.stages.specs.declared.state.State.{State}
-use Rattle.stages.specs.declared.state.Answer.TheVariants as answer
 use Rattle.requests.specs.Begun.{work_bytes}
-use Rattle.requests.specs.Step.{other_work, step_with}
+use Rattle.requests.specs.Step.{step_with}
 use Rattle.refine.specs.ToDo.{to_do}
 use Rattle.refine.specs.Steps.{Fair, Does}
 use Rattle.refine.proofs.Steps.{step_does}

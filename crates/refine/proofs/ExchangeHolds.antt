@@ -12,14 +12,12 @@ use Rattle.disk.specs.Tests.{and_left, and_right}
 use Rattle.disk.specs.Limits.{sector_bytes}
 use Rattle.disk.specs.Geometry.{blocks_of, stripes_of, strip_of}
 use Rattle.disk.proofs.GeometryLaws.{strip_inside}
-use Rattle.disk.specs.declared.refusal.Refusal.TheVariants.{NoLabel}
 use Rattle.disk.specs.declared.refusal.Outcome.TheVariants.{Done}
 use Rattle.label.specs.Fields.{no_slot, fits_of}
 use Rattle.label.specs.Bytes.{all_zero}
 use Rattle.label.specs.Newest.{copy_of}
 use Rattle.label.specs.declared.fields.Label as bytes
 use Rattle.label.specs.declared.codec.Decoded.TheVariants.{Valid}
-use Rattle.rounds.specs.declared.plan.Survey.{Survey}
 use Rattle.redo.specs.Decide.{looked, believed}
 use Rattle.protocol.specs.World.{World, put, flush, act, after, Possible, Sane}
 use Rattle.protocol.specs.Host.{Host}
@@ -35,8 +33,7 @@ use Rattle.stages.specs.declared.state.Kind.TheVariants.{Idle, Filling}
 use Rattle.stages.specs.declared.state.Answer.{Answer}
 use Rattle.stages.specs.declared.state.Answer.TheVariants as answer
 use Rattle.stages.specs.State.{rested}
-use Rattle.requests.specs.Begun.{work_bytes, refused}
-use Rattle.requests.specs.Start.{by_survey, start_of}
+use Rattle.requests.specs.Begun.{work_bytes}
 use Rattle.requests.specs.Step.{other_work, step_with, step_short, step_goes}
 use Rattle.requests.specs.Ready.{is_idle}
 use Rattle.requests.specs.TakeOut.{plainly_out}

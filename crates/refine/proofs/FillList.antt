@@ -8,7 +8,7 @@ use mathlib.Core.List.{List, [], ◌∷◌, ◌++◌, append-nil}
 use Prim.Native.Nat.{ℕ, zero, suc, ◌+◌, ◌-◌, ◌*◌, ◌≤◌, ◌<◌}
 use Rattle.std.proofs.Math.Arith.{digits_div, digits_mod}
 use Rattle.disk.specs.Limits.{sector_bytes}
-use Rattle.protocol.specs.World.{Place, strip, slot, Image, Action}
+use Rattle.protocol.specs.World.{Place, strip, Image, Action}
 use Rattle.protocol.specs.Batch.{puts, flushes}
 use Rattle.protocol.specs.Slots.{from, row, rows}
 use Rattle.protocol.specs.Walk.{append_assoc}

@@ -1,28 +1,18 @@
 -- A STRIP THAT IS REBUILT. What a rebuild asks of the shelf's label, its slot, its strips and the work area; and then each of its sectors is the
 -- one that the protocol's program rebuilds, and goes to its place. Assumes nothing.
-use Rattle.std.specs.Prelude.{◌≡◌, ◌&&◌, take}
-use Rattle.std.proofs.Math.Path.{refl, sym, ap}
-use Rattle.std.proofs.Common.{◌∙◌, ⊎_elim, true≢false, suc-mul, div-lt_iff_lt-mul, mod-lt, lit<}
+use Rattle.std.specs.Prelude.{◌≡◌}
+use Rattle.std.proofs.Math.Path.{sym, ap}
+use Rattle.std.proofs.Common.{◌∙◌, lit<}
 use Rattle.std.proofs.Math.Bool.{Bool, true, false, not}
 use Rattle.std.proofs.lemmas.Bool.{false≢true}
-use mathlib.Core.List.{List, []}
-use Prim.Native.Nat.{ℕ, ◌+◌, ◌*◌, ◌-◌, ◌≤◌, ◌<◌, ◌/◌, ◌%◌}
-use Rattle.std.proofs.Math.Nat.{mul-le-mul_right, div-mul-le_self, div-add-mod', mul-add, mul_comm}
+use mathlib.Core.List.{List}
+use Prim.Native.Nat.{ℕ, ◌+◌, ◌*◌, ◌<◌, ◌/◌}
+use Rattle.std.proofs.Math.Nat.{div-add-mod', mul-add, mul_comm}
 use native.Mathlib.Omega.{arith}
-use Rattle.std.proofs.Math.Dec.{ltb, leb, eqb}
-use Rattle.std.proofs.Math.ListN.{length}
-use Rattle.std.proofs.Math.Seq.{length-take-le}
-use borrow.Author.Tests.{lt-ltb, le-ltb, le-leb, eq-eqb}
 use Rattle.disk.specs.Limits.{first_strip}
 use Rattle.disk.specs.Geometry.{stripes_of, strip_of, slot_of, shard_of}
 use Rattle.disk.specs.Mask.{in_past}
-use Rattle.disk.specs.declared.geometry.Geometry.{Geometry}
-use Rattle.disk.specs.declared.geometry.Found.{Found}
-use Rattle.disk.specs.declared.geometry.Found.TheVariants as spot
-use Rattle.disk.specs.declared.refusal.Outcome.TheVariants.{Done}
 use Rattle.label.specs.declared.fields.Label as bytes
-use Rattle.label.proofs.Counts.{same_says}
-use Rattle.redo.specs.Decide.{believed}
 use Rattle.protocol.specs.World.{strip}
 use Rattle.protocol.specs.Label as Label
 use Rattle.protocol.specs.Host.{Blocks, missing}
@@ -34,15 +24,12 @@ use Rattle.codecs.specs.Labels.{ours}
 use Rattle.codecs.specs.Records.{strip_bytes}
 use Rattle.codecs.proofs.Records.{records}
 use Rattle.shards.proofs.Even.{any_code}
-use Rattle.strips.specs.Seen.{shard_shown, shard_bytes}
-use Rattle.strips.specs.Answers.{part_of, few_lost, shown_answer}
+use Rattle.strips.specs.Seen.{shard_shown}
 use Rattle.views.specs.Seen.{Lying, Keeping, gone}
 use Rattle.views.proofs.Seen.{none_over}
 use Rattle.views.proofs.Filled.{filled_part}
 use Rattle.views.specs.Program.{bad_same}
-use Rattle.shelf.specs.Act.{in_strips}
 use Rattle.shelf.specs.Fill as Fill
-use Rattle.shelf.specs.Says.{when, unless}
 use Rattle.refine.specs.Places.{sector_of, strip_is_inside}
 use Rattle.refine.specs.Disks.{Disks, cur_of}
 use Rattle.refine.proofs.Disks.{cur_bytes}

@@ -5,7 +5,7 @@ use Rattle.std.proofs.Math.Path.{refl, sym, ap, ap₂, subst}
 use Rattle.std.proofs.Common.{◌∙◌, ⊎_elim, inl, inr, true≢false, mod-eq_of_lt, arith}
 use Rattle.std.proofs.Math.Bool.{cond, ◌&&◌}
 use mathlib.Core.List.{List}
-use Prim.Native.Nat.{ℕ, zero, suc, ◌+◌, ◌*◌, ◌/◌, ◌≤◌, ◌<◌}
+use Prim.Native.Nat.{ℕ, zero, suc, ◌*◌, ◌/◌, ◌≤◌, ◌<◌}
 use Rattle.std.proofs.Math.Nat.{suc-mul}
 use Rattle.std.proofs.Math.ListN.{replicate}
 use borrow.Author.Tests.{ne_eqb, lt-ltb, le-ltb}
@@ -27,7 +27,7 @@ use Rattle.record.specs.Log.{restore_of}
 use Rattle.record.specs.declared.stamp.Stamp.{Stamp}
 use Rattle.record.specs.declared.tail.Tail.{Tail}
 use Rattle.record.specs.declared.tail.Found as tail
-use Rattle.redo.specs.Decide.{plainly_out, looked, believed, log_at, tail_found, no_stamp, stamp_found, key_of, lead_of, involved, complete_with, whole_of, marked, settled, decided, redo_of}
+use Rattle.redo.specs.Decide.{looked, believed, log_at, tail_found, no_stamp, stamp_found, key_of, lead_of, involved, complete_with, whole_of, marked, settled, decided, redo_of}
 use Rattle.redo.specs.Laws.{looked_below, believed_looked, believed_below, tail_tells, decided_some, key_is}
 use Rattle.redo.specs.Laws as laws
 use Rattle.redo.specs.Complete.{complete_stamps, stamps_complete, says_whole}

@@ -72,7 +72,7 @@ use Rattle.refine.specs.Chain.{Allowed, outs, Tie}
 use Rattle.refine.proofs.Chain.{rests, start_any_passed, out_passed}
 use Rattle.refine.specs.Chain as chain
 use Rattle.refine.specs.Refills.{Heals, rest_dark}
-use Rattle.refine.specs.Hosts.{Held, none, has, Time, at, held, HostCalls, creates, starts, creates_late, takes_out, begins, ons, writes, repairs, steps, swaps, cut, dies, HostChain, stays, goes_on, sets_call, sets, Bound, BoundAt}
+use Rattle.refine.specs.Hosts.{Held, has, Time, at, held, HostCalls, creates, starts, creates_late, takes_out, begins, ons, writes, repairs, steps, swaps, cut, dies, HostChain, stays, goes_on, sets_call, sets, Bound, BoundAt}
 use Rattle.refine.proofs.Hosts.{loose, not_rest, repair_changes_nothing, call_bound, chain_bound}
 use Rattle.refine.proofs.HostHolds.{bound_followed, write_carried_out, begin_carried_out, rebuild_carried_out, bound_rests}
 use Rattle.refine.specs.HostTrue.{from_rest, chained_on, Room, Sized, SomeBound, Along}

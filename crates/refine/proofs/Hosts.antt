@@ -2,14 +2,14 @@
 -- of the caller and exchanged disks in between, and the host's view beside them. The caller hands back the state and the work area that it was handed last.
 -- What a call does to the view is said in the words of its answer (`Saw`). A repair is always refused, since no sector changes by itself.
 -- Assumes nothing.
-use Rattle.std.specs.Prelude.{◌≡◌, refl, ◌⊎◌, Bool, false, ℕ, ◌+◌, ◌<◌, ◌/◌, ◌%◌, length}
+use Rattle.std.specs.Prelude.{◌≡◌, refl, ◌⊎◌, Bool, false, ℕ, ◌<◌, ◌/◌, ◌%◌, length}
 use Rattle.std.proofs.Common.{sym, ◌∙◌, inr}
 use Rattle.std.proofs.Math.Path.{ap, subst}
 use Rattle.std.proofs.Math.Logic.{⊎_elim, inl}
 use Rattle.std.proofs.Math.Bool.{true}
 use Rattle.std.proofs.lemmas.Bool.{false≢true}
 use mathlib.Core.List.Memᴰ
-use mathlib.Core.List.{List, [], ◌∷◌, ◌++◌}
+use mathlib.Core.List.{List, [], ◌∷◌}
 use Rattle.disk.specs.Mask.{in_mask}
 use Rattle.disk.specs.declared.geometry.Geometry.{Geometry}
 use Rattle.disk.specs.declared.refusal.Refusal.{Refusal}
@@ -42,13 +42,11 @@ use Rattle.requests.specs.Start.{start_of}
 use Rattle.requests.specs.TakeOut.{take_answer, took_out, take_out_of}
 use Rattle.requests.specs.Step.{other_work, step_with, step_short, step_goes}
 use Rattle.requests.specs.Accepted.{take_done}
-use Rattle.requests.specs.Ready.{is_idle, ready_of}
+use Rattle.requests.specs.Ready.{is_idle}
 use Rattle.requests.specs.declared.begun.Begun.{Begun}
 use Rattle.rebuilds.specs.Begin.{begin_answer, began, begin_of}
 use Rattle.rebuilds.specs.On.{on_answer, went_on, on_of}
-use Rattle.blocks.specs.Slots.{too_few}
-use Rattle.blocks.specs.Answers.{sizes, block_answer, first_done, answered_done}
-use Rattle.blocks.specs.Write.{stamp_left, write_answer, Written, AfterWrite, write_done}
+use Rattle.blocks.specs.Write.{Written, AfterWrite, write_done}
 use Rattle.blocks.specs.Repair.{may_repair, Repairs, repair_refused}
 use Rattle.refine.specs.Given.{shelf_geometry}
 use Rattle.refine.specs.Family.{Family, sound_in}

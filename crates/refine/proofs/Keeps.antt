@@ -1,6 +1,6 @@
 -- What a write keeps in the work area, as the protocol's write: the work area begins with the stripe's shards, one after the
 -- other, and the sectors that the code makes of them are the sectors of the protocol's record and strips. Assumes nothing.
-use Rattle.std.specs.Prelude.{◌≡◌, Bool, cond, ◌&&◌, ℕ, ◌+◌, ◌*◌, ◌-◌, ◌≤◌, ◌<◌, ◌/◌, ◌%◌, ◌^◌, take, drop}
+use Rattle.std.specs.Prelude.{◌≡◌, Bool, cond, ◌&&◌, ℕ, ◌+◌, ◌*◌, ◌≤◌, ◌<◌, ◌/◌, ◌%◌, ◌^◌, take, drop}
 use Rattle.std.proofs.Math.Path.{sym, ap, ap₂}
 use Rattle.std.proofs.Common.{◌∙◌, arith, lit<, length-drop, get_or-take, get_or-drop, length-take-le}
 use Rattle.std.proofs.Math.Logic.{⊎_elim}

@@ -1,20 +1,19 @@
 -- The labels that the code reads are the labels that the protocol reads. `Rattle.label` finds the newest label of each disk and
 -- of the shelf among the bytes of the image; the protocol finds them among its places. If the shelf's label names this shelf
 -- and every present disk has a label that agrees with it, both find the same. Assumes nothing.
-use Rattle.std.specs.Prelude.{◌≡◌, Bool, ◌&&◌, ◌||◌, ℕ, zero, suc, ◌≤◌, ◌<◌, ◌^◌, ltb, eqb, leb, length, drop}
+use Rattle.std.specs.Prelude.{◌≡◌, Bool, ◌||◌, ℕ, zero, suc, ◌≤◌, ◌<◌, ltb}
 use Rattle.std.proofs.Math.Path.{refl, sym, ap, ap₂}
-use Rattle.std.proofs.Common.{◌∙◌, arith, ltb-true, ltb-false, lt-ltb, le-ltb, eq-eqb}
+use Rattle.std.proofs.Common.{◌∙◌, arith, ltb-true, ltb-false, lt-ltb, le-ltb}
 use Rattle.std.proofs.Math.Bool.{true, false, cond}
-use mathlib.Core.List.{List, []}
+use mathlib.Core.List.{List}
 use Rattle.disk.specs.Mask.{in_mask}
-use Rattle.disk.specs.declared.geometry.Geometry.{Geometry}
 use Rattle.label.specs.Valid.{decode_of}
 use Rattle.label.specs.Newest.{newer, newest_of, copy_of, disk_label, present_label, shelf_label}
 use Rattle.label.specs.declared.fields.Label as bytes
 use Rattle.label.specs.declared.codec.Decoded.{Decoded}
 use Rattle.label.specs.declared.codec.Decoded.TheVariants.{Valid, Nothing}
 use Rattle.label.proofs.Fits.{fits_says}
-use Rattle.label.proofs.Counts.{SameShelf, same_says, agreed_says, shelf_says, present_says, disk_says, copy_says, disk_own}
+use Rattle.label.proofs.Counts.{SameShelf, same_says, agreed_says, present_says, copy_says, disk_own}
 use Rattle.rounds.specs.Slot.{age_of}
 use Rattle.protocol.specs.World.{label}
 use Rattle.protocol.specs.Slots.{from, of_from, leader, leader_below, every_all}

@@ -1,27 +1,16 @@
 -- WHAT IS TOLD OF DISKS THAT WERE EXCHANGED WHILE NO PROGRAM RAN: until they are told of, the old disks of their slots are told to be there still. Beside those slots the one world reads as the other, and
 -- holds after a cut only what the other may. The new disks have no valid label, so that a start-up that does not call such a slot absent is refused. Assumes nothing.
-use Rattle.std.specs.Prelude.{◌≡◌, ◌⊎◌, Bool, ◌&&◌, ℕ, zero, suc, ◌<◌, replicate}
+use Rattle.std.specs.Prelude.{◌≡◌, Bool, ℕ, ◌<◌}
 use Rattle.std.proofs.Math.Path.{refl, ap}
-use Rattle.std.proofs.Common.{sym, subst, ◌∙◌, ⊎_elim, inl, inr, true≢false, arith}
-use Rattle.std.proofs.Math.Bool.{true, false}
+use Rattle.std.proofs.Common.{sym, subst, ◌∙◌, ⊎_elim, inl, inr, true≢false}
+use Rattle.std.proofs.Math.Bool.{false}
 use mathlib.Core.List.{List}
-use Rattle.std.proofs.Math.Decide.{ℕ_discrete}
-use Rattle.disk.specs.declared.geometry.Geometry.{Geometry}
-use Rattle.disk.specs.declared.refusal.Refusal.TheVariants.{BadImage, NoLabel}
 use Rattle.label.specs.Valid.{decode_of}
 use Rattle.label.specs.Newest.{copy_of}
-use Rattle.label.specs.declared.fields.Label as bytes
-use Rattle.label.specs.declared.codec.Decoded.{Decoded}
-use Rattle.label.specs.declared.codec.Decoded.TheVariants.{Valid, Nothing}
-use Rattle.label.proofs.Counts.{all_not, agreed_says}
-use Rattle.rounds.specs.Survey.{fits_shelf, labelled, table, unless, survey_of}
-use Rattle.rounds.specs.declared.plan.Survey.TheVariants as survey
 use Rattle.protocol.specs.World.{Place, label, slot, update, update_other, World, put, flush, act}
 use Rattle.codecs.specs.Sector.{Sector}
 use Rattle.codecs.specs.Shelf.{Shelf, slots, geometry}
 use Rattle.codecs.specs.Labels.{sector_of}
-use Rattle.shelf.specs.Laws.{Legal}
-use Rattle.stages.specs.declared.state.State.{State}
 use Rattle.stages.specs.declared.state.Answer.{Answer}
 use Rattle.stages.specs.declared.state.Answer.TheVariants as answer
 use Rattle.refine.specs.Places.{label_inside}

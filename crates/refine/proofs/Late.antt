@@ -1,7 +1,7 @@
 -- DISKS THAT WERE EXCHANGED AND ARE NOT TOLD OF YET: while no program runs, while a start-up runs that was told that their slots are absent, and at rest where they are out. A call in a world that may hold
 -- less after a cut can be told in the one that may hold more; a cut leaves the old disks as they are read; a start-up that is not refused, and its steps, are told on the old disks; and when it comes to
 -- rest, the exchanges are told, one after the other. Assumes nothing.
-use Rattle.std.specs.Prelude.{◌≡◌, ◌⊎◌, ◌≢◌, Bool, not, ◌&&◌, List, [], ◌∷◌, ℕ, zero, suc, ◌+◌, ◌≤◌, ◌<◌, eqb, length}
+use Rattle.std.specs.Prelude.{◌≡◌, ◌⊎◌, ◌≢◌, Bool, not, ◌&&◌, List, [], ◌∷◌, ℕ, zero, suc, ◌≤◌, ◌<◌, eqb, length}
 use Rattle.std.proofs.Math.Path.{refl, sym, ap, subst}
 use Rattle.std.proofs.Common.{◌∙◌, ⊎_elim, inl, inr, true≢false, arith, eq-eqb, ne_eqb}
 use Rattle.std.proofs.Math.Bool.{true, false, cond, false≢true}
@@ -13,12 +13,10 @@ use Rattle.disk.specs.Image.{sector, Shape}
 use Rattle.disk.specs.declared.geometry.Geometry.{Geometry}
 use Rattle.disk.specs.declared.refusal.Refusal.{Refusal}
 use Rattle.disk.specs.declared.refusal.Refusal.TheVariants.{NoLabel, BadBuffer}
-use Rattle.disk.specs.declared.refusal.Outcome.TheVariants.{Done}
 use Rattle.label.specs.Fields.{geometry_of}
 use Rattle.label.specs.Newest.{copy_of}
 use Rattle.label.specs.declared.fields.Label as bytes
 use Rattle.label.specs.declared.codec.Decoded.TheVariants.{Valid, Nothing}
-use Rattle.redo.specs.Decide.{looked}
 use Rattle.rounds.specs.Survey.{survey_of}
 use Rattle.rounds.specs.declared.plan.Survey.{Survey}
 use Rattle.rounds.specs.declared.plan.Survey.TheVariants as survey
@@ -33,17 +31,13 @@ use Rattle.shelf.specs.Laws.{Legal, Agree, step_one, step_blind, step_agrees}
 use Rattle.stages.specs.declared.state.State.{State}
 use Rattle.stages.specs.declared.state.Stepped.{Stepped}
 use Rattle.stages.specs.declared.state.Kind.{Kind}
-use Rattle.stages.specs.declared.state.Kind.TheVariants.{Idle, Creating, Starting, Labelling, Writing, Beginning, Filling}
-use Rattle.stages.specs.declared.state.Kind.TheVariants as kind
+use Rattle.stages.specs.declared.state.Kind.TheVariants.{Idle, Writing, Beginning, Filling}
 use Rattle.stages.specs.declared.state.Answer.TheVariants as answer
 use Rattle.requests.specs.Begun.{work_bytes, accepted, refused}
 use Rattle.requests.specs.Start.{started, by_survey, start_of}
 use Rattle.requests.specs.Step.{other_work, step_with, step_short, step_goes}
 use Rattle.requests.specs.Ready.{is_idle}
 use Rattle.requests.specs.declared.begun.Begun.{Begun}
-use Rattle.blocks.specs.Slots.{too_few}
-use Rattle.blocks.specs.Answers.{serves, look_answer, sizes, block_answer, first_done, answered_done}
-use Rattle.blocks.specs.Read.{read_answer}
 use Rattle.blind.specs.Start.{start_blind}
 use Rattle.refine.specs.Family.{Family}
 use Rattle.refine.specs.Disks.{Disks, cur_of}
@@ -63,7 +57,7 @@ use Rattle.refine.specs.Merged.{slot_from, disk_of, disk_here, disk_other, slots
 use Rattle.refine.proofs.Merged.{cur_alike}
 use Rattle.refine.specs.Swaps.{Exchanged, new_disk}
 use Rattle.refine.proofs.Swaps.{swap_kept}
-use Rattle.refine.specs.Lags.{bare, Lags, nowhere, Behind, not_valid, unlabelled, few_low, covers, absent_kept}
+use Rattle.refine.specs.Lags.{Lags, nowhere, Behind, not_valid, unlabelled, few_low, covers, absent_kept}
 use Rattle.refine.proofs.Lags.{lags_heard, label_alike}
 use Rattle.refine.specs.Touched.{touch_present}
 use Rattle.refine.specs.Hosts.{Held, none, has, Time, at, HostCalls, creates, starts, creates_late, takes_out, begins, ons, writes, repairs, steps, cut, dies, swaps, SawStep, Bound}

@@ -1,6 +1,6 @@
 -- THE LISTS ARE THE PROTOCOL'S: at the beginning of a request, with masks that say what the protocol's tests say and labels
 -- that are the protocol's, what is left to do is the protocol's list of actions. Assumes nothing.
-use Rattle.std.specs.Prelude.{◌≡◌, Bool, true, false, cond, ℕ, ◌+◌, ◌-◌, ◌<◌}
+use Rattle.std.specs.Prelude.{◌≡◌, Bool, true, false, cond, ℕ, ◌+◌, ◌-◌}
 use Rattle.std.proofs.Math.Path.{refl, sym, ap, ap₂, fun_ext}
 use Rattle.std.proofs.Common.{◌∙◌, arith, lt-ltb}
 use Rattle.std.proofs.Math.Bool.{not}

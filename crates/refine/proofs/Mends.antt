@@ -1,20 +1,15 @@
 -- A REPAIR OF A STRIPE THAT IS THE LIST'S finds nothing to mend: a repair that passes the tests has every slot in, so every strip of the
 -- stripe is believed; where each believed strip is what the host's list asks for, the verdict is Sound, and the repair is refused.
 -- Assumes nothing.
-use Rattle.std.specs.Prelude.{◌≡◌, refl, Bool, true, false, ◌&&◌, ◌||◌, List, ℕ, ◌+◌, ◌-◌, ◌*◌, ◌<◌, ltb, length}
+use Rattle.std.specs.Prelude.{◌≡◌, refl, true, List, ℕ, ◌<◌, length}
 use Rattle.std.proofs.Math.Path.{sym}
-use Rattle.std.proofs.Common.{ap, subst, ◌∙◌, inl, arith, lit<, ltb-true, eqb-true}
-use Rattle.std.proofs.lemmas.Bool.{false≢true}
-use Rattle.code.specs.Stripes.{Repaired}
+use Rattle.std.proofs.Common.{ap, ◌∙◌}
 use Rattle.code.specs.declared.Verdict.{Verdict}
 use Rattle.code.specs.declared.Verdict.TheVariants as verdict
-use Rattle.disk.specs.declared.geometry.Geometry.{Geometry}
 use Rattle.disk.specs.declared.refusal.Refusal.{Refusal}
 use Rattle.disk.specs.declared.refusal.Refusal.TheVariants.{NotNow}
 use Rattle.disk.specs.declared.refusal.Outcome.{Outcome}
 use Rattle.disk.specs.declared.refusal.Outcome.TheVariants.{Done, Refused}
-use Rattle.label.specs.declared.fields.Label as bytes
-use Rattle.label.proofs.Counts.{same_says}
 use Rattle.protocol.specs.World.{strip}
 use Rattle.protocol.specs.Label as Label
 use Rattle.protocol.specs.Host.{Host, all_sound}
@@ -23,16 +18,12 @@ use Rattle.codecs.specs.Shelf.{Shelf, slots, size, some_slots}
 use Rattle.codecs.specs.Labels.{ours, label_of}
 use Rattle.shards.proofs.Even.{any_code}
 use Rattle.stripes.specs.Same.{verdict_of}
-use Rattle.strips.specs.Whole.{stripe_seen}
 use Rattle.views.specs.Seen.{Lying}
 use Rattle.views.proofs.Whole.{mend_finds}
 use Rattle.requests.specs.Begun.{begun, first}
-use Rattle.requests.specs.Ready.{is_idle, ready_of}
 use Rattle.requests.specs.declared.begun.Begun.{Begun}
-use Rattle.blocks.specs.Slots.{missing_at, missing, too_few, none_missing, all_slots, none_lost_lem}
-use Rattle.blocks.specs.Answers.{stripe_answer, first_done, answered_done}
-use Rattle.blocks.specs.Write.{stamp_left}
-use Rattle.blocks.specs.Repair.{may_repair, mend_answer, mended, RepairedOf, Repairs}
+use Rattle.blocks.specs.Slots.{all_slots, none_lost_lem}
+use Rattle.blocks.specs.Repair.{mend_answer, mended, RepairedOf, Repairs}
 use Rattle.stages.specs.declared.state.State.{State}
 use Rattle.refine.specs.Places.{sector_of, strip_is_inside}
 use Rattle.refine.specs.Disks.{Disks, cur_of}

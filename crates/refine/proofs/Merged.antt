@@ -1,15 +1,11 @@
 -- AN IMAGE WITH SLOTS OF ANOTHER IMAGE, sector by sector; what is read of slots that are alike is the same; and two images of a shelf of which all sectors are alike are one. Assumes nothing.
-use Rattle.std.specs.Prelude.{◌≡◌, ◌≢◌, Bool, cond, ◌&&◌, ltb, length, get_or, drop}
-use Rattle.std.proofs.Math.Path.{refl, sym, ap}
-use Rattle.std.proofs.Common.{◌∙◌, ⊎_elim, div-add-mod', mod-lt, mul-le-mul_right, arith, lit<, get_or-take, get_or-drop, lt-ltb}
-use Rattle.std.proofs.Math.Bool.{true, false, true≢false}
-use mathlib.Core.List.{List, [], ◌++◌}
-use Prim.Native.Nat.{ℕ, zero, suc, ◌+◌, ◌*◌, ◌≤◌, ◌<◌, ◌/◌, ◌%◌}
-use Rattle.std.proofs.Math.Decide.{ℕ_discrete}
-use Rattle.std.proofs.Math.ListN.{take}
-use Rattle.std.proofs.Math.Seq.{ext_get_or}
+use Rattle.std.specs.Prelude.{◌≡◌, Bool}
+use Rattle.std.proofs.Math.Path.{refl, sym}
+use Rattle.std.proofs.Common.{◌∙◌}
+use Rattle.std.proofs.Math.Bool.{true, false}
+use mathlib.Core.List.{List}
+use Prim.Native.Nat.{ℕ, ◌<◌}
 use Rattle.disk.specs.Image.{sector}
-use Rattle.disk.specs.declared.geometry.Geometry.{Geometry}
 use Rattle.protocol.specs.World.{Place, slot}
 use Rattle.codecs.proofs.Sector.{sector_path}
 use Rattle.codecs.specs.Shelf.{Shelf, slots}

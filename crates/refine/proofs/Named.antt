@@ -1,18 +1,15 @@
 -- NO DISK EVER NAMES ANOTHER SHELF: where no sector of the disks is another shelf's label, whatever a cut leaves, none is after an
 -- action of the protocol's program. Assumes nothing.
-use Rattle.std.specs.Prelude.{◌≡◌, refl, Bool, cond, not, ◌||◌, ℕ, zero, suc, ◌+◌, ◌-◌, ◌*◌, ◌<◌, ◌/◌, ◌%◌, ◌^◌, ltb}
-use Rattle.std.proofs.Math.Path.{sym, ap, subst}
-use Rattle.std.proofs.Common.{◌∙◌, pow-suc, arith, eq-eqb}
-use Rattle.std.proofs.Math.Bool.{true, false}
-use Rattle.std.proofs.lemmas.Bool.{false≢true}
-use mathlib.Core.List.{List, [], ◌∷◌, ◌++◌}
-use Rattle.std.proofs.Math.Dec.{eqb}
+use Rattle.std.specs.Prelude.{◌≡◌, ℕ, ◌<◌}
+use Rattle.std.proofs.Math.Path.{ap}
+use Rattle.std.proofs.Common.{◌∙◌}
+use Rattle.std.proofs.Math.Bool.{true}
+use mathlib.Core.List.{List}
 use Rattle.disk.specs.Image.{read_of}
 use Rattle.label.specs.Valid.{decode_of}
 use Rattle.label.specs.Newest.{copy_of, shelf_label}
 use Rattle.label.specs.declared.fields.Label as bytes
 use Rattle.label.specs.declared.codec.Decoded.TheVariants.{Valid}
-use Rattle.label.proofs.Laws.{decode_says, zeros_nothing}
 use Rattle.label.proofs.Counts.{shelf_says, present_says, disk_says}
 use Rattle.protocol.specs.World.{label}
 use Rattle.codecs.specs.Shelf.{Shelf, slots, geometry}

@@ -4,23 +4,20 @@ use Rattle.std.specs.Prelude.{◌≡◌, Bool, ◌&&◌, ◌||◌, ℕ, zero, su
 use Rattle.std.proofs.Math.Path.{refl, ap, ap₂, fun_ext}
 use Rattle.std.proofs.Common.{sym, subst, ◌∙◌, inl, true≢false, arith}
 use Rattle.std.proofs.Math.Bool.{true, false, cond, not}
-use mathlib.Core.List.{List, [], ◌∷◌, ◌++◌}
+use mathlib.Core.List.{List, [], ◌∷◌}
 use Rattle.std.proofs.Math.Nat.{mul_assoc, max-le, le-max_left}
 use Rattle.std.proofs.Math.Dec.{leb, ltb}
 use Rattle.std.proofs.Math.Arith.{bin_ind}
 use Rattle.std.specs.Int.Bits.{bit_or, or_step}
-use Rattle.std.specs.Int.Count.{ones, ones_in, ones_step}
+use Rattle.std.specs.Int.Count.{ones, ones_step}
 use Rattle.std.proofs.Math.ListN.{length}
-use borrow.Author.Tests.{lt-ltb, le-leb, eq-eqb, ne_eqb, eqb-true, ltb-false, not-true}
+use borrow.Author.Tests.{lt-ltb, le-leb, eqb-true, ltb-false, not-true}
 use Rattle.disk.specs.Limits.{sector_bytes, least_n, most_n}
 use Rattle.disk.specs.Tests.{both}
 use Rattle.disk.specs.Geometry.{strip_length, stripes_of}
 use Rattle.disk.specs.Mask.{in_mask, without_slot, in_with, in_without, in_past}
-use Rattle.disk.specs.declared.geometry.Geometry.{Geometry}
 use Rattle.disk.specs.declared.refusal.Outcome.TheVariants.{Done}
 use Rattle.label.specs.Fields.{no_slot, most_generation, geometry_of, fits_of}
-use Rattle.label.specs.declared.fields.Label as bytes
-use Rattle.label.proofs.Fits.{Fits, fits_says}
 use Rattle.label.proofs.Counts.{same_says}
 use Rattle.protocol.specs.World.{Action}
 use Rattle.protocol.specs.Count.{count_part}
@@ -42,17 +39,14 @@ use Rattle.shards.specs.Quorum.{few_of}
 use Rattle.shards.proofs.Quorum.{few_count, count_few, few_mask}
 use Rattle.shards.proofs.Even.{any_code, any_sectors}
 use Rattle.stages.specs.Limits.{most_stages}
-use Rattle.shelf.specs.Act.{named}
 use Rattle.shelf.specs.Step.{sound}
 use Rattle.shelf.specs.Says.{when, unless}
 use Rattle.stages.specs.declared.state.State.{State}
-use Rattle.stages.specs.declared.state.Kind.{Kind}
 use Rattle.requests.specs.Begun.{work_bytes, slots_but}
-use Rattle.requests.specs.Ready.{is_idle, ready_of}
 use Rattle.requests.specs.TakeOut.{next_label}
-use Rattle.rebuilds.specs.Judge.{too_few, last_one, sized, Passed, judged_done, first_done, one_more}
+use Rattle.rebuilds.specs.Judge.{too_few, last_one}
 use Rattle.rebuilds.specs.Begin.{only}
-use Rattle.rebuilds.specs.On.{cannot_go_on, asked_on, on_answer, at_least_one, last_batch, strips_on, on_label, first_stage, went_on, on_of, GoesOn, on_done, mark_fits, strips_within}
+use Rattle.rebuilds.specs.On.{cannot_go_on, on_answer, at_least_one, last_batch, strips_on, on_label, first_stage, went_on, on_of, strips_within}
 use Rattle.refine.specs.Disks.{Disks, cur_of, seen_of}
 use Rattle.refine.specs.Rounds.{beyond_below}
 use Rattle.refine.specs.Lists.{Says}

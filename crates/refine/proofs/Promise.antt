@@ -2,19 +2,17 @@
 -- the caller in between. No label on any disk lies, names another shelf or loses its shape; the state's own label is true, whatever a cut leaves, and so is the answer Done of a step; no step touches an absent
 -- slot; what was accepted is carried out. For every shelf, where any two of the sets of slots that accepted start-ups and take-outs leave out from one moment of rest to the next leave a slot out in common (Since); for k > m nothing is asked
 -- (`nothing_asked`). (Where they leave none, no start-up can tell what was written: the protocol's Limits.) What reads show meanwhile is in Serves. Assumes nothing.
-use Rattle.std.specs.Prelude.{◌≡◌, refl, Bool, false, ℕ, zero, suc, ◌*◌, ◌≤◌, ◌<◌, leb, length, replicate}
-use Rattle.std.proofs.Common.{sym, subst, ◌∙◌, ⊎_elim, arith, le-leb, eq-eqb}
+use Rattle.std.specs.Prelude.{◌≡◌, refl, Bool, false, ℕ, ◌≤◌, ◌<◌, length}
+use Rattle.std.proofs.Common.{sym, subst, ◌∙◌, ⊎_elim, arith}
 use Rattle.std.proofs.Math.Path.{ap}
 use Rattle.std.proofs.Math.Bool.{true, cond}
 use mathlib.Core.List.Memᴰ
 use mathlib.Core.List.{List, [], ◌++◌, Memᴰ}
-use Rattle.std.proofs.Math.ListN.{length-replicate}
 use Rattle.disk.specs.Mask.{in_mask}
 use Rattle.disk.specs.Geometry.{stripes_of}
 use Rattle.disk.specs.declared.geometry.Geometry.{Geometry}
-use Rattle.disk.specs.declared.refusal.Refusal.TheVariants.{BadImage, BadBuffer, NotNow}
-use Rattle.disk.specs.declared.refusal.Outcome.{Outcome}
-use Rattle.disk.specs.declared.refusal.Outcome.TheVariants.{Done, Refused}
+use Rattle.disk.specs.declared.refusal.Refusal.TheVariants.{BadImage, NotNow}
+use Rattle.disk.specs.declared.refusal.Outcome.TheVariants.{Refused}
 use Rattle.label.specs.Fields.{no_slot}
 use Rattle.label.specs.Newest.{copy_of}
 use Rattle.label.specs.Bytes.{all_zero}
@@ -37,8 +35,8 @@ use Rattle.stages.specs.declared.state.Answer.{Answer}
 use Rattle.stages.specs.declared.state.Answer.TheVariants as answer
 use Rattle.stages.specs.declared.state.Kind.TheVariants.{Idle, Filling}
 use Rattle.stages.specs.State.{rested}
-use Rattle.requests.specs.Begun.{work_bytes, begun}
-use Rattle.requests.specs.Create.{shards_fit, shelf_fits, create_answer, created, create_of}
+use Rattle.requests.specs.Begun.{work_bytes}
+use Rattle.requests.specs.Create.{shelf_fits, created, create_of}
 use Rattle.requests.specs.Start.{start_of}
 use Rattle.requests.specs.Step.{step_with}
 use Rattle.requests.specs.TakeOut.{plainly_out, out_now}

@@ -21,7 +21,6 @@ use Rattle.disk.specs.declared.geometry.Geometry.{Geometry}
 use Rattle.disk.specs.declared.refusal.Outcome.TheVariants.{Done}
 use Rattle.label.specs.Fields.{geometry_of}
 use Rattle.label.specs.declared.fields.Label as bytes
-use Rattle.label.proofs.Fits.{fits_says}
 use Rattle.label.proofs.Counts.{same_says}
 use Rattle.position.specs.Row.{listed}
 use Rattle.protocol.specs.World.{strip, World, Action}
@@ -51,7 +50,7 @@ use Rattle.views.specs.Seen as views
 use Rattle.views.specs.Program.{bad_same}
 use Rattle.blocks.specs.Slots.{too_few}
 use Rattle.blocks.specs.Answers.{serves, look_answer, sizes, block_answer, first_done, answered_done}
-use Rattle.blocks.specs.Read.{laid_by, laid_over, block_shown, half_of, shown_of, read_answer, after_read, Shows, read_done, shows_block}
+use Rattle.blocks.specs.Read.{laid_by, block_shown, half_of, shown_of, read_answer, after_read, Shows, read_done, shows_block}
 use Rattle.stages.specs.Limits.{most_stages}
 use Rattle.stages.specs.Stage.{write_stage}
 use Rattle.stages.specs.declared.state.State.{State}
@@ -72,7 +71,7 @@ use Rattle.refine.proofs.Chain.{asks_to}
 use Rattle.refine.specs.Chain as chain
 use Rattle.refine.specs.Refills.{Refilling}
 use Rattle.refine.specs.Hosts.{has, Laying, Readying, Bound}
-use Rattle.refine.specs.Reads.{NoBlock, stripe, in_stripe, th, A, f, g, k_is, geo, in_T, in_k, may_read, own, T, I, o, seen, M, Shown, Right}
+use Rattle.refine.specs.Reads.{NoBlock, stripe, in_stripe, th, f, g, k_is, geo, in_T, in_k, may_read, own, T, I, o, seen, M, Shown, Right}
 
 lt_leb_false : (a c : ℕ) → c < a → leb a c ≡ false
 lt_leb_false a c h = by (leb a c) refl

@@ -1,10 +1,10 @@
 -- A REBUILD UNDER WAY, beside the protocol's machine: an accepted one begins where the machine is at rest; each of its steps is the machine's,
 -- and leaves it under way or at rest. Assumes nothing.
-use Rattle.std.specs.Prelude.{◌≡◌, refl, ◌⊎◌, true, false, ℕ, ◌*◌, ◌≤◌, ◌<◌, length}
+use Rattle.std.specs.Prelude.{◌≡◌, refl, ◌⊎◌, true, ℕ, ◌*◌, ◌≤◌, ◌<◌, length}
 use Rattle.std.proofs.Common.{sym, ap, ◌∙◌, inl, inr, ⊎_elim}
 use Rattle.std.proofs.Math.Path.{subst}
 use mathlib.Core.List.Memᴰ
-use mathlib.Core.List.{List, [], ◌∷◌}
+use mathlib.Core.List.{List, []}
 use Rattle.disk.specs.Limits.{sector_bytes}
 use Rattle.disk.specs.Mask.{in_mask}
 use Rattle.disk.specs.declared.refusal.Outcome.TheVariants.{Done}
@@ -24,7 +24,7 @@ use Rattle.shards.proofs.Even.{any_code, any_sectors}
 use Rattle.shelf.specs.Act.{Move}
 use Rattle.shelf.specs.Step.{finished, step_move}
 use Rattle.stages.specs.declared.state.State.{State}
-use Rattle.stages.specs.declared.state.Kind.TheVariants.{Idle, Filling}
+use Rattle.stages.specs.declared.state.Kind.TheVariants.{Idle}
 use Rattle.rebuilds.specs.On.{on_answer, went_on, on_of}
 use Rattle.refine.specs.Family.{Family}
 use Rattle.refine.specs.Disks.{Disks, cur_of, seen_of}

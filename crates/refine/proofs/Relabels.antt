@@ -1,8 +1,8 @@
 -- A request that ends with a label, whatever it does before: begin, and the rebuild. What is left of it, stage by stage, is begin's
 -- list; and each step is the protocol's, whatever the program knew before the request. Assumes nothing.
-use Rattle.std.specs.Prelude.{◌≡◌, ◌⊎◌, Bool, true, false, not, ◌&&◌, ℕ, zero, suc, ◌+◌, ◌≤◌, ◌<◌, eqb}
+use Rattle.std.specs.Prelude.{◌≡◌, Bool, true, false, not, ℕ, suc, ◌+◌}
 use Rattle.std.proofs.Math.Path.{refl, ap}
-use Rattle.std.proofs.Common.{sym, ap₂, subst, ◌∙◌, inl, inr, ⊎_elim, eq-or-lt_of_le, arith, eq-eqb, ne_eqb}
+use Rattle.std.proofs.Common.{sym, ap₂, subst, ◌∙◌, inl, inr, arith}
 use Rattle.std.proofs.Math.Bool.{cond}
 use mathlib.Core.List.{List, [], ◌∷◌, ◌++◌, append-nil}
 use Rattle.label.specs.declared.fields.Label as bytes
@@ -22,7 +22,7 @@ use Rattle.stages.specs.Limits.{most_stages}
 use Rattle.stages.specs.State.{moved}
 use Rattle.stages.specs.Stage.{round_stage, last_stage, begin_stage, stage_at, stage_of}
 use Rattle.shelf.specs.Act.{Move}
-use Rattle.shelf.specs.Step.{is_end, finished, sound, step_move}
+use Rattle.shelf.specs.Step.{is_end, sound, step_move}
 use Rattle.stages.specs.declared.state.State.{State}
 use Rattle.stages.specs.declared.state.Kind.{Kind}
 use Rattle.stages.specs.declared.state.Kind.TheVariants.{Beginning}

@@ -2,13 +2,13 @@
 -- the write of the accused shard, mended, that it makes, and it can be carried out. Whatever the strips hold: nothing is asked of them, nor
 -- of the host's list. And one that is refused is refused by the program too, with the same code for BAD_BLOCK and NOT_NOW, but for what the code alone looks at. In the
 -- words of repair's contract. Assumes nothing.
-use Rattle.std.specs.Prelude.{◌≡◌, Bool, cond, ◌&&◌, ◌||◌, ℕ, suc, ◌+◌, ◌-◌, ◌*◌, ◌≤◌, ◌<◌, take}
+use Rattle.std.specs.Prelude.{◌≡◌, Bool, cond, ◌&&◌, ◌||◌, ℕ, suc, ◌+◌, ◌-◌, ◌*◌, ◌≤◌, ◌<◌}
 use Rattle.std.proofs.Math.Path.{refl, sym, ap, ap₂, subst}
 use Rattle.std.proofs.Common.{◌∙◌, inl, arith, lit<, pow_pos, get_or-take}
 use Rattle.std.proofs.Math.Logic.{⊎_elim}
 use Rattle.std.proofs.Math.Bool.{true, false, not}
 use Rattle.std.proofs.lemmas.Bool.{false≢true}
-use mathlib.Core.List.{List, [], ◌∷◌, ◌++◌}
+use mathlib.Core.List.{List, ◌++◌}
 use Rattle.std.proofs.Math.Nat.{suc-mul, mul_assoc, mul-le-mul_right}
 use Rattle.std.proofs.Math.Decide.{ℕ_discrete}
 use Rattle.std.proofs.Math.Dec.{eqb, ltb}
@@ -28,7 +28,6 @@ use Rattle.disk.specs.declared.refusal.Refusal.TheVariants as why
 use Rattle.disk.specs.declared.refusal.Outcome.{Outcome}
 use Rattle.disk.specs.declared.refusal.Outcome.TheVariants.{Done, Refused}
 use Rattle.label.specs.Fields.{geometry_of, fits_of}
-use Rattle.label.specs.declared.fields.Label as bytes
 use Rattle.label.proofs.Counts.{SameShelf, same_says}
 use Rattle.protocol.specs.Label as Label
 use Rattle.protocol.proofs.Label as Label_laws
@@ -54,12 +53,12 @@ use Rattle.views.proofs.Whole.{mend_finds, mended_is}
 use Rattle.views.proofs.Program.{repair_mended}
 use Rattle.requests.specs.Begun.{begun}
 use Rattle.requests.specs.Begun as requests
-use Rattle.requests.specs.Ready.{is_idle, has_shelf, holding, ready_of}
+use Rattle.requests.specs.Ready.{is_idle, has_shelf, ready_of}
 use Rattle.requests.specs.declared.begun.Begun.{Begun}
 use Rattle.blocks.specs.Slots.{missing_at, missing, too_few, none_missing, all_slots, none_lost_lem}
 use Rattle.blocks.specs.Answers.{answered, stripe_answer, sized_of, never, sized_half}
 use Rattle.blocks.specs.Write.{most_count, stamp_left}
-use Rattle.blocks.specs.Repair.{may_repair, mend_answer, sized_answer, stripe_bytes, mending, mended, leaves, Repairs, MayMend, may_done, repair_accuses, repair_half}
+use Rattle.blocks.specs.Repair.{mend_answer, sized_answer, stripe_bytes, mending, mended, leaves, Repairs, MayMend, may_done, repair_half}
 use Rattle.stages.specs.declared.state.State.{State}
 use Rattle.stages.specs.declared.state.Kind.{Kind}
 use Rattle.stages.specs.declared.state.Kind.TheVariants.{Nothing, Idle, Creating, Starting, Labelling, Writing, Beginning, Filling}

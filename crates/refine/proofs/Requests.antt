@@ -1,18 +1,16 @@
 -- THE REQUESTS OF THE CODE begin with states in order, beside which the protocol's program remembers that same request: create and
 -- taking a slot out; and a step of theirs is the program's. Assumes nothing.
-use Rattle.std.specs.Prelude.{◌≡◌, refl, Bool, cond, not, ◌&&◌, ◌||◌, List, [], eqb, length}
-use Rattle.std.proofs.Common.{sym, ap, ap₂, subst, ◌∙◌, add-one, arith, eq-eqb, ne_eqb, eqb-true, lt-ltb}
+use Rattle.std.specs.Prelude.{◌≡◌, refl, Bool, not, ◌&&◌, List, [], eqb, length}
+use Rattle.std.proofs.Common.{sym, ap, ap₂, subst, ◌∙◌, arith, eq-eqb}
 use Rattle.std.proofs.Math.Path.{fun_ext}
 use Rattle.std.proofs.Math.Bool.{true, false}
-use Prim.Native.Nat.{ℕ, suc, ◌+◌, ◌<◌}
+use Prim.Native.Nat.{ℕ, ◌+◌, ◌<◌}
 use Rattle.std.proofs.lemmas.Bool.{not-true}
 use Rattle.disk.specs.Image.{fits_image}
 use Rattle.disk.specs.Mask.{in_mask, in_past}
 use Rattle.disk.specs.declared.geometry.Geometry.{Geometry}
-use Rattle.disk.specs.declared.refusal.Outcome.{Outcome}
-use Rattle.disk.specs.declared.refusal.Outcome.TheVariants.{Done, Refused}
+use Rattle.disk.specs.declared.refusal.Outcome.TheVariants.{Done}
 use Rattle.label.specs.Fields.{geometry_of}
-use Rattle.label.specs.declared.fields.Label as bytes
 use Rattle.protocol.specs.Program.{new_label, asked_create, asked_out}
 use Rattle.protocol.specs.Pairs.{no_sets}
 use Rattle.codecs.specs.Shelf.{Shelf, slots, size}
@@ -23,11 +21,11 @@ use Rattle.codecs.specs.Media.{stamps}
 use Rattle.shards.proofs.Even.{any_code, any_sectors}
 use Rattle.shelf.specs.Step.{step_move}
 use Rattle.stages.specs.declared.state.State.{State}
-use Rattle.requests.specs.Begun.{work_bytes, begun, slots_but}
+use Rattle.requests.specs.Begun.{work_bytes, slots_but}
 use Rattle.requests.specs.Step.{other_work, step_with, step_goes}
 use Rattle.requests.specs.Slots as Slots
-use Rattle.requests.specs.Create.{create_answer, created, create_of}
-use Rattle.requests.specs.TakeOut.{next_label, outed, take_answer, took_out, take_out_of}
+use Rattle.requests.specs.Create.{create_answer, create_of}
+use Rattle.requests.specs.TakeOut.{take_answer, took_out, take_out_of}
 use Rattle.requests.specs.Accepted.{Steps, create_steps, out_steps, take_done}
 use Rattle.refine.specs.Disks.{Disks, image_fits}
 use Rattle.refine.specs.Rounds.{beyond_below}

@@ -1,17 +1,12 @@
 -- The strip's sector that the code takes from the record in the image is the piece that the protocol takes from its places.
 -- Assumes nothing.
-use Rattle.std.specs.Prelude.{◌≡◌, Bool, ℕ, ◌+◌, ◌*◌, ◌≤◌, ◌<◌, ltb, replicate, take, drop}
+use Rattle.std.specs.Prelude.{◌≡◌, ℕ, ◌≤◌, ◌<◌, replicate}
 use Rattle.std.proofs.Math.Path.{sym, ap, ap₂}
 use Rattle.std.proofs.Common.{◌∙◌, mod-eq_of_lt, arith}
-use Rattle.std.proofs.Math.Bool.{cond}
-use mathlib.Core.List.{List, []}
-use Rattle.std.proofs.Math.Nat.{mul-le-mul_right, suc-mul}
-use Rattle.std.proofs.Math.ListN.{length, length-drop}
-use Rattle.std.proofs.Math.Seq.{length-take-le}
-use borrow.Author.Tests.{lt-ltb, eq-eqb}
+use mathlib.Core.List.{List}
 use Rattle.disk.specs.Limits.{sector_bytes}
 use Rattle.disk.specs.declared.refusal.Outcome.TheVariants as outcome
-use Rattle.record.specs.Log.{part, area_of, restore_of, restore_answer, after_restore, area_part}
+use Rattle.record.specs.Log.{part, area_of, restore_of, after_restore, area_part}
 use Rattle.protocol.specs.World.{log}
 use Rattle.codecs.specs.Shelf.{Shelf, slots, geometry}
 use Rattle.codecs.proofs.Written.{piece_of}

@@ -3,7 +3,7 @@
 -- repair of the stripe, stepped to Done, ends with that list and with nothing of the stripe rotten. So it goes on, strip after strip and repair
 -- after repair; meanwhile every strip that is not rotten is what the list asks for, and blocks that are fine are read right, also while a repair
 -- is under way. Assumes nothing.
-use Rattle.std.specs.Prelude.{◌≡◌, ◌⊎◌, ◌≢◌, Bool, ◌&&◌, List, [], ◌∷◌, ℕ, ◌+◌, ◌-◌, ◌<◌, ◌/◌, ◌%◌, eqb, length}
+use Rattle.std.specs.Prelude.{◌≡◌, ◌≢◌, Bool, ◌&&◌, List, [], ◌∷◌, ℕ, ◌-◌, ◌<◌, ◌/◌, ◌%◌, eqb, length}
 use Rattle.std.proofs.Math.Path.{refl, sym, ap, fun_ext}
 use Rattle.std.proofs.Common.{subst, ◌∙◌, ⊎_elim, inl, inr}
 use Rattle.std.proofs.Math.Bool.{true, false, cond, not, false≢true}
@@ -52,7 +52,6 @@ use Rattle.blocks.specs.Read.{laid_by, shown_of, read_answer, after_read, read_d
 use Rattle.blocks.specs.Repair.{Repairs}
 use Rattle.stages.specs.Limits.{most_stages}
 use Rattle.stages.specs.declared.state.State.{State}
-use Rattle.stages.specs.declared.state.Answer.TheVariants as answer
 use Rattle.stages.specs.declared.state.Kind.{Kind}
 use Rattle.stages.specs.declared.state.Kind.TheVariants.{Idle}
 use Rattle.refine.specs.Family.{Family, every_few, KeepsIn}

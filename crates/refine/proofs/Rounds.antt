@@ -1,11 +1,11 @@
 -- What `Rattle.rounds` makes of the labels is what the protocol's start-up makes of them: who is gone, who adopts, what the
 -- settled label is, whether few enough slots are out, and what a slot that adopts is given first. Assumes nothing.
 use Rattle.std.proofs.Math.Path.{◌≡◌, refl, sym, ap, ap₂, fun_ext}
-use Rattle.std.proofs.Common.{◌∙◌, subst, ne_eqb, eqb-true, lt-ltb, le-ltb}
+use Rattle.std.proofs.Common.{◌∙◌, eqb-true, le-ltb}
 use Rattle.std.proofs.Math.Logic.{⊎_elim}
-use Rattle.std.specs.Prelude.{Bool, ◌&&◌, ◌||◌, List, [], ◌∷◌, length}
+use Rattle.std.specs.Prelude.{Bool, ◌&&◌, ◌||◌, List, [], ◌∷◌}
 use Rattle.std.proofs.Math.Bool.{true, false, cond, not}
-use Prim.Native.Nat.{ℕ, suc, ◌+◌, ◌≤◌, ◌<◌, ◌%◌, ◌^◌}
+use Prim.Native.Nat.{ℕ, suc, ◌+◌, ◌≤◌, ◌<◌, ◌%◌}
 use native.Mathlib.Omega.{arith}
 use Rattle.std.specs.Int.Count.{ones}
 use Rattle.std.proofs.Math.Dec.{ltb, eqb, leb}
@@ -13,7 +13,6 @@ use Rattle.std.proofs.lemmas.Bool.{not-true}
 use Rattle.disk.specs.Tests.{and_right}
 use Rattle.disk.specs.Image.{lt_or_ge}
 use Rattle.disk.specs.Mask.{in_mask, mask_lt, mask_below, mask_past, in_past}
-use Rattle.disk.specs.declared.geometry.Geometry.{Geometry}
 use Rattle.label.specs.Fields.{no_slot, most_generation}
 use Rattle.label.specs.Newest.{copy_of, disk_label, present_label, same_shelf}
 use Rattle.label.specs.declared.fields.Label as bytes
@@ -23,9 +22,7 @@ use Rattle.label.proofs.Fits.{fits_says}
 use Rattle.label.proofs.Counts.{SameShelf, same_says, agreed_says}
 use Rattle.rounds.specs.Slot.{age_of, age_under, plainly_out, calls_out, goes_out, adopts, copy_age, wiped, gets_zeros, gets_label, asked}
 use Rattle.rounds.specs.Slot as Slot
-use Rattle.rounds.specs.Survey.{slots_that, next_of, fits_shelf}
-use Rattle.rounds.specs.Plans.{Grounds}
-use Rattle.rounds.specs.declared.plan.Plan as plan
+use Rattle.rounds.specs.Survey.{slots_that, next_of}
 use Rattle.rounds.specs.declared.slot.Question.TheVariants.{Out, Parts, Late, Zeroed, Kept}
 use Rattle.protocol.specs.World.{label}
 use Rattle.protocol.specs.Label.{Label, again, plainly_out as plainly_out', copy, prep_value}

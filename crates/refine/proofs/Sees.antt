@@ -1,19 +1,11 @@
 -- THE STRIPE AS A STATE SEES IT: the slots whose strip is believed and which are not absent. At rest no absent slot is believed, so
 -- these are the protocol's believed ones, and what is read or prepared goes by the strips that its program sees. Assumes nothing.
-use Rattle.std.specs.Prelude.{◌≡◌, Bool, ◌&&◌, List, ℕ, ◌+◌, ◌*◌, ◌<◌, ◌/◌, ◌%◌, length}
-use Rattle.std.proofs.Math.Path.{refl, sym, ap}
-use Rattle.std.proofs.Common.{◌∙◌, mod-eq_of_lt, lit<}
-use Rattle.std.proofs.Math.Bool.{true, false, not}
-use Rattle.std.proofs.Math.Nat.{mod-lt}
-use native.Mathlib.Omega.{arith}
-use Rattle.std.proofs.Math.ListN.{get_or}
-use Rattle.std.proofs.Math.Seq.{ext_get_or}
-use Rattle.std.proofs.lemmas.Bool.{not-true}
+use Rattle.std.specs.Prelude.{◌≡◌, List, ℕ, ◌<◌}
+use Rattle.std.proofs.Common.{◌∙◌}
+use Rattle.std.proofs.Math.Bool.{true}
 use Rattle.disk.specs.Geometry.{stripes_of}
 use Rattle.disk.specs.Mask.{in_mask}
-use Rattle.disk.specs.declared.geometry.Geometry.{Geometry}
 use Rattle.label.specs.declared.fields.Label as bytes
-use Rattle.redo.specs.Decide.{believed}
 use Rattle.protocol.specs.Host.{strips_of}
 use Rattle.protocol.specs.Program.{beyond}
 use Rattle.protocol.specs.Pairs.{no_sets}
@@ -22,7 +14,6 @@ use Rattle.codecs.specs.Labels.{ours}
 use Rattle.codecs.proofs.Records.{records}
 use Rattle.shards.proofs.Even.{any_code}
 use Rattle.views.specs.Seen.{Lying}
-use Rattle.blocks.specs.Slots.{there_at, there}
 use Rattle.refine.specs.Disks.{Disks, seen_of}
 use Rattle.refine.specs.Rounds.{beyond_below}
 use Rattle.refine.proofs.Strips.{lying_seen}

@@ -3,14 +3,12 @@
 -- repair is refused, since it finds nothing to mend. For every shelf, where any two of the sets of slots that the chain leaves out from
 -- one moment of rest to the next leave a slot out in common (`AnyTwoSince`); for k > m nothing is asked. And what the list's entries are:
 -- those of a write that is acknowledged are the bytes given, all others stay. Assumes nothing.
-use Rattle.std.specs.Prelude.{◌≡◌, Bool, List, ℕ, ◌+◌, ◌*◌, ◌<◌, ◌/◌, ◌%◌, length}
-use Rattle.std.proofs.Math.Path.{refl, sym, ap}
-use Rattle.std.proofs.Common.{subst, ◌∙◌, eq-eqb, eqb-true}
-use Rattle.std.proofs.Math.Bool.{true, false, cond}
-use Rattle.std.proofs.Math.Nat.{div-add-mod'}
-use Rattle.std.proofs.Math.Dec.{eqb}
+use Rattle.std.specs.Prelude.{◌≡◌, List, ℕ, ◌<◌}
+use Rattle.std.proofs.Math.Path.{refl}
+use Rattle.std.proofs.Common.{subst}
+use Rattle.std.proofs.Math.Bool.{true}
 use Rattle.disk.specs.declared.refusal.Refusal.{Refusal}
-use Rattle.disk.specs.declared.refusal.Outcome.TheVariants.{Done, Refused}
+use Rattle.disk.specs.declared.refusal.Outcome.TheVariants.{Refused}
 use Rattle.label.specs.Bytes.{all_zero}
 use Rattle.protocol.specs.World.{World, after}
 use Rattle.protocol.specs.Host.{Host}
@@ -21,7 +19,6 @@ use Rattle.codecs.specs.Shelf.{Shelf, slots}
 use Rattle.stages.specs.declared.state.State.{State}
 use Rattle.stages.specs.declared.state.Kind.TheVariants.{Idle}
 use Rattle.requests.specs.declared.begun.Begun.{Begun}
-use Rattle.blocks.specs.Read.{read_answer, after_read}
 use Rattle.blocks.specs.Repair.{Repairs}
 use Rattle.refine.specs.Family.{Family, every_few, parts_few}
 use Rattle.refine.specs.Disks.{Disks, cur_of}

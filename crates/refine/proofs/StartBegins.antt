@@ -39,7 +39,7 @@ use Rattle.shelf.specs.Step.{sound}
 use Rattle.stages.specs.declared.state.State.{State}
 use Rattle.stages.specs.declared.state.Kind.TheVariants.{Starting}
 use Rattle.requests.specs.Begun.{slots_but, work_bytes, accepted, refused}
-use Rattle.requests.specs.Start.{marks_with, marks_by, started, by_survey, start_of}
+use Rattle.requests.specs.Start.{marks_by, started, by_survey, start_of}
 use Rattle.requests.specs.declared.begun.Begun.{Begun}
 use Rattle.refine.specs.Disks.{cur_of}
 use Rattle.refine.specs.Labels.{Led}

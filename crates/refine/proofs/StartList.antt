@@ -1,6 +1,6 @@
 -- START-UP'S LIST IS THE PROTOCOL'S: with masks that say what the protocol's tests say of what is seen, and the labels that it
 -- reads and settles, what is left to do at the beginning of start-up is the protocol's list. Assumes nothing.
-use Rattle.std.specs.Prelude.{◌≡◌, ◌⊎◌, ◌&&◌, ◌||◌, eqb, ltb}
+use Rattle.std.specs.Prelude.{◌≡◌}
 use Rattle.std.proofs.Math.Path.{refl, sym, ap, ap₂}
 use Rattle.std.proofs.Common.{◌∙◌, inl, inr, arith, lt-ltb}
 use Rattle.std.proofs.Math.Bool.{Bool, true, false, cond, not}
@@ -39,7 +39,6 @@ use Rattle.stages.specs.Stage.{round_stage, late_stage, start_stage, stage_at}
 use Rattle.shelf.specs.Step.{is_end}
 use Rattle.stages.specs.declared.state.State.{State}
 use Rattle.stages.specs.declared.state.Kind.{Kind}
-use Rattle.stages.specs.declared.state.Kind.TheVariants.{Starting}
 use Rattle.stages.specs.declared.stage.Stage.{Stage}
 use Rattle.stages.specs.declared.stage.Stage.TheVariants.{Flush, Give, Wipe, Restore}
 use Rattle.refine.proofs.Disks.{seen_present}

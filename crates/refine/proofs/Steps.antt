@@ -5,7 +5,7 @@ use Rattle.std.proofs.Common.{◌∙◌, ⊎_elim}
 use Rattle.std.specs.Prelude.{Bool, leb, length, replicate}
 use Rattle.std.proofs.Math.Bool.{true, false, cond, false≢true}
 use mathlib.Core.List.{List, [], ◌∷◌, ◌++◌}
-use Prim.Native.Nat.{ℕ, zero, suc, ◌+◌, ◌-◌, ◌*◌, ◌≤◌, ◌<◌, ◌/◌, ◌%◌, ◌^◌}
+use Prim.Native.Nat.{ℕ, zero, suc, ◌+◌, ◌*◌, ◌≤◌, ◌<◌, ◌%◌}
 use native.Mathlib.Omega.{arith}
 use Rattle.std.proofs.Math.Dec.{ltb}
 use borrow.Author.Tests.{lt-ltb, le-ltb, ltb-true, ltb-false, eq-eqb, leb-true, le-leb}
@@ -41,7 +41,7 @@ use Rattle.stages.specs.Limits.{most_stages}
 use Rattle.stages.specs.State.{moved}
 use Rattle.stages.specs.Stage.{slots_of, stage_at, stage_of}
 use Rattle.shelf.specs.Act.{Move, in_strips, by_rebuilt, fill_move, onward, refuses, named, by_outcome, put_move, flush_move, give_move, wipe_move, by_strip, by_restored, restore_move, by_logged, log_move, by_stored, store_move, clear_move, erase_move, act_move}
-use Rattle.shelf.specs.Step.{seek, is_end, finished, on_stage, next_slot, walk, keeps, under_way, sound, step_move}
+use Rattle.shelf.specs.Step.{is_end, finished, on_stage, next_slot, walk, keeps, under_way, sound, step_move}
 use Rattle.shelf.specs.Says.{when, unless, step_goes}
 use Rattle.shelf.specs.Bound.{width_of}
 use Rattle.shelf.specs.Kept.{kept_of}

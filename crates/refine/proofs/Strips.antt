@@ -4,8 +4,6 @@ use Rattle.std.specs.Prelude.{◌≡◌, Bool, true, false, List, ℕ, ◌<◌}
 use Rattle.std.proofs.Common.{sym, ap, ◌∙◌}
 use Rattle.disk.specs.Geometry.{stripes_of}
 use Rattle.disk.specs.Mask.{in_mask}
-use Rattle.label.specs.declared.fields.Label as bytes
-use Rattle.redo.specs.Decide.{believed}
 use Rattle.protocol.specs.World.{strip}
 use Rattle.protocol.specs.Host.{strips_of}
 use Rattle.protocol.specs.Pairs.{no_sets}

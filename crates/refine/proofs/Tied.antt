@@ -1,13 +1,13 @@
 -- A STEP OF THE CODE IS A STEP OF THE PROTOCOL'S PROGRAM: what the program remembers beside a state of the code, and that the two
 -- stay together over a step: the answers say the same, and the disks hold the same. Assumes nothing.
-use Rattle.std.specs.Prelude.{◌≡◌, ◌⊎◌, Bool, false, ltb}
+use Rattle.std.specs.Prelude.{◌≡◌, ◌⊎◌, Bool}
 use Rattle.std.proofs.Math.Path.{refl, sym, ap, ap₂}
 use Rattle.std.proofs.Common.{subst, ◌∙◌}
 use Rattle.std.proofs.Math.Logic.{inl, inr}
 use Rattle.std.proofs.Math.Bool.{true, cond}
 use Rattle.std.proofs.lemmas.Bool.{false≢true}
 use mathlib.Core.List.{List, [], ◌∷◌, ◌++◌}
-use Prim.Native.Nat.{ℕ, zero, suc, ◌-◌}
+use Prim.Native.Nat.{ℕ, zero, suc}
 use Rattle.disk.specs.Tests.{and_left, and_right}
 use Rattle.label.specs.Fields.{fits_of}
 use Rattle.label.specs.declared.fields.Label as bytes

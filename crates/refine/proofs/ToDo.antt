@@ -1,16 +1,14 @@
 -- What is left to do of the request under way, as the protocol's actions: what is left of its stage from the cursor on, and
 -- all later stages. And of a stage: what is left when a slot, or a sector of it, is done. Assumes nothing.
-use Rattle.std.specs.Prelude.{◌≡◌, ◌⊎◌, not, eqb, leb, ltb}
-use Rattle.std.proofs.Math.Path.{refl, sym, ap, ap₂, subst, fun_ext}
-use Rattle.std.proofs.Common.{◌∙◌, inl, inr, ⊎_elim, arith, ne_eqb}
+use Rattle.std.specs.Prelude.{◌≡◌}
+use Rattle.std.proofs.Math.Path.{refl, sym, ap, ap₂, fun_ext}
+use Rattle.std.proofs.Common.{◌∙◌, arith}
 use Rattle.std.proofs.Math.Bool.{Bool, true, false, cond}
 use mathlib.Core.List.{List, [], ◌∷◌, ◌++◌}
-use Prim.Native.Nat.{ℕ, zero, suc, ◌+◌, ◌-◌, ◌*◌, ◌≤◌, ◌<◌, ◌/◌, ◌%◌}
-use Rattle.std.proofs.lemmas.Bool.{lt-leb, not-false}
+use Prim.Native.Nat.{ℕ, zero, suc, ◌+◌, ◌-◌, ◌*◌, ◌≤◌, ◌<◌, ◌%◌}
 use Rattle.disk.specs.Limits.{first_log}
 use Rattle.disk.specs.Mask.{in_mask}
 use Rattle.label.specs.declared.fields.Label as bytes
-use Rattle.record.specs.declared.stamp.Stamp.{Stamp}
 use Rattle.protocol.specs.World.{Place, label, log, strip, slot, Image, Action}
 use Rattle.protocol.specs.Batch.{puts}
 use Rattle.protocol.specs.Slots.{from, row, rows}
@@ -23,13 +21,10 @@ use Rattle.codecs.proofs.Labels.{sector_side, encode_label}
 use Rattle.codecs.proofs.Written.{piece_of}
 use Rattle.stages.specs.Limits.{most_stages}
 use Rattle.stages.specs.State.{moved}
-use Rattle.stages.specs.Stage.{again, round_stage, late_stage, start_stage, create_stage, write_stage, last_stage, begin_stage, fill_stage, stage_at, stage_of}
+use Rattle.stages.specs.Stage.{stage_of}
 use Rattle.shelf.specs.Act.{odd_sector}
-use Rattle.shelf.specs.Step.{seek, is_end, on_stage}
+use Rattle.shelf.specs.Step.{is_end, on_stage}
 use Rattle.stages.specs.declared.state.State.{State}
-use Rattle.stages.specs.declared.state.Marks.{Marks}
-use Rattle.stages.specs.declared.state.Kind.{Kind}
-use Rattle.stages.specs.declared.state.Kind.TheVariants.{Nothing, Idle, Creating, Starting, Labelling, Writing, Beginning, Filling}
 use Rattle.stages.specs.declared.stage.Stage.{Stage}
 use Rattle.stages.specs.declared.stage.Stage.TheVariants.{Flush, Give, Wipe, Restore, Log, Store, Clear, Erase, Fill, End}
 use Rattle.refine.specs.Places.{copy_sector, sector_of}

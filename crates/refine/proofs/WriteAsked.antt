@@ -5,7 +5,7 @@ use Rattle.std.proofs.Math.Path.{refl, sym, ap, ap₂}
 use Rattle.std.proofs.Common.{subst, ◌∙◌, mul_assoc, arith, length-drop, get_or-take}
 use Rattle.std.proofs.Math.Bool.{true, false, cond, not}
 use mathlib.Core.List.{List, [], ◌∷◌}
-use Prim.Native.Nat.{ℕ, suc, ◌+◌, ◌*◌, ◌<◌, ◌/◌, ◌%◌, ◌^◌}
+use Prim.Native.Nat.{ℕ, suc, ◌+◌, ◌*◌, ◌<◌, ◌^◌}
 use Rattle.std.proofs.Math.Nat.{suc-mul, mul-le-mul_right}
 use Rattle.std.proofs.Math.Dec.{leb, ltb}
 use Rattle.std.proofs.Math.ListN.{get_or}
@@ -17,7 +17,6 @@ use Rattle.disk.specs.Mask.{in_mask, mask_of, mask_lt, mask_below}
 use Rattle.disk.specs.declared.geometry.Geometry.{Geometry}
 use Rattle.disk.specs.declared.refusal.Outcome.TheVariants.{Done}
 use Rattle.label.specs.Fields.{geometry_of}
-use Rattle.label.specs.declared.fields.Label as bytes
 use Rattle.label.proofs.Fits.{fits_says}
 use Rattle.label.proofs.Counts.{SameShelf, same_says}
 use Rattle.protocol.specs.Label as Label
@@ -46,10 +45,8 @@ use Rattle.views.proofs.Program.{write_prepared, changes_made}
 use Rattle.blocks.specs.Slots.{there, changes_at, changed_shards, changed_at, changed_slots}
 use Rattle.blocks.specs.Answers.{work_is, range_of}
 use Rattle.blocks.specs.Read.{Shows, half_of, shows_block}
-use Rattle.blocks.specs.Write.{most_count, write_answer, stamped_with, changing, Written, write_done}
-use Rattle.shelf.specs.Step.{sound}
+use Rattle.blocks.specs.Write.{most_count, write_answer, Written, write_done}
 use Rattle.stages.specs.declared.state.State.{State}
-use Rattle.stages.specs.declared.state.Marks.{Marks}
 use Rattle.refine.specs.Given.{shelf_geometry}
 use Rattle.refine.specs.Disks.{Disks, cur_of, seen_of}
 use Rattle.refine.specs.Keeps.{Works, kept_strip}

@@ -36,7 +36,6 @@ use Rattle.stages.specs.Stage.{write_stage, stage_at, stage_of}
 use Rattle.shelf.specs.Step.{is_end, on_stage}
 use Rattle.stages.specs.declared.state.State.{State}
 use Rattle.stages.specs.declared.state.Kind.{Kind}
-use Rattle.stages.specs.declared.state.Kind.TheVariants.{Writing}
 use Rattle.stages.specs.declared.stage.Stage.{Stage}
 use Rattle.stages.specs.declared.stage.Stage.TheVariants.{Flush, Log, Store}
 use Rattle.refine.specs.Keeps.{kept_strip, kept_write}

@@ -7,7 +7,7 @@ use Rattle.std.proofs.Common.{subst, ◌∙◌, inl, inr, arith, length-append, 
 use Rattle.std.proofs.Math.Logic.{⊎_elim}
 use Rattle.std.proofs.Math.Bool.{cond}
 use mathlib.Core.List.{List, [], ◌∷◌, ◌++◌}
-use Prim.Native.Nat.{ℕ, suc, ◌+◌, ◌-◌, ◌*◌, ◌≤◌, ◌<◌, ◌^◌}
+use Prim.Native.Nat.{ℕ, suc, ◌-◌, ◌*◌, ◌≤◌, ◌<◌, ◌^◌}
 use Rattle.disk.specs.Mask.{in_mask}
 use Rattle.disk.specs.Image.{lt_or_ge}
 use Rattle.disk.specs.Geometry.{stripes_of}
@@ -31,7 +31,7 @@ use Rattle.stages.specs.Limits.{most_stages}
 use Rattle.stages.specs.State.{moved}
 use Rattle.stages.specs.Stage.{stage_at, stage_of}
 use Rattle.shelf.specs.Act.{Move}
-use Rattle.shelf.specs.Step.{finished, sound, step_move}
+use Rattle.shelf.specs.Step.{sound, step_move}
 use Rattle.stages.specs.declared.state.State.{State}
 use Rattle.stages.specs.declared.state.Kind.{Kind}
 use Rattle.stages.specs.declared.state.Kind.TheVariants.{Writing}

@@ -1,14 +1,12 @@
 -- WHAT THE CODE ACCEPTS THE PROTOCOL'S PROGRAM ACCEPTS: create on an image of zeros, start-up by the survey's plan, taking a slot out
 -- at rest. (It may refuse more, and nothing changes then: a disk whose newest label is another shelf's.) And start-up finds no
 -- garbage in the log, in a world that the protocol keeps. Assumes nothing.
-use Rattle.std.proofs.Math.Path.{◌≡◌, refl, sym, ap, ap₂, fun_ext}
-use Rattle.std.proofs.Common.{subst, ◌∙◌, inl, inr, suc-mul, arith, lit<, ext_get_or}
+use Rattle.std.proofs.Math.Path.{◌≡◌, refl, sym, ap}
+use Rattle.std.proofs.Common.{subst, ◌∙◌, arith}
 use Rattle.std.proofs.Math.Bool.{Bool, true, false, cond, not}
-use Rattle.std.specs.Prelude.{◌&&◌, ◌||◌, List, [], ◌∷◌, eqb, leb, get_or}
-use Prim.Native.Nat.{ℕ, zero, suc, ◌+◌, ◌*◌, ◌≤◌, ◌<◌, ◌%◌, ◌^◌}
-use Rattle.std.proofs.Math.Nat.{mod-lt}
+use Rattle.std.specs.Prelude.{◌&&◌, List, [], ◌∷◌, eqb, get_or}
+use Prim.Native.Nat.{ℕ, zero, suc, ◌+◌, ◌<◌, ◌^◌}
 use Rattle.std.specs.Int.Count.{ones}
-use Rattle.std.proofs.lemmas.List.{get_or-replicate}
 use borrow.Author.Tests.{eq-eqb, ne_eqb, eqb-true, eqb-false, lt-ltb, le-leb}
 use Rattle.disk.specs.Tests.{and_left, and_right}
 use Rattle.disk.specs.Mask.{in_mask, with_slot, with_lt}
@@ -18,11 +16,9 @@ use Rattle.label.specs.Bytes.{all_zero}
 use Rattle.label.specs.declared.fields.Label as bytes
 use Rattle.label.proofs.Fits.{fits_says}
 use Rattle.label.proofs.Counts.{same_says}
-use Rattle.rounds.specs.Survey.{slots_that, next_of, plan_of, survey_of}
-use Rattle.rounds.specs.declared.slot.Question.TheVariants.{Out}
+use Rattle.rounds.specs.Survey.{next_of, survey_of}
 use Rattle.rounds.specs.declared.plan.Plan.{Plan}
 use Rattle.rounds.specs.declared.plan.Survey.TheVariants as survey
-use Rattle.rounds.proofs.Plans.{survey_grounds}
 use Rattle.protocol.specs.World.{Image, World}
 use Rattle.protocol.specs.Log.{Belief}
 use Rattle.protocol.specs.Label.{Label, plainly_out as plainly_out'}

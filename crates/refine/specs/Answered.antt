@@ -1,12 +1,11 @@
 -- EVERY BLOCK CAN BE READ. Along every chain of calls from an image of zeros on, whatever was cut, taken out or exchanged on it, a read at rest of any block of the shelf, with a block's buffer and the chain's
 -- work area, is answered Done: at most m slots are out or absent, and the state's label is in range. With Serves: at rest every block reads as its entry of the host's list. And a write of
 -- any block is accepted where each present disk holds the state's label. What is asked is what Promise asks. Assumes nothing.
-use Rattle.std.specs.Prelude.{◌≡◌, not, ◌&&◌, ◌||◌, List, [], ◌∷◌, length}
+use Rattle.std.specs.Prelude.{◌≡◌, not, ◌&&◌, ◌||◌, List, length}
 use Rattle.std.proofs.Math.Path.{refl, ap, ap₂}
-use Rattle.std.proofs.Common.{sym, subst, ◌∙◌, ⊎_elim, inl, inr, arith}
+use Rattle.std.proofs.Common.{sym, ◌∙◌, arith}
 use Rattle.std.proofs.Math.Bool.{Bool, true, false, cond}
-use Rattle.std.proofs.lemmas.Bool.{false≢true}
-use Prim.Native.Nat.{ℕ, zero, suc, ◌+◌, ◌*◌, ◌≤◌, ◌<◌, ◌/◌, ◌%◌}
+use Prim.Native.Nat.{ℕ, ◌+◌, ◌*◌, ◌<◌}
 use Rattle.std.proofs.Math.Dec.{eqb, ltb}
 use Rattle.std.specs.Int.Count.{ones}
 use borrow.Author.Tests.{lt-ltb, le-ltb, eq-eqb}
@@ -16,18 +15,11 @@ use Rattle.disk.specs.Tests.{both}
 use Rattle.disk.specs.Geometry.{blocks_of}
 use Rattle.disk.specs.Image.{fits_image}
 use Rattle.disk.specs.declared.geometry.Geometry.{Geometry}
-use Rattle.disk.specs.declared.refusal.Refusal.TheVariants.{BadImage, NoLabel, TooFew, BadBlock, Busy, NotNow, BadBuffer}
-use Rattle.disk.specs.declared.refusal.Outcome.{Outcome}
+use Rattle.disk.specs.declared.refusal.Refusal.TheVariants.{BadImage, TooFew, BadBlock, Busy, NotNow, BadBuffer}
 use Rattle.disk.specs.declared.refusal.Outcome.TheVariants.{Done, Refused}
 use Rattle.label.specs.Fields.{geometry_of, fits_of}
-use Rattle.label.proofs.Fits.{fits_says}
 use Rattle.label.proofs.Counts.{same_says}
 use Rattle.label.specs.declared.fields.Label as bytes
-use Rattle.rounds.specs.Survey.{survey_of, next_of, plan_of}
-use Rattle.rounds.specs.declared.plan.Plan.{Plan}
-use Rattle.rounds.specs.declared.plan.Survey.{Survey}
-use Rattle.rounds.specs.declared.plan.Survey.TheVariants as survey
-use Rattle.rounds.proofs.Plans.{survey_grounds}
 use Rattle.protocol.specs.Machine.{View}
 use Rattle.protocol.specs.Count.{count, count_part}
 use Rattle.codecs.specs.Sector.{Sector}
@@ -35,25 +27,13 @@ use Rattle.codecs.specs.Shelf.{Shelf, slots, geometry}
 use Rattle.codecs.specs.Labels.{fields_of, no_label, ours}
 use Rattle.shards.specs.Quorum.{few_of, tally_count}
 use Rattle.shards.proofs.Quorum.{few_count}
-use Rattle.shelf.specs.Act.{Move}
-use Rattle.shelf.specs.Step.{step_move}
-use Rattle.stages.specs.Stage.{round_stage, create_stage, start_stage, last_stage, begin_stage, fill_stage, stage_at}
-use Rattle.stages.specs.declared.state.State.{State}
 use Rattle.stages.specs.declared.state.Kind.{Kind}
 use Rattle.stages.specs.declared.state.Kind.TheVariants.{Idle}
-use Rattle.requests.specs.Begun.{work_bytes, begun, first}
-use Rattle.requests.specs.Create.{create_answer, created}
-use Rattle.requests.specs.Start.{started, by_survey, start_of}
-use Rattle.requests.specs.Step.{other_work, step_with, sound_fits, step_short, step_goes}
-use Rattle.requests.specs.TakeOut.{plainly_out, next_label, outed, take_answer, took_out}
-use Rattle.requests.specs.Ready.{is_nothing, is_idle, has_shelf, holding, ready_of}
-use Rattle.rebuilds.specs.Begin.{begin_answer, began}
-use Rattle.rebuilds.specs.On.{first_stage, at_least_one, last_batch, on_label, on_answer, went_on}
+use Rattle.requests.specs.Begun.{work_bytes, first}
+use Rattle.requests.specs.Ready.{is_nothing, is_idle, has_shelf}
 use Rattle.blocks.specs.Slots.{missing_at, missing, too_few}
 use Rattle.blocks.specs.Answers.{serves, look_answer, answered, sizes, block_answer}
-use Rattle.blocks.specs.Read.{read_answer, after_read}
-use Rattle.blocks.specs.Repair.{repair_accuses, repair_refused}
-use Rattle.blocks.specs.Write.{most_count, stamp_left, write_answer, AfterWrite}
+use Rattle.blocks.specs.Read.{read_answer}
 use Rattle.refine.specs.Family.{Family}
 use Rattle.refine.specs.Disks.{Disks, image_fits}
 use Rattle.refine.specs.Given.{shelf_geometry}

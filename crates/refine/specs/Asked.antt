@@ -1,15 +1,11 @@
 -- THE REQUESTS ARE THE PROGRAM'S: with masks that say what the protocol's tests say and labels that are the protocol's, what the
 -- program remembers beside the state of a request that begins is what it remembers of that request. Assumes nothing.
-use Rattle.std.specs.Prelude.{◌≡◌, Bool, true, false, not, ◌||◌, ℕ, ◌+◌, ◌*◌, ltb}
-use Rattle.std.proofs.Common.{sym, ap, ◌∙◌, arith}
-use Rattle.std.proofs.Math.Path.{ap₂, fun_ext}
-use mathlib.Core.List.{List, []}
+use Rattle.std.specs.Prelude.{Bool, ℕ}
+use mathlib.Core.List.{List}
 use Rattle.disk.specs.Mask.{in_mask}
 use Rattle.protocol.specs.Program.{beyond}
 use Rattle.codecs.specs.Shelf.{Shelf, slots}
 use Rattle.stages.specs.declared.state.State.{State}
-use Rattle.stages.specs.declared.state.Kind as state
-use Rattle.stages.specs.declared.state.Kind.TheVariants.{Creating, Starting, Labelling}
 
 module _ (z : Shelf) (s : State) (img : List ℕ) where
   -- the slots that the state calls absent, and those beyond the shelf

@@ -1,19 +1,16 @@
 -- BEGIN IS THE PROGRAM'S: what the code finds on the disk of slot d is what the protocol's program finds there, and the state with which
 -- an accepted begin begins has the program's list before it. Assumes nothing.
-use Rattle.std.specs.Prelude.{◌≡◌, ◌&&◌, ◌||◌, ℕ, suc, ◌<◌, ◌%◌}
-use Rattle.std.proofs.Math.Path.{refl, sym, ap, ap₂, fun_ext}
-use Rattle.std.proofs.Common.{◌∙◌, add-one, arith, eq-eqb, ne_eqb, eqb-true, lt-ltb, le-leb}
+use Rattle.std.specs.Prelude.{◌≡◌, ◌&&◌, ◌||◌, ℕ, suc, ◌<◌}
+use Rattle.std.proofs.Math.Path.{refl, sym, ap, fun_ext}
+use Rattle.std.proofs.Common.{◌∙◌, add-one, arith, ne_eqb, eqb-true, lt-ltb, le-leb}
 use Rattle.std.proofs.Math.Bool.{Bool, true, false, cond, not}
-use mathlib.Core.List.{List, [], ◌∷◌, ◌++◌}
+use mathlib.Core.List.{List, [], ◌∷◌}
 use Rattle.std.proofs.Math.Dec.{eqb, ltb}
 use Rattle.disk.specs.Limits.{most_n}
 use Rattle.disk.specs.Mask.{in_mask, with_slot, without_slot, in_with, in_without, in_past}
 use Rattle.disk.specs.declared.geometry.Geometry.{Geometry}
 use Rattle.label.specs.Fields.{no_slot}
 use Rattle.label.specs.declared.fields.Label as bytes
-use Rattle.label.specs.declared.codec.Decoded.{Decoded}
-use Rattle.label.specs.declared.codec.Decoded.TheVariants.{Valid, Nothing}
-use Rattle.label.proofs.Counts.{SameShelf, same_says}
 use Rattle.protocol.specs.World.{Image}
 use Rattle.protocol.specs.Slots.{keep}
 use Rattle.protocol.specs.Label as protocol
@@ -28,8 +25,6 @@ use Rattle.codecs.proofs.Labels.{labels}
 use Rattle.codecs.proofs.Records.{records}
 use Rattle.codecs.specs.Media.{stamps}
 use Rattle.shards.proofs.Even.{any_code, any_sectors}
-use Rattle.rounds.specs.Slot.{age_under, copy_age}
-use Rattle.shelf.specs.Act.{odd_sector}
 use Rattle.stages.specs.declared.state.State.{State}
 use Rattle.requests.specs.Begun.{slots_but}
 use Rattle.rebuilds.specs.Readied as readied

@@ -2,11 +2,11 @@
 -- that same request. Asked is that the slot, if it is absent, is not looked at, as the protocol's invariant has it at rest; so it is out.
 -- Assumes nothing.
 use Rattle.std.specs.Prelude.{◌≡◌, Bool, cond, ◌&&◌, ◌||◌, List, [], ◌∷◌, eqb, ltb, leb}
-use Rattle.std.proofs.Math.Path.{refl, ap₂}
-use Rattle.std.proofs.Common.{sym, ap, subst, ◌∙◌, true≢false, arith}
+use Rattle.std.proofs.Math.Path.{refl}
+use Rattle.std.proofs.Common.{sym, ap, ◌∙◌, true≢false, arith}
 use Rattle.std.proofs.Math.Bool.{true, false, not}
 use Prim.Native.Nat.{ℕ, suc, ◌+◌, ◌<◌, ◌^◌}
-use borrow.Author.Tests.{eq-eqb, ne_eqb, eqb-true, lt-ltb, le-ltb, le-leb, leb-false, not-true}
+use borrow.Author.Tests.{eq-eqb, ne_eqb, eqb-true, lt-ltb, le-ltb, le-leb, leb-false}
 use Rattle.disk.specs.Limits.{most_k, most_m}
 use Rattle.disk.specs.Tests.{and_left, and_right, both}
 use Rattle.disk.specs.Geometry.{in_range_with, stripes_of}
@@ -26,15 +26,12 @@ use Rattle.codecs.proofs.Records.{records}
 use Rattle.codecs.specs.Media.{stamps}
 use Rattle.codecs.proofs.Media.{medium}
 use Rattle.shards.proofs.Even.{any_code, any_sectors}
-use Rattle.shelf.specs.Step.{sound}
 use Rattle.stages.specs.declared.state.State.{State}
 use Rattle.stages.specs.declared.state.Kind.{Kind}
-use Rattle.stages.specs.declared.state.Kind.TheVariants.{Beginning}
 use Rattle.requests.specs.Begun.{work_bytes}
 use Rattle.requests.specs.Ready.{is_idle, ready_of}
 use Rattle.requests.specs.Accepted.{ready_done}
 use Rattle.rebuilds.specs.Judge.{too_few, last_one, sized, judged_done, first_done, one_more}
-use Rattle.rebuilds.specs.Readied.{odd_first, alien, prepared}
 use Rattle.rebuilds.specs.Begin.{lacks, other_rebuilt, cannot_begin, asked_begin, begin_answer, begun_label, began}
 use Rattle.refine.specs.Disks.{Disks}
 use Rattle.refine.specs.Tied.{own_of}

@@ -1,10 +1,9 @@
 -- The states with which requests begin are in order: their masks name present slots, and their labels can be told to each slot.
 -- Assumes nothing.
-use Rattle.std.specs.Prelude.{◌≡◌, refl, Bool, false, List, [], ℕ, ◌+◌, ◌≤◌, ◌<◌, ltb, leb}
-use Rattle.std.proofs.Common.{sym, ap, subst, ◌∙◌, inl, inr, arith}
-use Rattle.std.proofs.Math.Bool.{true, not}
-use Rattle.std.proofs.lemmas.Bool.{false≢true}
-use borrow.Author.Tests.{lt-ltb, le-leb, not-true}
+use Rattle.std.specs.Prelude.{◌≡◌, ℕ, ◌+◌, ◌≤◌, ◌<◌, ltb, leb}
+use Rattle.std.proofs.Common.{ap, arith}
+use Rattle.std.proofs.Math.Bool.{true}
+use borrow.Author.Tests.{lt-ltb, le-leb}
 use Rattle.disk.specs.Limits.{most_k, most_m}
 use Rattle.disk.specs.Tests.{and_left, and_right, both}
 use Rattle.disk.specs.Geometry.{in_range_with}
@@ -15,11 +14,7 @@ use Rattle.label.proofs.Fits.{fits_says}
 use Rattle.codecs.specs.Shelf.{Shelf, slots}
 use Rattle.codecs.specs.Labels.{ours}
 use Rattle.shelf.specs.Act.{named}
-use Rattle.stages.specs.Stage.{again, stage_at, stage_of}
-use Rattle.shelf.specs.Step.{sound}
-use Rattle.stages.specs.declared.state.State.{State}
-use Rattle.stages.specs.declared.state.Kind.{Kind}
-use Rattle.stages.specs.declared.state.Kind.TheVariants.{Creating, Starting, Labelling}
+use Rattle.stages.specs.Stage.{again}
 use Rattle.refine.specs.Steps.{Tells}
 use Rattle.refine.specs.Given.{shelf_geometry}
 

@@ -5,30 +5,20 @@
 --
 -- A refusal is an answer that leaves everything as it was, and needs no event. The code may refuse more than the protocol's program:
 -- a disk whose newest label is another shelf's.
-use Rattle.std.specs.Prelude.{◌≡◌, ◌⊎◌, Bool, true, ◌&&◌, ℕ, ◌<◌, eqb, leb, length}
+use Rattle.std.specs.Prelude.{◌≡◌, ◌⊎◌, Bool, true, ◌&&◌, ℕ, leb, length}
 use Rattle.std.proofs.Math.Path.{refl, ap, subst}
-use Rattle.std.proofs.Common.{sym, ap₂, ◌∙◌, ⊎_elim, inl, inr, true≢false}
+use Rattle.std.proofs.Common.{◌∙◌, true≢false}
 use Rattle.std.proofs.Math.Bool.{false, cond}
 use Rattle.std.proofs.lemmas.Bool.{false≢true}
-use mathlib.Core.List.Memᴰ
 use mathlib.Core.List.{List, [], ◌∷◌, ◌++◌, Memᴰ}
 use Rattle.std.proofs.Math.Dec.{ltb}
 use Rattle.disk.specs.Mask.{in_mask}
 use Rattle.disk.specs.Image.{fits_image}
-use Rattle.disk.specs.declared.geometry.Geometry.{Geometry}
-use Rattle.disk.specs.declared.refusal.Refusal.{Refusal}
-use Rattle.disk.specs.declared.refusal.Refusal.TheVariants.{BadImage, BadBuffer, NotNow}
+use Rattle.disk.specs.declared.refusal.Refusal.TheVariants.{BadImage, NotNow}
 use Rattle.disk.specs.declared.refusal.Outcome.{Outcome}
 use Rattle.disk.specs.declared.refusal.Outcome.TheVariants.{Done, Refused}
 use Rattle.label.specs.Fields.{geometry_of, fits_of}
 use Rattle.label.specs.Bytes.{all_zero}
-use Rattle.label.specs.declared.codec.Decoded.TheVariants.{Valid}
-use Rattle.label.specs.declared.fields.Label as bytes
-use Rattle.rounds.specs.Survey.{next_of, plan_of, survey_of}
-use Rattle.rounds.specs.declared.plan.Plan.{Plan}
-use Rattle.rounds.specs.declared.plan.Survey.{Survey}
-use Rattle.rounds.specs.declared.plan.Survey.TheVariants as survey
-use Rattle.rounds.proofs.Plans.{survey_grounds}
 use Rattle.protocol.specs.World.{Place, slot, World, put, flush, act, after, Always}
 use Rattle.protocol.specs.Program.{Memory, nothing, Reply, accepted, refused}
 use Rattle.protocol.specs.Program as program
@@ -50,7 +40,7 @@ use Rattle.codecs.proofs.Records.{records}
 use Rattle.codecs.specs.Media.{stamps}
 use Rattle.shards.specs.Quorum.{few_of}
 use Rattle.shards.proofs.Even.{any_code, any_sectors, ShelfRuns}
-use Rattle.shelf.specs.Act.{Move, refuses}
+use Rattle.shelf.specs.Act.{refuses}
 use Rattle.shelf.specs.Step.{under_way, sound, walk, step_move, finished}
 use Rattle.shelf.specs.Step as Step
 use Rattle.stages.specs.Limits.{most_stages}
@@ -59,12 +49,7 @@ use Rattle.stages.specs.declared.state.Kind.{Kind}
 use Rattle.stages.specs.declared.state.Kind.TheVariants.{Nothing, Idle, Creating, Starting, Labelling, Writing, Beginning, Filling}
 use Rattle.stages.specs.declared.state.Answer.{Answer}
 use Rattle.stages.specs.declared.state.Answer.TheVariants as answer
-use Rattle.requests.specs.Begun.{work_bytes, begun}
-use Rattle.requests.specs.Create.{create_answer, created, create_of}
-use Rattle.requests.specs.Start.{started, by_survey, start_of}
-use Rattle.requests.specs.TakeOut.{outed, take_answer, took_out, take_out_of}
-use Rattle.requests.specs.Step.{other_work, step_with, step_short, step_goes, step_unsound}
-use Rattle.requests.specs.Accepted.{create_done, take_done}
+use Rattle.requests.specs.Step.{step_with, step_unsound}
 use Rattle.requests.specs.Ready.{is_idle}
 use Rattle.requests.specs.declared.begun.Begun.{Begun}
 use Rattle.refine.specs.Family.{Family, code_in, sectors_in, HappensIn, KeepsIn}

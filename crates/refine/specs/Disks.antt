@@ -1,13 +1,9 @@
 -- The lent image as the protocol's disks: what each place holds is what its sector reads as. A put of a place's sector is the
 -- protocol's put, and what is seen with some slots absent goes by the sectors of the others alone. Assumes nothing.
-use Rattle.std.specs.Prelude.{◌≡◌, ◌≢◌, Bool, ◌&&◌, List, [], ◌++◌, ℕ, ◌+◌, ◌*◌, ◌<◌, ◌%◌, eqb, length, get_or, drop}
-use Rattle.std.proofs.Math.Path.{refl, sym, ap, fun_ext}
-use Rattle.std.proofs.Common.{◌∙◌, ⊎_elim, arith, lit<, get_or-take, eq-eqb, lt-ltb}
-use Rattle.std.proofs.Math.Bool.{true, false, cond}
-use Rattle.std.proofs.Math.Nat.{mod-lt, mod-eq_of_lt}
-use Rattle.std.proofs.Math.Dec.{ltb}
-use Rattle.std.proofs.Math.ListN.{take}
-use Rattle.std.proofs.Math.Seq.{ext_get_or, get_or-drop}
+use Rattle.std.specs.Prelude.{◌≡◌, Bool, List, ℕ, ◌+◌, ◌*◌, ◌%◌, eqb, length, get_or}
+use Rattle.std.proofs.Common.{lit<, eq-eqb}
+use Rattle.std.proofs.Math.Bool.{true, cond}
+use Rattle.std.proofs.Math.Nat.{mod-lt}
 use Rattle.disk.specs.Limits.{sector_bytes}
 use Rattle.disk.specs.Tests.{both}
 use Rattle.disk.specs.Geometry.{in_range, image_bytes}

@@ -1,7 +1,7 @@
 -- EACH ACCEPTED REQUEST ENDS IN ITS OWN SUCCESS: with a work area of the right size its steps are what is left to do, an action each,
 -- and the next one is done; none is refused. A step that answers Done ends its request. Assumes nothing.
-use Rattle.std.specs.Prelude.{◌≡◌, refl, Bool, true, false, cond, ◌&&◌, List, [], ◌∷◌, ℕ, zero, suc, ◌<◌, length}
-use Rattle.std.proofs.Common.{sym, ap, subst, ◌∙◌, arith}
+use Rattle.std.specs.Prelude.{◌≡◌, refl, Bool, true, false, cond, ◌&&◌, List, ℕ, zero, suc, ◌<◌, length}
+use Rattle.std.proofs.Common.{sym, ap, ◌∙◌, arith}
 use Rattle.std.proofs.lemmas.Bool.{false≢true}
 use Rattle.disk.specs.declared.refusal.Refusal.TheVariants.{BadBuffer}
 use Rattle.shelf.specs.Act.{Move, refuses}
@@ -10,7 +10,6 @@ use Rattle.shelf.specs.Laws.{step_done}
 use Rattle.shelf.specs.Bound.{acted}
 use Rattle.stages.specs.declared.state.State.{State}
 use Rattle.stages.specs.declared.state.Answer.TheVariants as answer
-use Rattle.requests.specs.Begun.{work_bytes}
 use Rattle.requests.specs.Step.{other_work, step_with}
 
 -- one step after the other, each with the state and the image that the one before left: the last of i + 1

@@ -1,33 +1,16 @@
 -- WHAT CHAINS WITH EXCHANGED DISKS KEEP beside the host's view: no disk names another shelf, and every label has its shape, whatever a cut leaves; a step can be followed; a start-up under way is carried
 -- out by its steps; which start-ups are refused; and at rest every strip that the state's label believes is what the host's list asks for, so
 -- a rebuild that answers Done has healed its slot, and every block can be read. Assumes nothing.
-use Rattle.std.specs.Prelude.{◌≡◌, Bool, false, not, List, [], ℕ, ◌+◌, ◌*◌, ◌<◌, ◌/◌, ◌%◌, eqb, ltb, length}
-use Rattle.std.proofs.Math.Path.{refl}
-use Rattle.std.proofs.Common.{sym, ap, subst, ◌∙◌, inl, inr, true≢false, arith, ltb-true}
-use Rattle.std.proofs.Math.Logic.{⊎_elim}
+use Rattle.std.specs.Prelude.{◌≡◌, false, List, ℕ}
+use Rattle.std.proofs.Common.{sym, ap, ◌∙◌, true≢false}
 use Rattle.std.proofs.Math.Bool.{true}
-use Rattle.std.proofs.lemmas.Bool.{false≢true}
 use Rattle.disk.specs.Mask.{in_mask}
 use Rattle.disk.specs.declared.refusal.Refusal.TheVariants.{NoLabel}
-use Rattle.disk.specs.declared.refusal.Outcome.TheVariants.{Done}
-use Rattle.label.specs.declared.fields.Label as bytes
-use Rattle.label.specs.declared.codec.Decoded.TheVariants.{Valid}
 use Rattle.rounds.specs.declared.plan.Survey.{Survey}
-use Rattle.redo.specs.Decide.{looked, believed}
 use Rattle.codecs.specs.Shelf.{Shelf, geometry}
-use Rattle.shelf.specs.Act.{Move}
-use Rattle.shelf.specs.Step.{finished, step_move}
 use Rattle.stages.specs.declared.state.State.{State}
-use Rattle.stages.specs.declared.state.Kind.TheVariants.{Idle, Filling}
-use Rattle.stages.specs.declared.state.Answer.{Answer}
-use Rattle.stages.specs.declared.state.Answer.TheVariants as answer
-use Rattle.stages.specs.State.{rested}
-use Rattle.requests.specs.Begun.{work_bytes, refused}
+use Rattle.requests.specs.Begun.{refused}
 use Rattle.requests.specs.Start.{by_survey, start_of}
-use Rattle.requests.specs.Step.{other_work, step_with, step_short, step_goes}
-use Rattle.requests.specs.Ready.{is_idle}
-use Rattle.requests.specs.TakeOut.{plainly_out}
-use Rattle.blocks.specs.Read.{read_answer, after_read}
 use Rattle.blind.specs.Start.{start_blind}
 use Rattle.refine.specs.Disks.{Disks}
 use Rattle.refine.specs.Lags.{unlabelled}

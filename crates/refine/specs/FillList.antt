@@ -1,12 +1,8 @@
 -- THE REBUILD, as the protocol has it: what is left of it when it begins is the protocol's fill, strip by strip, and then the round with its label;
 -- and it can be carried out. So each of its steps is the program's (label-tied). Assumes nothing.
-use Rattle.std.specs.Prelude.{◌≡◌, Bool, true, false, not, length}
-use Rattle.std.proofs.Math.Path.{refl, sym, ap, subst, fun_ext}
-use Rattle.std.proofs.Common.{ap₂, ◌∙◌, suc-mul, arith}
-use Rattle.std.proofs.Math.Bool.{cond}
-use mathlib.Core.List.{List, [], ◌∷◌, ◌++◌, append-nil}
-use Prim.Native.Nat.{ℕ, zero, suc, ◌+◌, ◌-◌, ◌*◌, ◌≤◌, ◌<◌}
-use Rattle.std.proofs.Math.Arith.{digits_div, digits_mod}
+use Rattle.std.specs.Prelude.{◌≡◌}
+use mathlib.Core.List.{List, [], ◌++◌}
+use Prim.Native.Nat.{ℕ}
 use Rattle.protocol.specs.World.{Place, strip, Image, Action}
 use Rattle.protocol.specs.Label.{Label}
 use Rattle.protocol.specs.Host.{rebuilt}
@@ -16,16 +12,10 @@ use Rattle.codecs.specs.Shelf.{Shelf, slots, size}
 use Rattle.codecs.specs.Labels.{label_of}
 use Rattle.codecs.proofs.Records.{records}
 use Rattle.shards.proofs.Even.{any_code}
-use Rattle.stages.specs.Limits.{most_stages}
-use Rattle.stages.specs.State.{moved}
-use Rattle.stages.specs.Stage.{round_stage, fill_stage, stage_at, stage_of}
-use Rattle.shelf.specs.Step.{is_end, on_stage, sound, step_move}
 use Rattle.stages.specs.declared.state.State.{State}
-use Rattle.stages.specs.declared.state.Kind.{Kind}
 use Rattle.stages.specs.declared.state.Kind.TheVariants.{Filling}
 use Rattle.stages.specs.declared.stage.Stage.{Stage}
-use Rattle.stages.specs.declared.stage.Stage.TheVariants.{Flush, Give, Fill}
-use Rattle.rebuilds.specs.On.{first_stage}
+use Rattle.stages.specs.declared.stage.Stage.TheVariants.{Flush, Give}
 use Rattle.refine.specs.Disks.{cur_of}
 use Rattle.refine.specs.ToDo.{under_of, acts_of}
 

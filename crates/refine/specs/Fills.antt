@@ -2,12 +2,11 @@
 -- one that the protocol's program rebuilds, and goes to its place. Assumes nothing.
 use Rattle.std.specs.Prelude.{◌≡◌, ◌&&◌, take}
 use Rattle.std.proofs.Math.Path.{refl, sym, ap}
-use Rattle.std.proofs.Common.{◌∙◌, ⊎_elim, true≢false, suc-mul, div-lt_iff_lt-mul, mod-lt, lit<}
+use Rattle.std.proofs.Common.{◌∙◌, ⊎_elim, true≢false, suc-mul, div-lt_iff_lt-mul, mod-lt}
 use Rattle.std.proofs.Math.Bool.{Bool, true, false, not}
-use Rattle.std.proofs.lemmas.Bool.{false≢true}
 use mathlib.Core.List.{List, []}
 use Prim.Native.Nat.{ℕ, ◌+◌, ◌*◌, ◌-◌, ◌≤◌, ◌<◌, ◌/◌, ◌%◌}
-use Rattle.std.proofs.Math.Nat.{mul-le-mul_right, div-mul-le_self, div-add-mod', mul-add, mul_comm}
+use Rattle.std.proofs.Math.Nat.{mul-le-mul_right, div-mul-le_self}
 use native.Mathlib.Omega.{arith}
 use Rattle.std.proofs.Math.Dec.{ltb, leb, eqb}
 use Rattle.std.proofs.Math.ListN.{length}
@@ -38,7 +37,7 @@ use Rattle.codecs.proofs.Records.{records}
 use Rattle.shards.specs.Quorum.{few_of}
 use Rattle.shards.proofs.Quorum.{few_count, count_few}
 use Rattle.shards.proofs.Even.{any_code}
-use Rattle.strips.specs.Seen.{shard_shown, shard_bytes}
+use Rattle.strips.specs.Seen.{shard_bytes}
 use Rattle.strips.specs.Answers.{part_of, few_lost, shown_answer}
 use Rattle.views.specs.Seen.{gone}
 use Rattle.views.proofs.Whole.{few_lost_lem}

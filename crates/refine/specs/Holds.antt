@@ -1,36 +1,24 @@
 -- WHAT IS TRUE OF THE DISKS, in the words of the bytes: what it means that no label on any disk lies, also while a write is under way, and that a label has its shape; each follows from the protocol's
 -- words for it (`Truthful` and `OwnTrue` of its Kept, `Shape`). Assumes nothing.
-use Rattle.std.specs.Prelude.{◌≡◌, ◌⊎◌, Bool, true, false, not}
-use Rattle.std.proofs.Math.Path.{refl, sym, ap, ap₂, subst}
-use Rattle.std.proofs.Common.{◌∙◌, ⊎_elim, inl, inr, true≢false, mod-eq_of_lt, arith}
-use Rattle.std.proofs.Math.Bool.{cond, ◌&&◌}
+use Rattle.std.specs.Prelude.{◌≡◌, ◌⊎◌, Bool, true, false}
+use Rattle.std.proofs.Math.Bool.{◌&&◌}
 use mathlib.Core.List.{List}
-use Prim.Native.Nat.{ℕ, zero, suc, ◌+◌, ◌*◌, ◌/◌, ◌≤◌, ◌<◌}
-use Rattle.std.proofs.Math.Nat.{suc-mul}
+use Prim.Native.Nat.{ℕ, suc, ◌+◌, ◌≤◌, ◌<◌}
 use Rattle.std.proofs.Math.ListN.{replicate}
-use borrow.Author.Tests.{ne_eqb, lt-ltb, le-ltb}
+use borrow.Author.Tests.{lt-ltb}
 use Rattle.disk.specs.Limits.{sector_bytes}
 use Rattle.disk.specs.Geometry.{strip_of, stripes_of, shard_of}
 use Rattle.disk.specs.Image.{sector}
 use Rattle.disk.specs.Mask.{in_mask}
 use Rattle.label.specs.Newest.{copy_of}
 use Rattle.label.specs.declared.fields.Label as bytes
-use Rattle.label.specs.declared.codec.Decoded.{Decoded}
-use Rattle.label.specs.declared.codec.Decoded.TheVariants.{Valid, Nothing}
-use Rattle.label.proofs.Fits.{fits_says}
-use Rattle.label.proofs.Counts.{copy_says}
-use Rattle.record.specs.Stamp.{stamp_at, zero_stamp, later_of, StampFits, later_or}
+use Rattle.label.specs.declared.codec.Decoded.TheVariants.{Valid}
+use Rattle.record.specs.Stamp.{stamp_at, zero_stamp, later_of}
 use Rattle.record.specs.Tail.{tail_at, may_be}
 use Rattle.record.specs.Log.{restore_of}
 use Rattle.record.specs.declared.stamp.Stamp.{Stamp}
 use Rattle.record.specs.declared.tail.Tail.{Tail}
-use Rattle.record.specs.declared.tail.Found as tail
-use Rattle.redo.specs.Decide.{plainly_out, looked, believed, log_at, tail_found, no_stamp, stamp_found, key_of, lead_of, involved, complete_with, whole_of, marked, settled, decided, redo_of}
-use Rattle.redo.specs.Laws.{looked_below, believed_looked, believed_below, tail_tells, decided_some, key_is}
-use Rattle.redo.specs.Laws as laws
-use Rattle.redo.specs.Complete.{complete_stamps, stamps_complete, says_whole}
-use Rattle.redo.specs.Leader.{leader_top, zero_top}
-use Rattle.redo.specs.declared.Redo.{Redo}
+use Rattle.redo.specs.Decide.{plainly_out, looked, believed, log_at, lead_of, complete_with, redo_of}
 use Rattle.redo.specs.declared.Redo.TheVariants as redo
 use Rattle.protocol.specs.World.{World, Possible}
 use Rattle.protocol.specs.Host.{Host}

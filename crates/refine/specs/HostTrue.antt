@@ -1,42 +1,13 @@
 -- WHAT IS TRUE AT EVERY MOMENT OF A CHAIN OF CALLS, whatever is under way, in the words of the bytes: no label on any disk lies, nor does the state's own; at rest every absent slot is plainly out and
 -- create is refused; start with other numbers is refused; what was accepted is carried out, and its steps lead to rest. All from the tie with the protocol's machine (`Bound`), for any family. Assumes nothing.
-use Rattle.std.specs.Prelude.{◌≡◌, Bool, cond, not, ◌&&◌, ◌||◌, ℕ, zero, suc, ◌-◌, ◌≤◌, ◌<◌, eqb, ltb, length}
-use Rattle.std.proofs.Math.Path.{refl, sym, ap, subst}
-use Rattle.std.proofs.Common.{ap₂, ◌∙◌, inl, inr, arith}
-use Rattle.std.proofs.Math.Logic.{⊎_elim}
+use Rattle.std.specs.Prelude.{◌≡◌, Bool, length}
 use Rattle.std.proofs.Math.Bool.{true, false}
-use Rattle.std.proofs.lemmas.Bool.{false≢true}
-use mathlib.Core.List.Memᴰ
-use mathlib.Core.List.{List, [], ◌++◌, append_assoc, Memᴰ}
-use borrow.Author.Tests.{eqb-true, lt-ltb}
-use Rattle.disk.specs.declared.geometry.Geometry.{Geometry}
-use Rattle.disk.specs.declared.refusal.Refusal.TheVariants.{BadImage, BadBuffer, NotNow}
-use Rattle.disk.specs.declared.refusal.Outcome.{Outcome}
-use Rattle.disk.specs.declared.refusal.Outcome.TheVariants.{Done, Refused}
-use Rattle.redo.specs.Decide.{believed}
-use Rattle.rounds.specs.Survey.{survey_of}
-use Rattle.rounds.specs.declared.plan.Survey.{Survey}
-use Rattle.rounds.specs.declared.plan.Survey.TheVariants as survey
 use Rattle.protocol.specs.Machine.{Machine, View}
 use Rattle.codecs.specs.Sector.{Sector}
 use Rattle.codecs.specs.Shelf.{Shelf, slots}
-use Rattle.stages.specs.declared.state.State.{State}
-use Rattle.stages.specs.declared.state.Stepped.{Stepped}
 use Rattle.stages.specs.declared.state.Kind.{Kind}
 use Rattle.stages.specs.declared.state.Kind.TheVariants.{Nothing, Idle, Creating, Starting, Labelling, Writing, Beginning, Filling}
-use Rattle.stages.specs.State.{rested}
-use Rattle.stages.specs.Limits.{most_stages}
-use Rattle.requests.specs.Begun.{work_bytes, begun}
-use Rattle.requests.specs.Create.{shelf_fits, create_answer, created, create_of}
-use Rattle.requests.specs.Start.{started, by_survey, start_of}
-use Rattle.requests.specs.Step.{step_with}
-use Rattle.requests.specs.TakeOut.{plainly_out, out_now, take_answer, took_out}
-use Rattle.requests.specs.Accepted.{passed, take_done}
-use Rattle.requests.specs.declared.begun.Begun.{Begun}
-use Rattle.rebuilds.specs.Begin.{begin_answer, began}
-use Rattle.rebuilds.specs.On.{on_answer, went_on}
-use Rattle.blocks.specs.Write.{write_answer, AfterWrite}
-use Rattle.requests.specs.Ready.{is_idle}
+use Rattle.requests.specs.Begun.{work_bytes}
 use Rattle.refine.specs.Family.{Family}
 use Rattle.refine.specs.Hosts.{Held, none, has, Time, at, HostChain, stays, goes_on, BoundAt}
 

@@ -2,22 +2,14 @@
 -- of the caller and exchanged disks in between, and the host's view beside them. The caller hands back the state and the work area that it was handed last.
 -- What a call does to the view is said in the words of its answer (`Saw`). A repair is always refused, since no sector changes by itself.
 -- Assumes nothing.
-use Rattle.std.specs.Prelude.{◌≡◌, refl, ◌⊎◌, Bool, false, ℕ, ◌+◌, ◌<◌, ◌/◌, ◌%◌, length}
-use Rattle.std.proofs.Common.{sym, ◌∙◌, inr}
-use Rattle.std.proofs.Math.Path.{ap, subst}
-use Rattle.std.proofs.Math.Logic.{⊎_elim, inl}
+use Rattle.std.specs.Prelude.{◌≡◌, ◌⊎◌, Bool, false, ℕ, ◌+◌, ◌<◌, ◌/◌, ◌%◌, length}
 use Rattle.std.proofs.Math.Bool.{true}
-use Rattle.std.proofs.lemmas.Bool.{false≢true}
-use mathlib.Core.List.Memᴰ
-use mathlib.Core.List.{List, [], ◌∷◌, ◌++◌}
+use mathlib.Core.List.{List, [], ◌++◌}
 use Rattle.disk.specs.Mask.{in_mask}
 use Rattle.disk.specs.declared.geometry.Geometry.{Geometry}
-use Rattle.disk.specs.declared.refusal.Refusal.{Refusal}
-use Rattle.disk.specs.declared.refusal.Refusal.TheVariants.{BadBuffer}
 use Rattle.disk.specs.declared.refusal.Outcome.{Outcome}
 use Rattle.disk.specs.declared.refusal.Outcome.TheVariants.{Done, Refused}
 use Rattle.label.specs.Bytes.{all_zero}
-use Rattle.label.proofs.Counts.{same_says}
 use Rattle.protocol.specs.World.{World, Possible, after, Always}
 use Rattle.protocol.specs.Log.{Write}
 use Rattle.protocol.specs.Label as Label
@@ -28,27 +20,24 @@ use Rattle.protocol.specs.Machine.{Machine, View, sure, open_write, kept_write, 
 use Rattle.codecs.specs.Sector.{Sector, Bytes}
 use Rattle.codecs.specs.Shelf.{Shelf, slots, size}
 use Rattle.codecs.specs.Labels.{ours, label_of}
-use Rattle.shelf.specs.Act.{Move, refuses}
-use Rattle.shelf.specs.Step.{step_move, finished}
 use Rattle.stages.specs.declared.state.State.{State}
 use Rattle.stages.specs.declared.state.Kind.{Kind}
 use Rattle.stages.specs.declared.state.Kind.TheVariants.{Nothing, Idle, Creating, Starting, Labelling, Writing, Beginning, Filling}
 use Rattle.stages.specs.declared.state.Answer.{Answer}
 use Rattle.stages.specs.declared.state.Answer.TheVariants as answer
-use Rattle.requests.specs.Begun.{work_bytes, begun}
+use Rattle.requests.specs.Begun.{work_bytes}
 use Rattle.requests.specs.Create.{create_of}
 use Rattle.requests.specs.Start.{start_of}
-use Rattle.requests.specs.TakeOut.{take_answer, took_out, take_out_of}
-use Rattle.requests.specs.Step.{other_work, step_with, step_short, step_goes}
-use Rattle.requests.specs.Accepted.{take_done}
+use Rattle.requests.specs.TakeOut.{take_out_of}
+use Rattle.requests.specs.Step.{step_with}
 use Rattle.requests.specs.Ready.{is_idle, ready_of}
 use Rattle.requests.specs.declared.begun.Begun.{Begun}
-use Rattle.rebuilds.specs.Begin.{begin_answer, began, begin_of}
-use Rattle.rebuilds.specs.On.{on_answer, went_on, on_of}
+use Rattle.rebuilds.specs.Begin.{begin_of}
+use Rattle.rebuilds.specs.On.{on_of}
 use Rattle.blocks.specs.Slots.{too_few}
 use Rattle.blocks.specs.Answers.{sizes, block_answer, first_done, answered_done}
-use Rattle.blocks.specs.Write.{stamp_left, write_answer, Written, AfterWrite, write_done}
-use Rattle.blocks.specs.Repair.{may_repair, Repairs, repair_refused}
+use Rattle.blocks.specs.Write.{stamp_left, write_answer, AfterWrite}
+use Rattle.blocks.specs.Repair.{Repairs}
 use Rattle.refine.specs.Family.{Family}
 use Rattle.refine.specs.Disks.{Disks, cur_of}
 use Rattle.refine.specs.ToDo.{to_do}

@@ -1,34 +1,23 @@
 -- What a write keeps in the work area, as the protocol's write: the work area begins with the stripe's shards, one after the
 -- other, and the sectors that the code makes of them are the sectors of the protocol's record and strips. Assumes nothing.
-use Rattle.std.specs.Prelude.{◌≡◌, Bool, cond, ◌&&◌, ℕ, ◌+◌, ◌*◌, ◌-◌, ◌≤◌, ◌<◌, ◌/◌, ◌%◌, ◌^◌, take, drop}
-use Rattle.std.proofs.Math.Path.{sym, ap, ap₂}
-use Rattle.std.proofs.Common.{◌∙◌, arith, lit<, length-drop, get_or-take, get_or-drop, length-take-le}
-use Rattle.std.proofs.Math.Logic.{⊎_elim}
-use mathlib.Core.List.{List, []}
-use Rattle.std.proofs.Math.Nat.{mod-lt, mod-eq_of_lt, suc-mul, mul-le-mul_right}
-use Rattle.std.proofs.Math.Arith.{digits_div, digits_mod}
+use Rattle.std.specs.Prelude.{◌≡◌, Bool, ◌&&◌, ℕ, ◌+◌, ◌*◌, ◌≤◌, ◌<◌, ◌%◌, ◌^◌, drop}
+use Rattle.std.proofs.Math.Path.{sym, ap}
+use Rattle.std.proofs.Common.{◌∙◌, lit<, get_or-take, get_or-drop}
+use mathlib.Core.List.{List}
+use Rattle.std.proofs.Math.Nat.{mod-lt}
 use Rattle.std.proofs.Math.Dec.{ltb}
 use Rattle.std.proofs.Math.ListN.{length, get_or}
-use Rattle.std.proofs.Math.Seq.{ext_get_or}
-use borrow.Author.Tests.{lt-ltb, le-ltb, eq-eqb}
 use Rattle.disk.specs.Limits.{sector_bytes}
 use Rattle.disk.specs.Geometry.{stripes_of, shard_of}
 use Rattle.disk.specs.Mask.{in_mask, mask_of, mask_lt, mask_below}
-use Rattle.disk.specs.declared.geometry.Found.{Found}
-use Rattle.disk.specs.declared.geometry.Found.TheVariants as spot
-use Rattle.disk.specs.declared.refusal.Outcome.TheVariants as outcome
-use Rattle.record.specs.Log.{part, log_sector, log_answer}
-use Rattle.record.specs.Tail.{tail_sector, tail_answer}
+use Rattle.record.specs.Log.{part}
 use Rattle.record.specs.declared.stamp.Stamp.{Stamp}
-use Rattle.record.specs.declared.tail.Tail.{Tail}
 use Rattle.protocol.specs.Log.{Write}
 use Rattle.codecs.specs.Sector.{Sector, Bytes}
 use Rattle.codecs.specs.Shelf.{Shelf, slots, geometry}
 use Rattle.codecs.specs.Records.{counts, strip_bytes}
 use Rattle.codecs.proofs.Written.{strip_part}
 use Rattle.shards.specs.Parity as Parity
-use Rattle.shelf.specs.Kept.{shard_at, kept_of, part_of, record_sector, logged_answer}
-use Rattle.shelf.specs.Says.{when, unless}
 use Rattle.refine.specs.Told.{mask_ext}
 
 -- ---- definitions

@@ -1,9 +1,9 @@
 -- The labels that the code reads are the labels that the protocol reads. `Rattle.label` finds the newest label of each disk and
 -- of the shelf among the bytes of the image; the protocol finds them among its places. If the shelf's label names this shelf
 -- and every present disk has a label that agrees with it, both find the same. Assumes nothing.
-use Rattle.std.specs.Prelude.{◌≡◌, Bool, ◌&&◌, ◌||◌, ℕ, zero, suc, ◌≤◌, ◌<◌, ◌^◌, ltb, eqb, leb, length, drop}
-use Rattle.std.proofs.Math.Path.{refl, sym, ap, ap₂}
-use Rattle.std.proofs.Common.{◌∙◌, arith, ltb-true, ltb-false, lt-ltb, le-ltb, eq-eqb}
+use Rattle.std.specs.Prelude.{◌≡◌, Bool, ◌&&◌, ℕ, ◌<◌, ◌^◌, ltb, eqb, leb, length, drop}
+use Rattle.std.proofs.Math.Path.{refl, ap}
+use Rattle.std.proofs.Common.{arith, eq-eqb}
 use Rattle.std.proofs.Math.Bool.{true, false, cond}
 use mathlib.Core.List.{List, []}
 use Rattle.disk.specs.Limits.{most_k, most_m, sector_bytes}
@@ -18,10 +18,8 @@ use Rattle.label.specs.Valid.{label_at}
 use Rattle.label.specs.Newest.{shelf_label, same_shelf, agreed}
 use Rattle.label.specs.declared.fields.Label as bytes
 use Rattle.label.specs.declared.codec.Decoded.{Decoded}
-use Rattle.label.specs.declared.codec.Decoded.TheVariants.{Valid, Nothing}
-use Rattle.label.proofs.Fits.{fits_says}
-use Rattle.label.proofs.Counts.{SameShelf, same_says, agreed_says, shelf_says, present_says, disk_says, copy_says, disk_own}
-use Rattle.rounds.specs.Slot.{age_of}
+use Rattle.label.specs.declared.codec.Decoded.TheVariants.{Valid}
+use Rattle.label.proofs.Counts.{SameShelf, shelf_says, present_says, disk_says, copy_says}
 use Rattle.protocol.specs.World.{Image}
 use Rattle.protocol.specs.Label.{Label}
 use Rattle.codecs.specs.Sector.{Sector, Bytes}

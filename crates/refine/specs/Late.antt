@@ -1,41 +1,24 @@
 -- DISKS THAT WERE EXCHANGED AND ARE NOT TOLD OF YET: while no program runs, while a start-up runs that was told that their slots are absent, and at rest where they are out. A call in a world that may hold
 -- less after a cut can be told in the one that may hold more; a cut leaves the old disks as they are read; a start-up that is not refused, and its steps, are told on the old disks; and when it comes to
 -- rest, the exchanges are told, one after the other. Assumes nothing.
-use Rattle.std.specs.Prelude.{◌≡◌, ◌⊎◌, ◌≢◌, Bool, not, ◌&&◌, List, [], ◌∷◌, ℕ, zero, suc, ◌+◌, ◌≤◌, ◌<◌, eqb, length}
-use Rattle.std.proofs.Math.Path.{refl, sym, ap, subst}
-use Rattle.std.proofs.Common.{◌∙◌, ⊎_elim, inl, inr, true≢false, arith, eq-eqb, ne_eqb}
-use Rattle.std.proofs.Math.Bool.{true, false, cond, false≢true}
-use mathlib.Core.List.Memᴰ
-use Rattle.std.proofs.Math.Decide.{ℕ_discrete}
-use Rattle.std.proofs.lemmas.Bool.{eqb-false}
+use Rattle.std.specs.Prelude.{◌≡◌, ◌⊎◌, Bool, not, ◌&&◌, List, ℕ, ◌+◌, ◌<◌, eqb, length}
+use Rattle.std.proofs.Math.Path.{refl, sym, ap}
+use Rattle.std.proofs.Common.{◌∙◌, true≢false, arith}
+use Rattle.std.proofs.Math.Bool.{true, false, false≢true}
 use Rattle.disk.specs.Mask.{in_mask}
 use Rattle.disk.specs.Image.{sector, Shape}
-use Rattle.disk.specs.declared.geometry.Geometry.{Geometry}
-use Rattle.disk.specs.declared.refusal.Refusal.{Refusal}
-use Rattle.disk.specs.declared.refusal.Refusal.TheVariants.{NoLabel, BadBuffer}
 use Rattle.disk.specs.declared.refusal.Outcome.TheVariants.{Done}
-use Rattle.label.specs.declared.fields.Label as bytes
-use Rattle.label.specs.declared.codec.Decoded.TheVariants.{Valid, Nothing}
 use Rattle.redo.specs.Decide.{looked}
-use Rattle.rounds.specs.Survey.{survey_of}
-use Rattle.rounds.specs.declared.plan.Survey.{Survey}
-use Rattle.rounds.specs.declared.plan.Survey.TheVariants as survey
 use Rattle.protocol.specs.World.{World, Possible}
 use Rattle.protocol.specs.Machine.{Machine, View}
 use Rattle.codecs.specs.Sector.{Sector}
 use Rattle.codecs.specs.Shelf.{Shelf, slots, geometry}
 use Rattle.shelf.specs.Act.{Move}
-use Rattle.shelf.specs.Step.{step_move, finished}
-use Rattle.shelf.specs.Laws.{Legal, Agree, step_one, step_blind, step_agrees}
+use Rattle.shelf.specs.Step.{step_move}
 use Rattle.stages.specs.declared.state.State.{State}
-use Rattle.stages.specs.declared.state.Stepped.{Stepped}
 use Rattle.stages.specs.declared.state.Kind.{Kind}
 use Rattle.stages.specs.declared.state.Kind.TheVariants.{Idle, Creating, Starting, Labelling, Writing, Beginning, Filling}
 use Rattle.stages.specs.declared.state.Kind.TheVariants as kind
-use Rattle.stages.specs.declared.state.Answer.TheVariants as answer
-use Rattle.requests.specs.Begun.{work_bytes, accepted, refused}
-use Rattle.requests.specs.Start.{started, by_survey, start_of}
-use Rattle.requests.specs.Step.{other_work, step_with, step_short, step_goes}
 use Rattle.requests.specs.Ready.{is_idle}
 use Rattle.requests.specs.declared.begun.Begun.{Begun}
 use Rattle.blocks.specs.Slots.{too_few}

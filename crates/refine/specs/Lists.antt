@@ -1,12 +1,10 @@
 -- THE LISTS ARE THE PROTOCOL'S: at the beginning of a request, with masks that say what the protocol's tests say and labels
 -- that are the protocol's, what is left to do is the protocol's list of actions. Assumes nothing.
-use Rattle.std.specs.Prelude.{◌≡◌, Bool, true, false, cond, ℕ, ◌+◌, ◌-◌, ◌<◌}
-use Rattle.std.proofs.Math.Path.{refl, sym, ap, ap₂, fun_ext}
-use Rattle.std.proofs.Common.{◌∙◌, arith, lt-ltb}
-use Rattle.std.proofs.Math.Bool.{not}
-use mathlib.Core.List.{List, [], ◌∷◌, ◌++◌}
+use Rattle.std.specs.Prelude.{◌≡◌, Bool, ℕ, ◌-◌, ◌<◌}
+use Rattle.std.proofs.Math.Path.{ap}
+use Rattle.std.proofs.Common.{◌∙◌, arith}
+use mathlib.Core.List.{List, []}
 use Rattle.disk.specs.Mask.{in_mask}
-use Rattle.label.specs.declared.fields.Label as bytes
 use Rattle.protocol.specs.World.{Image, Action}
 use Rattle.protocol.specs.Slots as Slots
 use Rattle.protocol.specs.Slots.{from, keep}
@@ -14,13 +12,7 @@ use Rattle.codecs.specs.Sector.{Sector}
 use Rattle.codecs.specs.Shelf.{Shelf, slots}
 use Rattle.stages.specs.Limits.{most_stages}
 use Rattle.stages.specs.State.{moved}
-use Rattle.stages.specs.Stage.{round_stage, create_stage, stage_at, stage_of}
-use Rattle.shelf.specs.Step.{is_end}
 use Rattle.stages.specs.declared.state.State.{State}
-use Rattle.stages.specs.declared.state.Kind.{Kind}
-use Rattle.stages.specs.declared.state.Kind.TheVariants.{Creating, Labelling}
-use Rattle.stages.specs.declared.stage.Stage.{Stage}
-use Rattle.stages.specs.declared.stage.Stage.TheVariants.{Flush, Give}
 use Rattle.refine.specs.Disks.{cur_of}
 use Rattle.refine.specs.Start.{slots_same}
 use Rattle.refine.specs.ToDo.{slots_from, left_of}

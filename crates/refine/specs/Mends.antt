@@ -7,14 +7,12 @@ use Rattle.std.proofs.Common.{ap, subst, ◌∙◌, inl, arith, lit<, ltb-true, 
 use Rattle.std.proofs.lemmas.Bool.{false≢true}
 use Rattle.code.specs.Stripes.{Repaired}
 use Rattle.code.specs.declared.Verdict.{Verdict}
-use Rattle.code.specs.declared.Verdict.TheVariants as verdict
 use Rattle.disk.specs.Tests.{and_right}
 use Rattle.disk.specs.Limits.{sector_bytes}
 use Rattle.disk.specs.Geometry.{stripes_of}
 use Rattle.disk.specs.Mask.{in_mask, in_past, mask_below}
 use Rattle.disk.specs.declared.geometry.Geometry.{Geometry}
 use Rattle.disk.specs.declared.refusal.Refusal.{Refusal}
-use Rattle.disk.specs.declared.refusal.Refusal.TheVariants.{NotNow}
 use Rattle.disk.specs.declared.refusal.Outcome.{Outcome}
 use Rattle.disk.specs.declared.refusal.Outcome.TheVariants.{Done, Refused}
 use Rattle.label.specs.Fields.{geometry_of}
@@ -33,7 +31,7 @@ use Rattle.strips.specs.Whole.{stripe_seen}
 use Rattle.requests.specs.Begun.{begun, first}
 use Rattle.requests.specs.Ready.{is_idle, ready_of}
 use Rattle.requests.specs.declared.begun.Begun.{Begun}
-use Rattle.blocks.specs.Slots.{missing_at, missing, too_few, none_missing, all_slots, none_lost_lem}
+use Rattle.blocks.specs.Slots.{missing_at, missing, too_few, none_missing, all_slots}
 use Rattle.blocks.specs.Answers.{stripe_answer, first_done, answered_done}
 use Rattle.blocks.specs.Write.{stamp_left}
 use Rattle.blocks.specs.Repair.{may_repair, mend_answer, mended, RepairedOf, Repairs}

@@ -15,7 +15,6 @@ use Rattle.label.specs.Newest.{same_shelf}
 use Rattle.label.specs.declared.fields.Label as bytes
 use Rattle.label.specs.declared.codec.Decoded.TheVariants.{Valid}
 use Rattle.label.proofs.Laws.{decode_says, zeros_nothing}
-use Rattle.label.proofs.Counts.{shelf_says, present_says, disk_says}
 use Rattle.protocol.specs.World.{Place, label, log, strip, slot, Image, update, update_cases, World, Action, put, flush, Sane, Always, always_put, always_flush}
 use Rattle.protocol.specs.Slots.{from}
 use Rattle.protocol.specs.Batch.{puts, flushes, Batch, actions, Each}

@@ -1,17 +1,14 @@
 -- GOING ON WITH A REBUILD, accepted at rest: it can be carried out, what the program remembers beside it is what it remembers of that
 -- request, and the program accepts it too. Where the mark is T already, it has no strips: a flush, and then the label. Assumes nothing.
-use Rattle.std.specs.Prelude.{◌≡◌, Bool, ◌&&◌, ◌||◌, ℕ, zero, suc, ◌+◌, ◌-◌, ◌*◌, ◌/◌, ◌%◌, ◌≤◌, ◌<◌, ◌^◌, max, eqb}
-use Rattle.std.proofs.Math.Path.{refl, ap, ap₂, fun_ext}
-use Rattle.std.proofs.Common.{sym, subst, ◌∙◌, inl, true≢false, arith}
+use Rattle.std.specs.Prelude.{◌≡◌, Bool, ◌&&◌, ℕ, ◌+◌, ◌<◌, ◌^◌, eqb}
+use Rattle.std.proofs.Math.Path.{refl, ap}
+use Rattle.std.proofs.Common.{sym, ◌∙◌, arith}
 use Rattle.std.proofs.Math.Bool.{true, false, cond, not}
-use mathlib.Core.List.{List, [], ◌∷◌, ◌++◌}
-use Rattle.std.proofs.Math.Nat.{mul_assoc, max-le, le-max_left}
+use mathlib.Core.List.{List, ◌++◌}
 use Rattle.std.proofs.Math.Dec.{leb, ltb}
-use Rattle.std.proofs.Math.Arith.{bin_ind}
-use Rattle.std.specs.Int.Bits.{bit_or, or_step}
-use Rattle.std.specs.Int.Count.{ones, ones_in, ones_step}
+use Rattle.std.specs.Int.Count.{ones, ones_in}
 use Rattle.std.proofs.Math.ListN.{length}
-use borrow.Author.Tests.{lt-ltb, le-leb, eq-eqb, ne_eqb, eqb-true, ltb-false, not-true}
+use borrow.Author.Tests.{lt-ltb, le-leb, eq-eqb, ne_eqb, eqb-true}
 use Rattle.disk.specs.Limits.{most_k, most_m}
 use Rattle.disk.specs.Tests.{and_left, and_right, both}
 use Rattle.disk.specs.Geometry.{in_range_with, stripes_of}
@@ -21,7 +18,6 @@ use Rattle.disk.specs.declared.refusal.Outcome.TheVariants.{Done}
 use Rattle.label.specs.Fields.{no_slot, most_generation, geometry_of, rebuild_fits, fits_of}
 use Rattle.label.specs.declared.fields.Label as bytes
 use Rattle.label.proofs.Fits.{Fits, fits_says}
-use Rattle.label.proofs.Counts.{same_says}
 use Rattle.label.specs.Newest.{same_shelf}
 use Rattle.protocol.specs.Label.{Label, looked, round}
 use Rattle.protocol.specs.Host.{rebuilt}
@@ -35,18 +31,15 @@ use Rattle.codecs.proofs.Labels.{labels}
 use Rattle.codecs.proofs.Records.{records}
 use Rattle.codecs.specs.Media.{stamps}
 use Rattle.shards.proofs.Even.{any_code, any_sectors}
-use Rattle.stages.specs.Limits.{most_stages}
 use Rattle.shelf.specs.Act.{named}
-use Rattle.shelf.specs.Step.{sound}
-use Rattle.shelf.specs.Says.{when, unless}
+use Rattle.shelf.specs.Says.{unless}
 use Rattle.stages.specs.declared.state.State.{State}
 use Rattle.stages.specs.declared.state.Kind.{Kind}
-use Rattle.requests.specs.Begun.{work_bytes, slots_but}
+use Rattle.requests.specs.Begun.{work_bytes}
 use Rattle.requests.specs.Ready.{is_idle, ready_of}
 use Rattle.requests.specs.TakeOut.{next_label}
-use Rattle.rebuilds.specs.Judge.{too_few, last_one, sized, Passed, judged_done, first_done, one_more}
-use Rattle.rebuilds.specs.Begin.{only}
-use Rattle.rebuilds.specs.On.{cannot_go_on, asked_on, on_answer, at_least_one, last_batch, strips_on, on_label, first_stage, went_on, on_of, GoesOn, on_done, mark_fits, strips_within}
+use Rattle.rebuilds.specs.Judge.{too_few, sized, Passed, judged_done, first_done, one_more}
+use Rattle.rebuilds.specs.On.{cannot_go_on, asked_on, on_answer, at_least_one, last_batch, on_label, went_on, GoesOn, on_done, mark_fits}
 use Rattle.refine.specs.Disks.{Disks, seen_of}
 use Rattle.refine.specs.Given.{shelf_geometry}
 use Rattle.refine.specs.Steps.{Tells}

@@ -1,12 +1,10 @@
 -- OTHER NUMBERS THAN THE SHELF'S OWN, on disks whose labels are all this shelf's. Start-up with another n, c or S is refused: BAD_IMAGE if the image is not of that length, else NO_LABEL (TOO_FEW if it
 -- is told that every slot is absent); create is refused where the image is not zeros. Of start-up one thing is asked: if it is told another S, it is not told too that slot 0 is absent. Every other slot
 -- begins elsewhere then, where any bytes may stand, also bytes that read as labels. Assumes nothing.
-use Rattle.std.specs.Prelude.{◌≡◌, ◌⊎◌, Bool, cond, ◌&&◌, List, [], ℕ, zero, suc, ◌+◌, ◌*◌, ◌<◌, ◌/◌, eqb, take, drop}
-use Rattle.std.proofs.Math.Path.{refl, sym, ap, ap₂}
-use Rattle.std.proofs.Common.{◌∙◌, inl, inr, ⊎_elim, true≢false, arith, lt-ltb, eqb-true}
+use Rattle.std.specs.Prelude.{◌≡◌, ◌⊎◌, Bool, cond, List, ℕ, ◌+◌, eqb}
+use Rattle.std.proofs.Math.Path.{refl, ap}
+use Rattle.std.proofs.Common.{inl, inr, eqb-true}
 use Rattle.std.proofs.Math.Bool.{true, false}
-use Rattle.std.proofs.Math.Arith.{digits_div}
-use Rattle.std.proofs.Math.Dec.{ltb}
 use Rattle.std.proofs.Math.ListN.{length}
 use Rattle.std.proofs.lemmas.Bool.{eqb-false}
 use Rattle.disk.specs.Mask.{in_mask}
@@ -17,11 +15,7 @@ use Rattle.disk.specs.declared.refusal.Refusal.TheVariants.{BadImage, NoLabel, T
 use Rattle.disk.specs.declared.refusal.Outcome.TheVariants.{Done, Refused}
 use Rattle.label.specs.Bytes.{all_zero}
 use Rattle.label.specs.Newest.{all_of}
-use Rattle.label.specs.declared.fields.Label.{Label}
-use Rattle.label.specs.declared.codec.Decoded.{Decoded}
-use Rattle.label.specs.declared.codec.Decoded.TheVariants.{Valid, Nothing}
-use Rattle.label.proofs.Counts.{all_at, all_not, disk_says, shelf_says, present_says, agreed_says}
-use Rattle.rounds.specs.Survey.{fits_shelf, labelled, table, unless, survey_of}
+use Rattle.rounds.specs.Survey.{unless}
 use Rattle.rounds.specs.declared.plan.Survey.{Survey}
 use Rattle.rounds.specs.declared.plan.Survey.TheVariants as survey
 use Rattle.requests.specs.Begun.{work_bytes}

@@ -1,14 +1,10 @@
 -- Where the protocol's places lie on a disk (document 03, section 1; docs/LOG.md): the two labels in sectors 0 and 1, the log
 -- record from sector 2 on, its tail last, and the strips behind the log area. The places that a shelf has lie within the disk,
 -- and no two of them in one sector. Assumes nothing.
-use Rattle.std.specs.Prelude.{◌≡◌, Bool, cond, ◌&&◌, ℕ, ◌+◌, ◌*◌, ◌≤◌, ◌<◌, ◌/◌, ◌%◌, leb}
-use Rattle.std.proofs.Math.Path.{refl, sym, ap, ap₂}
-use Rattle.std.proofs.Common.{◌∙◌}
-use Rattle.std.proofs.Math.Bool.{true, false}
-use native.Mathlib.Omega.{arith}
-use Rattle.std.proofs.Math.Arith.{digits_div, digits_mod}
+use Rattle.std.specs.Prelude.{◌≡◌, Bool, cond, ◌&&◌, ℕ, ◌+◌, ◌≤◌, ◌<◌, leb}
+use Rattle.std.proofs.Math.Bool.{true}
 use Rattle.std.proofs.Math.Dec.{ltb}
-use borrow.Author.Tests.{ltb-true, lt-ltb, leb-true, le-leb}
+use borrow.Author.Tests.{ltb-true, lt-ltb, le-leb}
 use Rattle.disk.specs.Limits.{first_log}
 use Rattle.disk.specs.Tests.{and_left, both}
 use Rattle.disk.specs.Geometry.{stripes_of, strip_of}

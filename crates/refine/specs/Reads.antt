@@ -1,17 +1,13 @@
 -- WHAT A READ SHOWS, at any moment of a chain of calls with writes, is the entry of the host's view. In the words of read's contract.
 -- Assumes nothing.
-use Rattle.std.specs.Prelude.{◌≡◌, ◌&&◌, eqb, leb, ltb}
-use Rattle.std.proofs.Math.Path.{refl, sym, ap, ap₂, subst, fun_ext}
-use Rattle.std.proofs.Common.{◌∙◌, inl, inr, mod-eq_of_lt, mul_assoc, lit<, lt-ltb, le-ltb, le-leb, leb-true, eq-eqb, ne_eqb, eqb-true}
-use Rattle.std.proofs.Math.Logic.{⊎_elim}
-use Rattle.std.proofs.Math.Bool.{Bool, true, false, cond, not}
-use Rattle.std.proofs.lemmas.Bool.{false≢true, eqb-false}
-use mathlib.Core.List.{List, [], ◌∷◌}
-use Prim.Native.Nat.{ℕ, ◌+◌, ◌-◌, ◌*◌, ◌≤◌, ◌<◌, ◌/◌, ◌%◌}
-use Rattle.std.proofs.Math.Nat.{mod-lt, suc-mul, mul-le-mul_right}
+use Rattle.std.specs.Prelude.{◌≡◌, ◌&&◌, ltb}
+use Rattle.std.proofs.Math.Path.{sym, subst}
+use Rattle.std.proofs.Common.{lt-ltb}
+use Rattle.std.proofs.Math.Bool.{Bool, true}
+use mathlib.Core.List.{List}
+use Prim.Native.Nat.{ℕ, ◌<◌, ◌/◌, ◌%◌}
 use native.Mathlib.Omega.{arith}
-use Rattle.std.proofs.Math.ListN.{length, get_or}
-use Rattle.std.proofs.Math.Seq.{get_or-take}
+use Rattle.std.proofs.Math.ListN.{length}
 use Rattle.disk.specs.Tests.{both}
 use Rattle.disk.specs.Geometry.{stripes_of, block_inside}
 use Rattle.disk.specs.Mask.{in_mask}
@@ -21,7 +17,6 @@ use Rattle.label.specs.Fields.{geometry_of}
 use Rattle.label.specs.declared.fields.Label as bytes
 use Rattle.label.proofs.Fits.{fits_says}
 use Rattle.label.proofs.Counts.{same_says}
-use Rattle.position.specs.Row.{listed}
 use Rattle.protocol.specs.World.{strip, Image, World}
 use Rattle.protocol.specs.Label as Label
 use Rattle.protocol.specs.Log.{Write}
@@ -31,15 +26,10 @@ use Rattle.codecs.specs.Sector.{Sector}
 use Rattle.codecs.specs.Shelf.{Shelf, slots, geometry, size}
 use Rattle.codecs.specs.Labels.{fields_of, no_label, label_of, ours}
 use Rattle.codecs.specs.Records.{strip_bytes}
-use Rattle.strips.specs.Seen.{shown_byte, shard_shown}
-use Rattle.blocks.specs.Slots.{too_few}
-use Rattle.blocks.specs.Answers.{serves, look_answer, sizes, block_answer, first_done, answered_done}
-use Rattle.blocks.specs.Read.{laid_by, laid_over, block_shown, half_of, shown_of, read_answer, after_read, Shows, read_done, shows_block}
-use Rattle.stages.specs.Limits.{most_stages}
-use Rattle.stages.specs.Stage.{write_stage}
+use Rattle.blocks.specs.Read.{laid_by, shown_of, read_answer, Shows}
 use Rattle.stages.specs.declared.state.State.{State}
 use Rattle.stages.specs.declared.state.Kind.{Kind}
-use Rattle.stages.specs.declared.state.Kind.TheVariants.{Nothing, Idle, Creating, Starting, Labelling, Writing, Beginning, Filling}
+use Rattle.stages.specs.declared.state.Kind.TheVariants.{Writing}
 use Rattle.refine.specs.Given.{shelf_geometry}
 use Rattle.refine.specs.Family.{Family}
 use Rattle.refine.specs.Disks.{Disks, cur_of, seen_of}

@@ -2,29 +2,22 @@
 -- stamp, whether its write is whole, and who is written or wiped; where no tail that is looked at is garbage. In a world that the
 -- protocol keeps none is (`logs_fair`). Assumes nothing.
 use Rattle.std.specs.Prelude.{◌≡◌, ◌&&◌, ◌||◌}
-use Rattle.std.proofs.Math.Path.{refl, sym, ap, ap₂, fun_ext}
-use Rattle.std.proofs.Common.{◌∙◌, subst, true≢false, mod-eq_of_lt, arith, lit<}
+use Rattle.std.proofs.Math.Path.{ap, fun_ext}
 use Rattle.std.proofs.Math.Logic.{⊎_elim}
-use Rattle.std.proofs.Math.Bool.{Bool, true, false, cond, not}
-use mathlib.Core.List.{List, []}
-use Prim.Native.Nat.{ℕ, zero, suc, ◌≤◌, ◌<◌, ◌/◌}
-use Rattle.std.proofs.Math.Dec.{ltb, eqb}
-use borrow.Author.Tests.{eq-eqb, eqb-true, lt-ltb, le-ltb}
+use Rattle.std.proofs.Math.Bool.{Bool, true, false, not}
+use mathlib.Core.List.{List}
+use Prim.Native.Nat.{ℕ, ◌≤◌, ◌<◌}
+use Rattle.std.proofs.Math.Dec.{ltb}
+use borrow.Author.Tests.{le-ltb}
 use Rattle.disk.specs.Image.{lt_or_ge}
 use Rattle.disk.specs.Mask.{in_mask}
 use Rattle.disk.specs.Geometry.{stripes_of}
 use Rattle.label.specs.declared.fields.Label as bytes
-use Rattle.record.specs.Stamp.{stamp_at, zero_stamp, same_stamp, later_of, StampFits, same_true, same_refl}
+use Rattle.record.specs.Stamp.{stamp_at, zero_stamp}
 use Rattle.record.specs.Tail.{tail_at, may_be}
-use Rattle.record.specs.Log.{part, area_of, restore_of}
 use Rattle.record.specs.declared.stamp.Stamp.{Stamp}
 use Rattle.record.specs.declared.tail.Tail.{Tail}
-use Rattle.rounds.specs.Survey.{next_of}
-use Rattle.redo.specs.Decide.{plainly_out, looked, believed, log_at, no_stamp, key_of, leader_of, lead_of, involved, complete_with, whole_of, marked, settled, decided, redo_of}
-use Rattle.redo.specs.Laws.{looked_below, believed_looked, key_is}
-use Rattle.redo.specs.Complete.{area_sector, complete_stamps, stamps_complete, involved_looked, whole_says, says_whole}
-use Rattle.redo.specs.declared.Redo as declared
-use Rattle.redo.specs.declared.Redo.TheVariants.{Nothing, Forward, Kill}
+use Rattle.redo.specs.Decide.{plainly_out, looked, believed, log_at, key_of, lead_of}
 use Rattle.protocol.specs.World.{label, log, strip, Image}
 use Rattle.protocol.specs.Log.{RecordCodec, Belief}
 use Rattle.protocol.specs.Label.{belief}

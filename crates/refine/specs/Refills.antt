@@ -1,12 +1,10 @@
 -- A REBUILD UNDER WAY, beside the protocol's machine: an accepted one begins where the machine is at rest; each of its steps is the machine's,
 -- and leaves it under way or at rest. Assumes nothing.
-use Rattle.std.specs.Prelude.{◌≡◌, refl, ◌⊎◌, true, false, ℕ, ◌*◌, ◌≤◌, ◌<◌, length}
-use Rattle.std.proofs.Common.{sym, ap, ◌∙◌, inl, inr, ⊎_elim}
+use Rattle.std.specs.Prelude.{◌≡◌, true, false, ℕ, ◌<◌}
+use Rattle.std.proofs.Common.{sym}
 use Rattle.std.proofs.Math.Path.{subst}
-use mathlib.Core.List.Memᴰ
 use mathlib.Core.List.{List, [], ◌∷◌}
 use Rattle.disk.specs.Mask.{in_mask}
-use Rattle.disk.specs.declared.refusal.Outcome.TheVariants.{Done}
 use Rattle.label.specs.Fields.{no_slot}
 use Rattle.label.specs.declared.fields.Label as bytes
 use Rattle.protocol.specs.World.{Image, World, Action, Always}
@@ -17,11 +15,8 @@ use Rattle.protocol.specs.Even.{program_by}
 use Rattle.codecs.specs.Sector.{Sector}
 use Rattle.codecs.specs.Shelf.{Shelf, slots, size}
 use Rattle.codecs.specs.Labels.{label_of, ours}
-use Rattle.shelf.specs.Act.{Move}
-use Rattle.shelf.specs.Step.{finished, step_move}
 use Rattle.stages.specs.declared.state.State.{State}
-use Rattle.stages.specs.declared.state.Kind.TheVariants.{Idle, Filling}
-use Rattle.rebuilds.specs.On.{on_answer, went_on, on_of}
+use Rattle.stages.specs.declared.state.Kind.TheVariants.{Filling}
 use Rattle.refine.specs.Family.{Family}
 use Rattle.refine.specs.Disks.{Disks, cur_of}
 use Rattle.refine.specs.ToDo.{to_do}

@@ -1,12 +1,11 @@
 -- Start-up's refusals that are made before there is a label to go by: a present disk without any label, and no disk at all. (The
 -- other refusals: `start_is` in Rounds.) One refusal is the code's alone, and changes nothing: a disk whose newest label is of
 -- another shelf, which the protocol, to which such a copy is no label, may take for the older copy beside it. Assumes nothing.
-use Rattle.std.specs.Prelude.{◌≡◌, ◌&&◌, ◌||◌, List, ltb}
+use Rattle.std.specs.Prelude.{◌≡◌, List}
 use Rattle.std.proofs.Math.Path.{refl, sym, ap}
-use Rattle.std.proofs.Common.{ap₂, ◌∙◌, lt-ltb}
-use Rattle.std.proofs.Math.Bool.{Bool, true, false, cond, or-true}
-use Prim.Native.Nat.{ℕ, zero, suc, ◌<◌}
-use native.Mathlib.Omega.{arith}
+use Rattle.std.proofs.Common.{◌∙◌}
+use Rattle.std.proofs.Math.Bool.{Bool, false, cond}
+use Prim.Native.Nat.{ℕ, ◌<◌}
 use Rattle.disk.specs.Mask.{in_mask}
 use Rattle.label.specs.Newest.{newest_of, disk_label, present_label, shelf_label}
 use Rattle.label.specs.declared.codec.Decoded.{Decoded}

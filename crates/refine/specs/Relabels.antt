@@ -1,10 +1,10 @@
 -- A request that ends with a label, whatever it does before: begin, and the rebuild. What is left of it, stage by stage, is begin's
 -- list; and each step is the protocol's, whatever the program knew before the request. Assumes nothing.
-use Rattle.std.specs.Prelude.{◌≡◌, ◌⊎◌, Bool, true, false, not, ◌&&◌, ℕ, zero, suc, ◌+◌, ◌≤◌, ◌<◌, eqb}
+use Rattle.std.specs.Prelude.{◌≡◌, ◌⊎◌, Bool, ◌&&◌, ℕ, zero, suc, ◌+◌, ◌≤◌, ◌<◌, eqb}
 use Rattle.std.proofs.Math.Path.{refl, ap}
-use Rattle.std.proofs.Common.{sym, ap₂, subst, ◌∙◌, inl, inr, ⊎_elim, eq-or-lt_of_le, arith, eq-eqb, ne_eqb}
+use Rattle.std.proofs.Common.{ap₂, ◌∙◌, ⊎_elim, eq-or-lt_of_le, arith, eq-eqb, ne_eqb}
 use Rattle.std.proofs.Math.Bool.{cond}
-use mathlib.Core.List.{List, [], ◌∷◌, ◌++◌, append-nil}
+use mathlib.Core.List.{List, [], ◌∷◌, ◌++◌}
 use Rattle.label.specs.declared.fields.Label as bytes
 use Rattle.protocol.specs.World.{World, Action}
 use Rattle.protocol.specs.Batch.{puts, flushes}
@@ -14,16 +14,11 @@ use Rattle.protocol.specs.Machine.{effect}
 use Rattle.codecs.specs.Sector.{Sector}
 use Rattle.codecs.proofs.Sector.{zeros}
 use Rattle.codecs.specs.Shelf.{Shelf, slots}
-use Rattle.stages.specs.Limits.{most_stages}
-use Rattle.stages.specs.State.{moved}
-use Rattle.stages.specs.Stage.{round_stage, last_stage, begin_stage, stage_at, stage_of}
 use Rattle.shelf.specs.Act.{Move}
-use Rattle.shelf.specs.Step.{is_end, finished, sound, step_move}
+use Rattle.shelf.specs.Step.{finished}
 use Rattle.stages.specs.declared.state.State.{State}
-use Rattle.stages.specs.declared.state.Kind.{Kind}
 use Rattle.stages.specs.declared.state.Kind.TheVariants.{Beginning}
 use Rattle.stages.specs.declared.stage.Stage.{Stage}
-use Rattle.stages.specs.declared.stage.Stage.TheVariants.{Flush, Give, Clear, Erase}
 use Rattle.refine.specs.Disks.{cur_of}
 use Rattle.refine.specs.Lists.{Says, slots_are}
 use Rattle.refine.specs.ToDo.{slots_from, told_at, copy_at, given, under_of, acts_of, to_do}

@@ -2,25 +2,16 @@
 -- the write of the accused shard, mended, that it makes, and it can be carried out. Whatever the strips hold: nothing is asked of them, nor
 -- of the host's list. And one that is refused is refused by the program too, with the same code for BAD_BLOCK and NOT_NOW, but for what the code alone looks at. In the
 -- words of repair's contract. Assumes nothing.
-use Rattle.std.specs.Prelude.{◌≡◌, Bool, cond, ◌&&◌, ◌||◌, ℕ, suc, ◌+◌, ◌-◌, ◌*◌, ◌≤◌, ◌<◌, take}
-use Rattle.std.proofs.Math.Path.{refl, sym, ap, ap₂, subst}
-use Rattle.std.proofs.Common.{◌∙◌, inl, arith, lit<, pow_pos, get_or-take}
-use Rattle.std.proofs.Math.Logic.{⊎_elim}
+use Rattle.std.specs.Prelude.{◌≡◌, Bool, cond, ◌&&◌, ◌||◌, ℕ, suc, ◌+◌, ◌*◌, ◌<◌, take}
+use Rattle.std.proofs.Math.Path.{refl, sym}
+use Rattle.std.proofs.Common.{◌∙◌}
 use Rattle.std.proofs.Math.Bool.{true, false, not}
-use Rattle.std.proofs.lemmas.Bool.{false≢true}
-use mathlib.Core.List.{List, [], ◌∷◌, ◌++◌}
-use Rattle.std.proofs.Math.Nat.{suc-mul, mul_assoc, mul-le-mul_right}
-use Rattle.std.proofs.Math.Decide.{ℕ_discrete}
-use Rattle.std.proofs.Math.Dec.{eqb, ltb}
-use Rattle.std.specs.Int.Count.{ones}
-use Rattle.std.proofs.Math.ListN.{length, get_or, drop, length-append, length-drop}
-use borrow.Author.Tests.{lt-ltb, le-ltb, ltb-true, ltb-false, eq-eqb, ne_eqb, eqb-true, not-true}
-use Rattle.code.specs.Stripes.{Repaired}
+use mathlib.Core.List.{List, [], ◌∷◌}
+use Rattle.std.proofs.Math.Dec.{ltb}
 use Rattle.code.specs.declared.Verdict.{Verdict}
 use Rattle.code.specs.declared.Verdict.TheVariants as verdict
 use Rattle.disk.specs.Geometry.{stripes_of}
 use Rattle.disk.specs.Mask.{in_mask}
-use Rattle.disk.specs.declared.geometry.Geometry.{Geometry}
 use Rattle.disk.specs.declared.refusal.Refusal.{Refusal}
 use Rattle.disk.specs.declared.refusal.Refusal.TheVariants as why
 use Rattle.disk.specs.declared.refusal.Outcome.{Outcome}
@@ -28,7 +19,6 @@ use Rattle.disk.specs.declared.refusal.Outcome.TheVariants.{Done, Refused}
 use Rattle.label.specs.Fields.{geometry_of, fits_of}
 use Rattle.label.specs.Newest.{all_of}
 use Rattle.label.specs.declared.fields.Label as bytes
-use Rattle.label.proofs.Counts.{SameShelf, same_says}
 use Rattle.protocol.specs.World.{Image}
 use Rattle.protocol.specs.Log.{Write}
 use Rattle.protocol.specs.Label as Label
@@ -45,18 +35,15 @@ use Rattle.codecs.specs.Records.{counts}
 use Rattle.codecs.proofs.Records.{records}
 use Rattle.codecs.specs.Media.{stamps}
 use Rattle.shards.proofs.Even.{any_code, any_sectors}
-use Rattle.strips.specs.Whole.{stripe_seen}
 use Rattle.requests.specs.Begun.{begun}
 use Rattle.requests.specs.Begun as requests
-use Rattle.requests.specs.Ready.{is_idle, has_shelf, holding, ready_of}
+use Rattle.requests.specs.Ready.{is_idle, holding}
 use Rattle.requests.specs.declared.begun.Begun.{Begun}
-use Rattle.blocks.specs.Slots.{missing_at, missing, too_few, none_missing, all_slots, none_lost_lem}
-use Rattle.blocks.specs.Answers.{answered, stripe_answer, sized_of, never, sized_half}
-use Rattle.blocks.specs.Write.{most_count, stamp_left}
-use Rattle.blocks.specs.Repair.{may_repair, mend_answer, sized_answer, stripe_bytes, mending, mended, leaves, Repairs, MayMend, may_done, repair_accuses, repair_half}
+use Rattle.blocks.specs.Slots.{none_missing}
+use Rattle.blocks.specs.Answers.{never}
+use Rattle.blocks.specs.Write.{stamp_left}
+use Rattle.blocks.specs.Repair.{may_repair, stripe_bytes, mending, Repairs, repair_accuses}
 use Rattle.stages.specs.declared.state.State.{State}
-use Rattle.stages.specs.declared.state.Kind.{Kind}
-use Rattle.stages.specs.declared.state.Kind.TheVariants.{Nothing, Idle, Creating, Starting, Labelling, Writing, Beginning, Filling}
 use Rattle.refine.specs.Disks.{Disks, cur_of, seen_of}
 use Rattle.refine.specs.Tied.{own_of, program_of}
 use Rattle.refine.specs.Mends.{Whole, may_whole, asked_refused, stripe_inside, none_missing_lem, all_believe}

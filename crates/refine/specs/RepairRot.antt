@@ -1,13 +1,9 @@
 -- A REPAIR WHILE STRIPS ROT, for k > m: what the protocol promises then (`rot_promise`) it promises of the code's repair. At rest, with at
 -- most one strip of a stripe rotten: an accepted repair leaves the host's list as it is, so does each of its steps, and when one answers Done,
 -- as it does in the end, nothing of the stripe is rotten any more. Meanwhile nothing else rots here. Assumes nothing.
-use Rattle.std.specs.Prelude.{◌≡◌, ◌⊎◌, Bool, true, false, cond, not, ◌&&◌, ℕ, ◌-◌, ◌<◌, eqb, ltb}
-use Rattle.std.proofs.Math.Path.{refl, ap}
-use Rattle.std.proofs.Common.{sym, subst, ◌∙◌, ⊎_elim, arith, eq-eqb}
-use Rattle.std.proofs.Math.Logic.{inl, inr}
-use mathlib.Core.List.{List, [], ◌∷◌}
-use Rattle.disk.specs.declared.refusal.Outcome.TheVariants as outcome
-use Rattle.label.specs.declared.fields.Label as bytes
+use Rattle.std.specs.Prelude.{◌≡◌, ◌⊎◌, ℕ, ◌<◌}
+use Rattle.std.proofs.Common.{sym, subst, ◌∙◌}
+use mathlib.Core.List.{List}
 use Rattle.protocol.specs.World.{Image, World, Action}
 use Rattle.protocol.specs.Log.{Write}
 use Rattle.protocol.specs.Label.{belief}
@@ -28,12 +24,8 @@ use Rattle.shards.proofs.CodeLaws.{code}
 use Rattle.shards.proofs.Promise.{sectors}
 use Rattle.shards.proofs.Even.{same_program}
 use Rattle.shelf.specs.Act.{Move}
-use Rattle.shelf.specs.Step.{finished, step_move}
-use Rattle.requests.specs.declared.begun.Begun.{Begun}
-use Rattle.blocks.specs.Repair.{Repairs, repair_accuses}
-use Rattle.stages.specs.Limits.{most_stages}
+use Rattle.shelf.specs.Step.{step_move}
 use Rattle.stages.specs.declared.state.State.{State}
-use Rattle.stages.specs.declared.state.Kind.{Kind}
 use Rattle.stages.specs.declared.state.Answer.TheVariants as answer
 use Rattle.refine.specs.Disks.{cur_of}
 use Rattle.refine.specs.Tied.{own_of, own_before, memory_with, Same, program_of}

@@ -3,43 +3,13 @@
 -- there still. And so it is at rest, with a slot that is out but not called absent: every request that would change something is refused then, until the shelf is started anew, and reads do not look at the slot.
 -- So the host's view goes on as without the exchange, and every read shows it. Nothing else is asked of the caller than in Hosts, but that create is not called on an image of zeros any more; and of the sets
 -- of slots that are left out the same is asked as without exchanges (Since): from one moment of rest to the next any two leave a slot out in common; for k > m nothing. Assumes nothing.
-use Rattle.std.specs.Prelude.{◌≡◌, ◌⊎◌, ◌≢◌, Bool, true, false, cond, not, ◌||◌, ℕ, ◌+◌, ◌<◌, ◌/◌, ◌%◌, eqb}
-use Rattle.std.proofs.Math.Path.{refl, sym, ap, subst, fun_ext}
-use Rattle.std.proofs.Common.{◌∙◌, inl, inr, true≢false, arith, eq-eqb, ne_eqb, eqb-true}
-use Rattle.std.proofs.Math.Logic.{⊎_elim}
-use Rattle.std.proofs.lemmas.Bool.{false≢true, eqb-false}
-use mathlib.Core.List.Memᴰ
-use mathlib.Core.List.{List, [], ◌∷◌, Memᴰ, ◌++◌}
-use Rattle.std.proofs.Math.Decide.{ℕ_discrete}
-use Rattle.std.proofs.Math.ListN.{length}
-use Rattle.disk.specs.declared.geometry.Geometry.{Geometry}
-use Rattle.disk.specs.declared.refusal.Refusal.TheVariants.{NotNow}
-use Rattle.disk.specs.declared.refusal.Outcome.{Outcome}
-use Rattle.disk.specs.declared.refusal.Outcome.TheVariants.{Done, Refused}
-use Rattle.label.specs.declared.codec.Decoded.TheVariants.{Valid, Nothing}
-use Rattle.redo.specs.Decide.{looked}
+use Rattle.std.specs.Prelude.{Bool, ◌||◌, ℕ, eqb}
+use mathlib.Core.List.{List}
 use Rattle.protocol.specs.World.{Possible, World}
 use Rattle.protocol.specs.Machine.{Machine, View}
 use Rattle.codecs.specs.Sector.{Sector}
 use Rattle.codecs.specs.Shelf.{Shelf}
-use Rattle.shelf.specs.Act.{Move, named}
 use Rattle.stages.specs.declared.state.State.{State}
-use Rattle.stages.specs.declared.state.Kind.{Kind}
-use Rattle.stages.specs.declared.state.Kind.TheVariants.{Idle}
-use Rattle.stages.specs.declared.state.Answer.TheVariants as answer
-use Rattle.requests.specs.Begun.{begun}
-use Rattle.requests.specs.Create.{created}
-use Rattle.requests.specs.TakeOut.{take_answer, took_out}
-use Rattle.requests.specs.Step.{step_with}
-use Rattle.requests.specs.Accepted.{take_done}
-use Rattle.requests.specs.Ready.{is_idle, ready_of}
-use Rattle.requests.specs.Known.{ready_labels}
-use Rattle.rebuilds.specs.Begin.{begin_answer, began}
-use Rattle.rebuilds.specs.On.{on_answer, went_on}
-use Rattle.blocks.specs.Answers.{first_done}
-use Rattle.blocks.specs.Read.{read_answer, Shows, after_read, shown_of, laid_by, read_done}
-use Rattle.blocks.specs.Write.{write_answer, AfterWrite}
-use Rattle.blocks.specs.Repair.{may_repair, repair_refused}
 use Rattle.refine.specs.Family.{Family}
 use Rattle.refine.specs.Disks.{Disks, cur_of}
 use Rattle.refine.specs.Merged.{slot_from}

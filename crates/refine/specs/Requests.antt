@@ -1,11 +1,10 @@
 -- THE REQUESTS OF THE CODE begin with states in order, beside which the protocol's program remembers that same request: create and
 -- taking a slot out; and a step of theirs is the program's. Assumes nothing.
-use Rattle.std.specs.Prelude.{◌≡◌, refl, Bool, cond, not, ◌&&◌, ◌||◌, List, [], eqb, length}
-use Rattle.std.proofs.Common.{sym, ap, ap₂, subst, ◌∙◌, add-one, arith, eq-eqb, ne_eqb, eqb-true, lt-ltb}
+use Rattle.std.specs.Prelude.{◌≡◌, refl, Bool, cond, not, ◌&&◌, ◌||◌, List, eqb}
+use Rattle.std.proofs.Common.{sym, ap, ◌∙◌, add-one, arith, eq-eqb, ne_eqb, eqb-true, lt-ltb}
 use Rattle.std.proofs.Math.Path.{fun_ext}
 use Rattle.std.proofs.Math.Bool.{true, false}
 use Prim.Native.Nat.{ℕ, suc, ◌+◌, ◌<◌}
-use Rattle.std.proofs.lemmas.Bool.{not-true}
 use Rattle.disk.specs.Tests.{both}
 use Rattle.disk.specs.Mask.{in_mask, with_slot, in_with}
 use Rattle.disk.specs.declared.geometry.Geometry.{Geometry}
@@ -17,14 +16,11 @@ use Rattle.label.specs.declared.fields.Label as bytes
 use Rattle.protocol.specs.Request as protocol
 use Rattle.codecs.specs.Shelf.{Shelf, slots, few_slots}
 use Rattle.codecs.specs.Labels.{slot_meant, ours, label_of}
-use Rattle.shelf.specs.Step.{step_move}
 use Rattle.stages.specs.declared.state.State.{State}
-use Rattle.requests.specs.Begun.{work_bytes, begun, slots_but}
-use Rattle.requests.specs.Step.{other_work, step_with, step_goes}
+use Rattle.requests.specs.Begun.{begun, slots_but}
 use Rattle.requests.specs.Slots as Slots
-use Rattle.requests.specs.Create.{create_answer, created, create_of}
-use Rattle.requests.specs.TakeOut.{next_label, outed, take_answer, took_out, take_out_of}
-use Rattle.requests.specs.Accepted.{Steps, create_steps, out_steps, take_done}
+use Rattle.requests.specs.Create.{created}
+use Rattle.requests.specs.TakeOut.{next_label, outed}
 use Rattle.refine.specs.Disks.{Disks}
 use Rattle.refine.specs.Given.{shelf_geometry}
 use Rattle.refine.specs.Lists.{Says}

@@ -1,8 +1,8 @@
 -- The strip's sector that the code takes from the record in the image is the piece that the protocol takes from its places.
 -- Assumes nothing.
-use Rattle.std.specs.Prelude.{◌≡◌, Bool, ℕ, ◌+◌, ◌*◌, ◌≤◌, ◌<◌, ltb, replicate, take, drop}
-use Rattle.std.proofs.Math.Path.{sym, ap, ap₂}
-use Rattle.std.proofs.Common.{◌∙◌, mod-eq_of_lt, arith}
+use Rattle.std.specs.Prelude.{◌≡◌, Bool, ℕ, ◌+◌, ◌*◌, ◌≤◌, ◌<◌, ltb, take, drop}
+use Rattle.std.proofs.Math.Path.{ap}
+use Rattle.std.proofs.Common.{◌∙◌, arith}
 use Rattle.std.proofs.Math.Bool.{cond}
 use mathlib.Core.List.{List, []}
 use Rattle.std.proofs.Math.Nat.{mul-le-mul_right, suc-mul}
@@ -13,7 +13,7 @@ use Rattle.disk.specs.Limits.{sector_bytes, first_log}
 use Rattle.disk.specs.Tests.{both}
 use Rattle.disk.specs.Image.{place, Shape, fits_image}
 use Rattle.disk.specs.declared.refusal.Outcome.TheVariants as outcome
-use Rattle.record.specs.Log.{part, area_of, restore_of, restore_answer, after_restore, area_part}
+use Rattle.record.specs.Log.{area_of, restore_answer}
 use Rattle.codecs.specs.Shelf.{Shelf, slots, geometry, limits, strips_fit}
 use Rattle.refine.specs.Disks.{Disks, image_fits}
 

@@ -3,18 +3,12 @@
 -- repair of the stripe, stepped to Done, ends with that list and with nothing of the stripe rotten. So it goes on, strip after strip and repair
 -- after repair; meanwhile every strip that is not rotten is what the list asks for, and blocks that are fine are read right, also while a repair
 -- is under way. Assumes nothing.
-use Rattle.std.specs.Prelude.{◌≡◌, ◌⊎◌, ◌≢◌, Bool, ◌&&◌, List, [], ◌∷◌, ℕ, ◌+◌, ◌-◌, ◌<◌, ◌/◌, ◌%◌, eqb, length}
-use Rattle.std.proofs.Math.Path.{refl, sym, ap, fun_ext}
-use Rattle.std.proofs.Common.{subst, ◌∙◌, ⊎_elim, inl, inr}
-use Rattle.std.proofs.Math.Bool.{true, false, cond, not, false≢true}
-use Rattle.std.proofs.Math.Dec.{ltb}
-use borrow.Author.Tests.{eq-eqb, eqb-true, ltb-true, lt-ltb}
+use Rattle.std.specs.Prelude.{◌≡◌, ◌⊎◌, Bool, ◌&&◌, List, ℕ, ◌+◌, ◌<◌, ◌/◌, ◌%◌, eqb}
+use Rattle.std.proofs.Math.Bool.{true, false, cond, not}
 use Rattle.disk.specs.Geometry.{stripes_of, strip_of, slot_of}
 use Rattle.disk.specs.Image.{sector}
 use Rattle.disk.specs.declared.refusal.Outcome.TheVariants as outcome
-use Rattle.label.proofs.Counts.{same_says}
 use Rattle.redo.specs.Decide.{believed}
-use Rattle.redo.specs.Laws.{looked_below, believed_looked, believed_below}
 use Rattle.protocol.specs.World.{Place, World}
 use Rattle.protocol.specs.Host.{Host}
 use Rattle.protocol.specs.Program.{idle}
@@ -23,16 +17,11 @@ use Rattle.protocol.specs.Veil.{Rot, rotten, spread}
 use Rattle.codecs.specs.Sector.{Sector, Bytes}
 use Rattle.codecs.specs.Shelf.{Shelf, slots, geometry}
 use Rattle.codecs.specs.Labels.{ours}
-use Rattle.requests.specs.Ready.{is_idle}
 use Rattle.requests.specs.declared.begun.Begun.{Begun}
-use Rattle.shelf.specs.Act.{Move}
-use Rattle.shelf.specs.Step.{finished, step_move}
-use Rattle.blocks.specs.Read.{laid_by, shown_of, read_answer, after_read, read_done}
+use Rattle.shelf.specs.Step.{step_move}
 use Rattle.blocks.specs.Repair.{Repairs}
-use Rattle.stages.specs.Limits.{most_stages}
 use Rattle.stages.specs.declared.state.State.{State}
 use Rattle.stages.specs.declared.state.Answer.TheVariants as answer
-use Rattle.stages.specs.declared.state.Kind.{Kind}
 use Rattle.stages.specs.declared.state.Kind.TheVariants.{Idle}
 use Rattle.refine.specs.Disks.{Disks, cur_of}
 use Rattle.refine.specs.Tied.{own_of}

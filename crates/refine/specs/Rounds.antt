@@ -1,15 +1,12 @@
 -- What `Rattle.rounds` makes of the labels is what the protocol's start-up makes of them: who is gone, who adopts, what the
 -- settled label is, whether few enough slots are out, and what a slot that adopts is given first. Assumes nothing.
-use Rattle.std.proofs.Math.Path.{◌≡◌, refl, sym, ap, ap₂, fun_ext}
-use Rattle.std.proofs.Common.{◌∙◌, subst, ne_eqb, eqb-true, lt-ltb, le-ltb}
-use Rattle.std.proofs.Math.Logic.{⊎_elim}
-use Rattle.std.specs.Prelude.{Bool, ◌&&◌, ◌||◌, List, [], ◌∷◌, length}
+use Rattle.std.proofs.Math.Path.{◌≡◌, refl, sym}
+use Rattle.std.proofs.Common.{◌∙◌, subst, ne_eqb, eqb-true, lt-ltb}
+use Rattle.std.specs.Prelude.{Bool, ◌||◌, List, [], ◌∷◌, length}
 use Rattle.std.proofs.Math.Bool.{true, false, cond, not}
-use Prim.Native.Nat.{ℕ, suc, ◌+◌, ◌≤◌, ◌<◌, ◌%◌, ◌^◌}
+use Prim.Native.Nat.{ℕ, suc, ◌+◌, ◌<◌, ◌^◌}
 use native.Mathlib.Omega.{arith}
-use Rattle.std.specs.Int.Count.{ones}
-use Rattle.std.proofs.Math.Dec.{ltb, eqb, leb}
-use Rattle.std.proofs.lemmas.Bool.{not-true}
+use Rattle.std.proofs.Math.Dec.{ltb, eqb}
 use Rattle.disk.specs.Tests.{and_left, and_right}
 use Rattle.disk.specs.Image.{fits_image, fits_image_lem}
 use Rattle.disk.specs.Mask.{in_mask}
@@ -17,16 +14,10 @@ use Rattle.disk.specs.declared.geometry.Geometry.{Geometry}
 use Rattle.label.specs.Fields.{no_slot, geometry_of, fits_of}
 use Rattle.label.specs.Newest.{shelf_label, agreed}
 use Rattle.label.specs.declared.fields.Label as bytes
-use Rattle.label.specs.declared.codec.Decoded.{Decoded}
-use Rattle.label.specs.declared.codec.Decoded.TheVariants.{Valid, Nothing}
-use Rattle.label.proofs.Fits.{fits_says}
-use Rattle.label.proofs.Counts.{SameShelf, same_says, agreed_says}
-use Rattle.rounds.specs.Slot.{age_of, age_under, plainly_out, calls_out, goes_out, adopts, copy_age, wiped, gets_zeros, gets_label, asked}
-use Rattle.rounds.specs.Slot as Slot
-use Rattle.rounds.specs.Survey.{slots_that, next_of, fits_shelf}
+use Rattle.label.specs.declared.codec.Decoded.TheVariants.{Valid}
+use Rattle.rounds.specs.Survey.{fits_shelf}
 use Rattle.rounds.specs.Plans.{Grounds}
 use Rattle.rounds.specs.declared.plan.Plan as plan
-use Rattle.rounds.specs.declared.slot.Question.TheVariants.{Out, Parts, Late, Zeroed, Kept}
 use Rattle.protocol.specs.World.{Image}
 use Rattle.protocol.specs.Label.{copy}
 use Rattle.protocol.specs.Startup.{M}

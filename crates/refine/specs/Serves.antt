@@ -3,25 +3,20 @@
 -- repair is refused, since it finds nothing to mend. For every shelf, where any two of the sets of slots that the chain leaves out from
 -- one moment of rest to the next leave a slot out in common (`AnyTwoSince`); for k > m nothing is asked. And what the list's entries are:
 -- those of a write that is acknowledged are the bytes given, all others stay. Assumes nothing.
-use Rattle.std.specs.Prelude.{◌≡◌, Bool, List, ℕ, ◌+◌, ◌*◌, ◌<◌, ◌/◌, ◌%◌, length}
+use Rattle.std.specs.Prelude.{◌≡◌, Bool, List, ℕ, ◌+◌, ◌*◌, ◌/◌, ◌%◌, length}
 use Rattle.std.proofs.Math.Path.{refl, sym, ap}
-use Rattle.std.proofs.Common.{subst, ◌∙◌, eq-eqb, eqb-true}
+use Rattle.std.proofs.Common.{◌∙◌, eq-eqb, eqb-true}
 use Rattle.std.proofs.Math.Bool.{true, false, cond}
 use Rattle.std.proofs.Math.Nat.{div-add-mod'}
 use Rattle.std.proofs.Math.Dec.{eqb}
 use Rattle.disk.specs.Limits.{sector_bytes}
-use Rattle.disk.specs.declared.refusal.Refusal.{Refusal}
-use Rattle.disk.specs.declared.refusal.Outcome.TheVariants.{Done, Refused}
+use Rattle.disk.specs.declared.refusal.Outcome.TheVariants.{Done}
 use Rattle.protocol.specs.Host.{Host, one_block, set_block, replace}
 use Rattle.protocol.specs.Machine.{View, list_of}
 use Rattle.codecs.specs.Sector.{Sector, Bytes}
 use Rattle.codecs.specs.Shelf.{Shelf}
 use Rattle.codecs.specs.Records.{strip_bytes}
-use Rattle.stages.specs.declared.state.State.{State}
-use Rattle.stages.specs.declared.state.Kind.TheVariants.{Idle}
-use Rattle.requests.specs.declared.begun.Begun.{Begun}
 use Rattle.blocks.specs.Read.{read_answer, after_read}
-use Rattle.blocks.specs.Repair.{Repairs}
 use Rattle.refine.specs.Sees.{sectors_of, sectors_strip}
 use Rattle.refine.specs.Hosts.{none, has, Time, at, HostChain, stays, goes_on, Saw}
 

@@ -1,8 +1,8 @@
 -- WHAT IS ASKED OF THE WORLD ALONG A CHAIN OF CALLS, for shelves with k <= m: from each moment of rest up to the next one, any two of the sets of slots that accepted start-ups and take-outs leave out,
 -- and the set that the state's label calls out at the first, leave a slot out in common. (A state at rest has its label settled; what was left out before no longer matters.) And a family of sets for
 -- each call of such a chain, so that all is kept from call to call. Assumes nothing.
-use Rattle.std.specs.Prelude.{◌≡◌, refl, Bool, true, false, cond, ℕ}
-use Rattle.std.proofs.Common.{sym, ap, subst, ◌∙◌, ⊎_elim, inl, inr}
+use Rattle.std.specs.Prelude.{◌≡◌, Bool, true, false, cond, ℕ}
+use Rattle.std.proofs.Common.{⊎_elim}
 use mathlib.Core.List.Memᴰ
 use mathlib.Core.List.{List, [], ◌∷◌, ◌++◌, Memᴰ}
 use Rattle.disk.specs.Mask.{in_mask}
@@ -12,7 +12,6 @@ use Rattle.protocol.specs.Even.{Shared}
 use Rattle.protocol.specs.Pairs.{AnyTwo, parts_of, with_none, some_is}
 use Rattle.codecs.specs.Sector.{Sector}
 use Rattle.codecs.specs.Shelf.{Shelf, slots, some_slots}
-use Rattle.stages.specs.declared.state.State.{State}
 use Rattle.requests.specs.Ready.{is_idle}
 use Rattle.refine.specs.Family.{Family}
 use Rattle.refine.specs.Chain.{Allowed}

@@ -1,17 +1,13 @@
 -- START-UP, as the plan has it: the protocol's whole list of actions, with the plan's masks and labels in the place of what the
 -- protocol reads: flush all; three rounds; what those that adopt are given first; the round for them; the log part. Assumes nothing.
-use Rattle.std.specs.Prelude.{◌≡◌, refl, true, false, ◌&&◌, ◌||◌}
-use Rattle.std.proofs.Math.Path.{sym, ap}
-use Rattle.std.proofs.Common.{ap₂, ◌∙◌, arith}
+use Rattle.std.specs.Prelude.{◌≡◌, refl, false, ◌||◌}
+use Rattle.std.proofs.Common.{ap₂, arith}
 use Rattle.std.proofs.Math.Bool.{Bool, cond, not}
 use mathlib.Core.List.{List, [], ◌∷◌, ◌++◌, Memᴰ}
 use Prim.Native.Nat.{ℕ, suc, ◌+◌, ◌<◌}
-use Rattle.std.proofs.Math.Dec.{eqb}
 use Rattle.disk.specs.Mask.{in_mask}
 use Rattle.label.specs.declared.fields.Label as bytes
-use Rattle.redo.specs.Decide.{looked, redo_of}
-use Rattle.redo.specs.declared.Redo.TheVariants.{Forward, Kill}
-use Rattle.rounds.specs.Survey.{slots_that, next_of}
+use Rattle.rounds.specs.Survey.{slots_that}
 use Rattle.rounds.specs.declared.slot.Question.TheVariants.{Parts, Late, Zeroed, Kept}
 use Rattle.protocol.specs.World.{label, log, strip, slot, Image, Action}
 use Rattle.protocol.specs.Batch.{puts, flushes}

@@ -1,14 +1,11 @@
 -- START-UP'S LIST IS THE PROTOCOL'S: with masks that say what the protocol's tests say of what is seen, and the labels that it
 -- reads and settles, what is left to do at the beginning of start-up is the protocol's list. Assumes nothing.
 use Rattle.std.specs.Prelude.{◌≡◌, ◌⊎◌, ◌&&◌, ◌||◌, eqb, ltb}
-use Rattle.std.proofs.Math.Path.{refl, sym, ap, ap₂}
-use Rattle.std.proofs.Common.{◌∙◌, inl, inr, arith, lt-ltb}
-use Rattle.std.proofs.Math.Bool.{Bool, true, false, cond, not}
-use mathlib.Core.List.{List, [], ◌∷◌, ◌++◌, append-nil, Memᴰ}
-use Prim.Native.Nat.{ℕ, zero, suc, ◌+◌, ◌<◌}
+use Rattle.std.proofs.Math.Bool.{Bool, true, false, not}
+use mathlib.Core.List.{List, []}
+use Prim.Native.Nat.{ℕ, suc, ◌<◌}
 use Rattle.disk.specs.Mask.{in_mask}
-use Rattle.label.specs.declared.fields.Label as bytes
-use Rattle.protocol.specs.World.{log, slot, Image, Action}
+use Rattle.protocol.specs.World.{log, Image, Action}
 use Rattle.protocol.specs.Batch.{actions}
 use Rattle.protocol.specs.Log.{Belief}
 use Rattle.protocol.specs.Redo.{key, lead, tail, forward, kill, redo}
@@ -22,14 +19,8 @@ use Rattle.codecs.specs.Shelf.{Shelf, slots, size}
 use Rattle.codecs.specs.Labels.{side_of, label_of}
 use Rattle.codecs.proofs.Labels.{labels}
 use Rattle.codecs.proofs.Records.{records}
-use Rattle.stages.specs.Stage as Stage
-use Rattle.stages.specs.Stage.{round_stage, late_stage, start_stage, stage_at}
-use Rattle.shelf.specs.Step.{is_end}
 use Rattle.stages.specs.declared.state.State.{State}
-use Rattle.stages.specs.declared.state.Kind.{Kind}
 use Rattle.stages.specs.declared.state.Kind.TheVariants.{Starting}
-use Rattle.stages.specs.declared.stage.Stage.{Stage}
-use Rattle.stages.specs.declared.stage.Stage.TheVariants.{Flush, Give, Wipe, Restore}
 use Rattle.refine.specs.Disks.{cur_of, seen_of}
 use Rattle.refine.specs.Lists.{Says}
 

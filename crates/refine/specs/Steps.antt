@@ -1,23 +1,13 @@
 -- A STEP IS THE NEXT ACTION. What the shelf's step does to a state in order is the first of what is left to do, as the
 -- protocol counts it, and the others are left; where nothing is left, the request is done. Assumes nothing.
-use Rattle.std.proofs.Math.Path.{◌≡◌, refl, sym, ap, ap₂, subst}
-use Rattle.std.proofs.Common.{◌∙◌, ⊎_elim}
-use Rattle.std.specs.Prelude.{Bool, leb, length, replicate}
-use Rattle.std.proofs.Math.Bool.{true, false, cond, false≢true}
-use mathlib.Core.List.{List, [], ◌∷◌, ◌++◌}
-use Prim.Native.Nat.{ℕ, zero, suc, ◌+◌, ◌-◌, ◌*◌, ◌≤◌, ◌<◌, ◌/◌, ◌%◌, ◌^◌}
-use native.Mathlib.Omega.{arith}
-use Rattle.std.proofs.Math.Dec.{ltb}
-use borrow.Author.Tests.{lt-ltb, le-ltb, ltb-true, ltb-false, eq-eqb, leb-true, le-leb}
+use Rattle.std.proofs.Math.Path.{◌≡◌}
+use Rattle.std.proofs.Math.Bool.{true, false}
+use mathlib.Core.List.{List, [], ◌∷◌}
+use Prim.Native.Nat.{ℕ, suc, ◌+◌, ◌-◌, ◌≤◌, ◌<◌, ◌/◌, ◌%◌, ◌^◌}
 use Rattle.disk.specs.Geometry.{stripes_of}
 use Rattle.disk.specs.Image.{put_sector}
 use Rattle.disk.specs.Mask.{in_mask}
 use Rattle.disk.specs.declared.geometry.Geometry.{Geometry}
-use Rattle.disk.specs.declared.geometry.Found.{Found}
-use Rattle.disk.specs.declared.geometry.Found.TheVariants as spot
-use Rattle.disk.specs.declared.refusal.Refusal.TheVariants.{NotNow}
-use Rattle.disk.specs.declared.refusal.Outcome.{Outcome}
-use Rattle.disk.specs.declared.refusal.Outcome.TheVariants as outcome
 use Rattle.label.specs.Fields.{fits_of}
 use Rattle.label.specs.declared.fields.Label as bytes
 use Rattle.protocol.specs.World.{Place, slot, Image, update, Action, put, flush}
@@ -30,14 +20,11 @@ use Rattle.codecs.specs.Records.{counts, stamp_number}
 use Rattle.codecs.proofs.Records.{records}
 use Rattle.stages.specs.Limits.{most_stages}
 use Rattle.stages.specs.State.{moved}
-use Rattle.stages.specs.Stage.{slots_of, stage_at, stage_of}
-use Rattle.shelf.specs.Act.{Move, in_strips, by_rebuilt, fill_move, onward, refuses, named, by_outcome, put_move, flush_move, give_move, wipe_move, by_strip, by_restored, restore_move, by_logged, log_move, by_stored, store_move, clear_move, erase_move, act_move}
-use Rattle.shelf.specs.Step.{seek, is_end, finished, on_stage, next_slot, walk, keeps, under_way, sound, step_move}
-use Rattle.shelf.specs.Says.{when, unless, step_goes}
+use Rattle.stages.specs.Stage.{stage_at, stage_of}
+use Rattle.shelf.specs.Act.{Move, onward, named}
+use Rattle.shelf.specs.Step.{seek, is_end, finished, on_stage, sound}
 use Rattle.shelf.specs.Bound.{width_of}
-use Rattle.shelf.specs.Kept.{kept_of}
 use Rattle.stages.specs.declared.state.State.{State}
-use Rattle.stages.specs.declared.state.Stepped.{Stepped}
 use Rattle.stages.specs.declared.state.Answer.TheVariants as answer
 use Rattle.stages.specs.declared.stage.Stage.{Stage}
 use Rattle.stages.specs.declared.stage.Stage.TheVariants.{Flush, Give, Wipe, Restore, Log, Store, Clear, Erase, Fill, End}

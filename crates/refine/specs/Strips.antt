@@ -1,7 +1,7 @@
 -- The strips of the lent image, as the protocol's program sees them, are those that what is shown of a stripe goes by; and a mask of the
 -- slots that the label believes at a stripe is the protocol's belief. So what `views` says holds of the image. Assumes nothing.
-use Rattle.std.specs.Prelude.{◌≡◌, Bool, true, false, List, ℕ, ◌<◌}
-use Rattle.std.proofs.Common.{sym, ap, ◌∙◌}
+use Rattle.std.specs.Prelude.{◌≡◌, ℕ, ◌<◌}
+use Rattle.std.proofs.Common.{sym, ◌∙◌}
 use Rattle.disk.specs.Mask.{in_mask, mask_of, mask_below}
 use Rattle.label.specs.declared.fields.Label as bytes
 use Rattle.redo.specs.Decide.{believed}

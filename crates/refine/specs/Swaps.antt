@@ -1,18 +1,12 @@
 -- ANOTHER DISK IN A SLOT while the program is at rest and its state calls the slot absent: a fresh one, one that held something else, or one that was in the slot before. It may hold anything but
 -- a label of another shelf, or one of this shelf of the settled generation or newer. To the protocol's machine it is a disk that is exchanged, and what ties the two is kept. Assumes nothing.
-use Rattle.std.specs.Prelude.{◌≡◌, ◌⊎◌, ◌≢◌, Bool, true, not, ℕ, suc, ◌≤◌, ◌<◌, eqb}
-use Rattle.std.proofs.Math.Path.{refl, ap, subst, fun_ext}
-use Rattle.std.proofs.Common.{sym, ◌∙◌, inl, inr, arith, eq-eqb, ne_eqb}
-use Rattle.std.proofs.Math.Logic.{⊎_elim}
-use Rattle.std.proofs.Math.Bool.{false, cond}
-use Rattle.std.proofs.lemmas.Bool.{false≢true, eqb-false}
-use mathlib.Core.List.{List, []}
+use Rattle.std.specs.Prelude.{◌≡◌, ◌≢◌, true, ℕ, ◌<◌}
+use mathlib.Core.List.{List}
 use Rattle.disk.specs.Mask.{in_mask}
 use Rattle.disk.specs.Image.{sector}
 use Rattle.label.specs.Newest.{copy_of}
 use Rattle.label.specs.declared.fields.Label as bytes
-use Rattle.label.specs.declared.codec.Decoded.{Decoded}
-use Rattle.label.specs.declared.codec.Decoded.TheVariants.{Valid, Nothing}
+use Rattle.label.specs.declared.codec.Decoded.TheVariants.{Valid}
 use Rattle.protocol.specs.World.{World}
 use Rattle.protocol.specs.Program.{Own}
 use Rattle.protocol.specs.Exchange.{with_disk}

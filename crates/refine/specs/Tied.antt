@@ -1,13 +1,9 @@
 -- A STEP OF THE CODE IS A STEP OF THE PROTOCOL'S PROGRAM: what the program remembers beside a state of the code, and that the two
 -- stay together over a step: the answers say the same, and the disks hold the same. Assumes nothing.
 use Rattle.std.specs.Prelude.{◌≡◌, ◌⊎◌, Bool, false, ltb}
-use Rattle.std.proofs.Math.Path.{refl, sym, ap, ap₂}
-use Rattle.std.proofs.Common.{subst, ◌∙◌}
-use Rattle.std.proofs.Math.Logic.{inl, inr}
 use Rattle.std.proofs.Math.Bool.{true, cond}
-use Rattle.std.proofs.lemmas.Bool.{false≢true}
-use mathlib.Core.List.{List, [], ◌∷◌, ◌++◌}
-use Prim.Native.Nat.{ℕ, zero, suc, ◌-◌}
+use mathlib.Core.List.{List}
+use Prim.Native.Nat.{ℕ, ◌-◌}
 use Rattle.disk.specs.Mask.{in_mask}
 use Rattle.label.specs.declared.fields.Label as bytes
 use Rattle.protocol.specs.World.{slot, Image, World, Action, put, flush}
@@ -20,16 +16,12 @@ use Rattle.codecs.specs.Labels.{label_of}
 use Rattle.codecs.specs.Records.{stamp_number}
 use Rattle.protocol.specs.Log.{Write}
 use Rattle.shards.proofs.Even.{shelf_program}
-use Rattle.stages.specs.State.{moved}
 use Rattle.shelf.specs.Act.{Move}
 use Rattle.stages.specs.Limits.{most_stages}
-use Rattle.stages.specs.Stage.{stage_at, stage_of}
-use Rattle.shelf.specs.Step.{is_end, on_stage, finished, under_way, sound, step_move}
+use Rattle.shelf.specs.Step.{finished}
 use Rattle.stages.specs.declared.state.State.{State}
 use Rattle.stages.specs.declared.state.Kind.{Kind}
 use Rattle.stages.specs.declared.state.Kind.TheVariants.{Nothing, Idle, Creating, Starting, Labelling, Writing, Beginning, Filling}
-use Rattle.stages.specs.declared.stage.Stage.{Stage}
-use Rattle.stages.specs.declared.stage.Stage.TheVariants.{Flush, Give, Wipe, Restore, Clear, Erase, End}
 use Rattle.stages.specs.declared.state.Answer.{Answer}
 use Rattle.stages.specs.declared.state.Answer.TheVariants as answer
 use Rattle.refine.specs.Places.{sector_of, inside}

@@ -1,7 +1,7 @@
 -- What is left to do of the request under way, as the protocol's actions: what is left of its stage from the cursor on, and
 -- all later stages. And of a stage: what is left when a slot, or a sector of it, is done. Assumes nothing.
 use Rattle.std.specs.Prelude.{◌≡◌, ◌⊎◌, not, eqb, leb, ltb}
-use Rattle.std.proofs.Math.Path.{refl, sym, ap, ap₂, subst, fun_ext}
+use Rattle.std.proofs.Math.Path.{refl, sym, ap, ap₂, subst}
 use Rattle.std.proofs.Common.{◌∙◌, inl, inr, ⊎_elim, arith, ne_eqb}
 use Rattle.std.proofs.Math.Bool.{Bool, true, false, cond}
 use mathlib.Core.List.{List, [], ◌∷◌, ◌++◌}
@@ -36,7 +36,6 @@ use Rattle.shards.proofs.Even.{any_code}
 use Rattle.stages.specs.Limits.{most_stages}
 use Rattle.stages.specs.State.{moved}
 use Rattle.stages.specs.Stage.{again, round_stage, late_stage, start_stage, create_stage, write_stage, last_stage, begin_stage, fill_stage, stage_at, stage_of}
-use Rattle.shelf.specs.Act.{odd_sector}
 use Rattle.shelf.specs.Step.{seek, is_end, on_stage}
 use Rattle.stages.specs.declared.state.State.{State}
 use Rattle.stages.specs.declared.state.Marks.{Marks}

@@ -1,24 +1,18 @@
 -- A WRITE THAT IS ACCEPTED, at rest, is the protocol's: its program accepts it too, what the state and the work area then describe is
 -- the write that it makes, and it can be carried out. In the words of write's contract. Assumes nothing.
-use Rattle.std.specs.Prelude.{◌≡◌, Bool, ◌&&◌, ◌||◌, eqb, length}
-use Rattle.std.proofs.Math.Path.{refl, sym, ap, ap₂}
-use Rattle.std.proofs.Common.{subst, ◌∙◌, mul_assoc, arith, length-drop, get_or-take}
-use Rattle.std.proofs.Math.Bool.{true, false, cond, not}
-use mathlib.Core.List.{List, [], ◌∷◌}
-use Prim.Native.Nat.{ℕ, suc, ◌+◌, ◌*◌, ◌<◌, ◌/◌, ◌%◌, ◌^◌}
-use Rattle.std.proofs.Math.Nat.{suc-mul, mul-le-mul_right}
-use Rattle.std.proofs.Math.Dec.{leb, ltb}
-use Rattle.std.proofs.Math.ListN.{get_or}
-use borrow.Author.Tests.{lt-ltb, ltb-true}
+use Rattle.std.specs.Prelude.{◌≡◌, length}
+use Rattle.std.proofs.Common.{arith}
+use Rattle.std.proofs.Math.Bool.{true}
+use mathlib.Core.List.{List}
+use Prim.Native.Nat.{ℕ, ◌+◌, ◌<◌, ◌/◌, ◌%◌}
+use borrow.Author.Tests.{lt-ltb}
 use Rattle.disk.specs.Tests.{both}
 use Rattle.disk.specs.Geometry.{stripes_of, stripes_le}
 use Rattle.disk.specs.Mask.{in_mask}
-use Rattle.disk.specs.declared.geometry.Geometry.{Geometry}
 use Rattle.disk.specs.declared.refusal.Outcome.TheVariants.{Done}
 use Rattle.label.specs.Fields.{geometry_of, fits_of}
 use Rattle.label.specs.declared.fields.Label as bytes
-use Rattle.label.proofs.Fits.{fits_says}
-use Rattle.label.proofs.Counts.{SameShelf, same_says}
+use Rattle.label.proofs.Counts.{same_says}
 use Rattle.protocol.specs.World.{Image}
 use Rattle.protocol.specs.Log.{Write}
 use Rattle.protocol.specs.Label as Label
@@ -27,12 +21,9 @@ use Rattle.protocol.specs.Program.{beyond}
 use Rattle.codecs.specs.Sector.{Sector, Bytes}
 use Rattle.codecs.specs.Shelf.{Shelf, slots, geometry, size}
 use Rattle.codecs.specs.Labels.{fields_of, no_label, label_of, ours}
-use Rattle.strips.specs.Answers.{few_lost}
-use Rattle.strips.specs.Whole.{PreparedBy}
-use Rattle.blocks.specs.Slots.{there, changes_at, changed_shards, changed_at, changed_slots}
-use Rattle.blocks.specs.Answers.{work_is, range_of}
-use Rattle.blocks.specs.Read.{Shows, half_of, shows_block}
-use Rattle.blocks.specs.Write.{most_count, write_answer, stamped_with, changing, Written, write_done}
+use Rattle.blocks.specs.Slots.{changed_shards}
+use Rattle.blocks.specs.Read.{half_of}
+use Rattle.blocks.specs.Write.{write_answer, stamped_with, changing, Written}
 use Rattle.shelf.specs.Step.{sound}
 use Rattle.stages.specs.declared.state.State.{State}
 use Rattle.stages.specs.declared.state.Marks.{Marks}

@@ -1,19 +1,14 @@
 -- THE LISTS OF A WRITE ARE THE PROTOCOL'S: where the state and the work area describe the protocol's write, what is left to do of
 -- it is first the protocol's log part, then its store part. Assumes nothing.
-use Rattle.std.specs.Prelude.{◌≡◌, Bool, ◌&&◌}
-use Rattle.std.proofs.Math.Path.{refl, sym, ap, ap₂, fun_ext}
-use Rattle.std.proofs.Common.{◌∙◌, ltb-true}
-use Rattle.std.proofs.Math.Bool.{true, false, cond}
-use Rattle.std.proofs.lemmas.Bool.{false≢true}
-use mathlib.Core.List.{List, [], ◌∷◌, ◌++◌, append-nil, Memᴰ}
-use Prim.Native.Nat.{ℕ, zero, suc, ◌+◌, ◌-◌, ◌<◌}
+use Rattle.std.specs.Prelude.{◌≡◌, ◌&&◌}
+use Rattle.std.proofs.Math.Path.{refl, ap₂}
+use Rattle.std.proofs.Math.Bool.{true}
+use mathlib.Core.List.{List, ◌++◌}
+use Prim.Native.Nat.{ℕ, zero, suc, ◌<◌}
 use native.Mathlib.Omega.{arith}
 use Rattle.std.proofs.Math.Dec.{ltb}
 use Rattle.disk.specs.Mask.{in_mask}
 use Rattle.disk.specs.Geometry.{shard_of}
-use Rattle.record.specs.Log.{log_sector}
-use Rattle.record.specs.Tail.{tail_sector}
-use Rattle.record.specs.declared.tail.Tail.{Tail}
 use Rattle.protocol.specs.World.{Image, Action}
 use Rattle.protocol.specs.Log.{Write, Belief}
 use Rattle.protocol.specs.Label.{believed, belief}
@@ -21,15 +16,9 @@ use Rattle.codecs.specs.Sector.{Sector}
 use Rattle.codecs.specs.Shelf.{Shelf, slots, size}
 use Rattle.codecs.specs.Labels.{label_of}
 use Rattle.codecs.specs.Records.{strip_bytes}
-use Rattle.stages.specs.Limits.{most_stages}
-use Rattle.stages.specs.State.{moved}
-use Rattle.stages.specs.Stage.{write_stage, stage_at, stage_of}
-use Rattle.shelf.specs.Step.{is_end, on_stage}
 use Rattle.stages.specs.declared.state.State.{State}
-use Rattle.stages.specs.declared.state.Kind.{Kind}
 use Rattle.stages.specs.declared.state.Kind.TheVariants.{Writing}
 use Rattle.stages.specs.declared.stage.Stage.{Stage}
-use Rattle.stages.specs.declared.stage.Stage.TheVariants.{Flush, Log, Store}
 use Rattle.refine.specs.Keeps.{kept_strip, Works}
 use Rattle.refine.specs.ToDo.{under_of, acts_of}
 use Rattle.refine.specs.Lists.{Says}

@@ -1,13 +1,9 @@
 -- A WRITE IS THE PROTOCOL'S WRITE: accepted, it begins as the protocol's, and each step of the code is a step of the protocol's
 -- program, or two of them: between the last flush of the log and the first put of a strip the program takes one step that does
 -- nothing (`safe`), and the code takes it together with the next one. Assumes nothing.
-use Rattle.std.specs.Prelude.{◌≡◌, ◌⊎◌, Bool, true, length}
-use Rattle.std.proofs.Math.Path.{refl, sym, ap, ap₂}
-use Rattle.std.proofs.Common.{subst, ◌∙◌, inl, inr, arith, length-append, lt-ltb, le-ltb}
-use Rattle.std.proofs.Math.Logic.{⊎_elim}
-use Rattle.std.proofs.Math.Bool.{cond}
-use mathlib.Core.List.{List, [], ◌∷◌, ◌++◌}
-use Prim.Native.Nat.{ℕ, suc, ◌+◌, ◌-◌, ◌*◌, ◌≤◌, ◌<◌, ◌^◌}
+use Rattle.std.specs.Prelude.{◌≡◌, ◌⊎◌}
+use mathlib.Core.List.{List, [], ◌∷◌}
+use Prim.Native.Nat.{ℕ, suc, ◌+◌}
 use Rattle.protocol.specs.World.{Image, World, Action}
 use Rattle.protocol.specs.Log.{Write}
 use Rattle.protocol.specs.Label.{belief}
@@ -25,12 +21,9 @@ use Rattle.codecs.specs.Media.{stamps}
 use Rattle.shards.proofs.Even.{any_code, any_sectors}
 use Rattle.stages.specs.Limits.{most_stages}
 use Rattle.stages.specs.State.{moved}
-use Rattle.stages.specs.Stage.{stage_at, stage_of}
 use Rattle.shelf.specs.Act.{Move}
-use Rattle.shelf.specs.Step.{finished, sound, step_move}
+use Rattle.shelf.specs.Step.{finished}
 use Rattle.stages.specs.declared.state.State.{State}
-use Rattle.stages.specs.declared.state.Kind.{Kind}
-use Rattle.stages.specs.declared.state.Kind.TheVariants.{Writing}
 use Rattle.refine.specs.Disks.{cur_of}
 use Rattle.refine.specs.ToDo.{left_of}
 use Rattle.refine.specs.Steps.{Fair}

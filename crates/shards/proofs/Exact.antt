@@ -1,20 +1,16 @@
 -- What the blocks and the finding of a scrub are, in the words of the code's own theorems: these are the laws by which a function that
 -- rebuilds or scrubs is shown to compute them, also where the strips contradict each other. Assumes nothing.
-use Rattle.std.specs.Prelude.{◌≡◌, cond, ◌&&◌, [], ◌∷◌, ◌≢◌}
-use Rattle.std.proofs.Math.Path.{refl, sym, ap}
-use Rattle.std.proofs.Common.{◌∙◌, true≢false, arith, lit<}
+use Rattle.std.specs.Prelude.{◌≡◌}
+use Rattle.std.proofs.Common.{◌∙◌}
 use Rattle.std.proofs.Math.Bool.{Bool, true, false}
-use Prim.Native.Nat.{ℕ, ◌+◌, ◌≤◌, ◌<◌}
-use Rattle.std.proofs.Math.Dec.{eqb, leb}
-use borrow.Author.Tests.{eqb-true, eqb-false, eq-eqb, ne_eqb, leb-true, le-leb}
+use Prim.Native.Nat.{ℕ, ◌<◌}
 use Rattle.disk.specs.Limits.{sector_bytes}
 use Rattle.disk.specs.Geometry.{slot_of}
 use Rattle.codeword.specs.Stripe.{Holds, Bytes, has}
 use Rattle.codecs.specs.Sector.{Sector}
 use Rattle.codecs.specs.Shelf.{Shelf, slots}
-use Rattle.position.specs.Search.{all, all_at, all_of, some, some_of, first, first_is, first_lt}
 use Rattle.shards.specs.Quorum.{few_of}
-use Rattle.position.specs.Position.{holds, holds_true, holds_is, holds_same, padded, filled_off, filled_is, filled_blind}
+use Rattle.position.specs.Position.{padded, filled_is}
 use Rattle.shards.specs.Parity.{byte}
 use Rattle.shards.specs.Strips.{position, position_bytes, missing_of, missing_has, in_range_lem, blocks_from, blocks_byte}
 use Rattle.shards.proofs.Strips.{missing_few}

@@ -1,16 +1,14 @@
 -- Sectors of parity: document 01's equations, byte by byte. A sector is put together from its bytes, and two sectors with the same
 -- bytes are one. Assumes nothing.
-use Rattle.std.specs.Prelude.{◌≡◌, Bool, ℕ, zero, suc, ◌+◌, ◌-◌, ◌<◌, length, get_or}
+use Rattle.std.specs.Prelude.{◌≡◌, Bool, ℕ, ◌+◌, ◌<◌}
 use Rattle.std.proofs.Math.Path.{refl}
-use Rattle.std.proofs.Common.{sym, ap, ◌∙◌, arith, lit<, ext_get_or, lt-ltb, le-ltb, ltb-true}
+use Rattle.std.proofs.Common.{sym, ap, ◌∙◌, arith, lt-ltb, le-ltb, ltb-true}
 use Rattle.std.proofs.Math.Bool.{true, false, cond}
 use Rattle.std.proofs.Math.Dec.{ltb}
-use Rattle.std.proofs.lemmas.List.{get_or-replicate}
 use Rattle.disk.specs.Limits.{sector_bytes}
 use Rattle.codeword.specs.Stripe.{Holds}
 use Rattle.protocol.specs.Host.{Blocks}
 use Rattle.codecs.specs.Sector.{Sector}
-use Rattle.position.specs.Row.{listed, listed_length, listed_at}
 use Rattle.position.specs.Position.{parity_ext}
 use Rattle.shards.specs.Parity.{byte, parity_of_sectors, row_of, shard_sector, parity_at, parity_same}
 

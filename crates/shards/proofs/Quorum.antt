@@ -1,9 +1,8 @@
 -- Few slots: at most m of a shelf's n. With k > m this is a quorum in the protocol's sense, and of a mask it is the count of its
 -- ones. A stripe's shards are its slots turned round, so few slots are few shards. Assumes nothing.
-use Rattle.std.specs.Prelude.{◌≡◌, refl, Bool, true, false, cond, not, ◌≢◌, ◌⊎◌, ℕ, zero, suc, ◌+◌, ◌≤◌, ◌<◌, ◌%◌, ◌^◌}
-use Rattle.std.proofs.Common.{sym, ap₂, ◌∙◌, true≢false, inl, inr, ⊎_elim, mod-eq_of_lt, zero-add, add-zero, add-suc, eq-or-lt_of_le, le_of_suc-le-suc, arith}
+use Rattle.std.specs.Prelude.{◌≡◌, refl, Bool, true, false, ℕ, ◌≤◌, ◌<◌, ◌^◌}
+use Rattle.std.proofs.Common.{sym, ⊎_elim, arith}
 use Rattle.std.proofs.Math.Path.{ap}
-use Rattle.std.proofs.Math.Nat.{mod-add-mod, mod_self}
 use Rattle.std.specs.Int.Count.{ones}
 use Rattle.std.proofs.Math.Dec.{leb}
 use borrow.Author.Tests.{leb-true, le-leb}

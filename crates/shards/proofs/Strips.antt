@@ -1,7 +1,7 @@
 -- A shelf's strips at real sectors (document 03, section 1, and document 01, sections 2 to 4). Shard r
 -- of stripe t lies in slot (r + t) mod n; byte by byte the shards of a stripe meet the equations. What is believed gives the blocks
 -- back; a scrub tells a sound stripe. Both are definitions by search, total in the strips whatever these hold. Assumes nothing.
-use Rattle.std.specs.Prelude.{◌≡◌, Bool, ◌&&◌, ◌||◌, List, ◌≢◌, ℕ, ◌+◌, ◌≤◌, ◌<◌, eqb, ltb, leb, length}
+use Rattle.std.specs.Prelude.{◌≡◌, Bool, ◌&&◌, ◌||◌, ◌≢◌, ℕ, ◌+◌, ◌≤◌, ◌<◌, eqb, ltb, length}
 use Rattle.std.proofs.Math.Path.{refl, ap}
 use Rattle.std.proofs.Common.{sym, ◌∙◌, arith}
 use Rattle.std.proofs.Math.Bool.{true, false, cond, or-true, true≢false}
@@ -16,10 +16,9 @@ use Rattle.protocol.specs.Host.{Blocks, set_block, all_sound}
 use Rattle.codecs.specs.Sector.{Sector}
 use Rattle.codecs.proofs.Sector.{zeros}
 use Rattle.codecs.specs.Shelf.{Shelf, some_slots}
-use Rattle.position.specs.Search.{all, all_of, some, first}
 use Rattle.shards.specs.Quorum.{few_of, count_shards, broad_shards}
 use Rattle.shards.proofs.Quorum.{few_count}
-use Rattle.position.specs.Position.{holds, holds_is, holds_same, ascending, ascending_has, filled, filled_bytes, filled_back}
+use Rattle.position.specs.Position.{holds_same, filled_back}
 use Rattle.shards.specs.Counted.{ascending_length}
 use Rattle.shards.specs.Parity.{byte, byte_small, sector_ext, parity_of_sectors, row_of, shard_sector, parity_zeros}
 use Rattle.shards.proofs.Parity.{data_sector, shard_ext, sectors_hold}

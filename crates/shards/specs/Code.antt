@@ -1,16 +1,12 @@
 -- The shelf's code at real sectors, as the protocol asks for it: the strips of Strips, and what a scrub and a mended strip are where all shards of a
 -- stripe but one are right. Assumes nothing.
-use Rattle.std.specs.Prelude.{◌≡◌, Bool, true, false, cond, [], ◌∷◌, ◌≢◌, ◌⊎◌, ℕ, ◌≤◌, ◌<◌, leb}
-use Rattle.std.proofs.Math.Path.{refl}
-use Rattle.std.proofs.Common.{sym, ap, subst, ◌∙◌, true≢false, inl, inr, arith, eq-eqb, ne_eqb, leb-true, le-leb}
-use Rattle.std.proofs.lemmas.Bool.{false≢true, eqb-false}
-use Rattle.std.proofs.Math.Decide.{ℕ_discrete}
+use Rattle.std.specs.Prelude.{◌≡◌, Bool, false, ℕ, ◌<◌}
+use Rattle.std.proofs.Common.{arith}
 use Rattle.std.proofs.Math.Dec.{eqb}
 use Rattle.disk.specs.Geometry.{slot_of}
 use Rattle.protocol.specs.Host.{Finding, all_sound, accused, several}
 use Rattle.codecs.specs.Sector.{Sector}
 use Rattle.codecs.specs.Shelf.{Shelf, slots}
-use Rattle.position.specs.Position.{holds_same}
 use Rattle.shards.specs.Strips.{shard_in, blocks_from}
 use Rattle.shards.specs.Exact.{blocks_there}
 

@@ -18,7 +18,7 @@ use Rattle.codecs.specs.Sector.{Sector}
 use Rattle.codecs.specs.Shelf.{Shelf, slots, some_slots}
 use Rattle.position.specs.Search.{all, all_at, all_of, some, some_of, first, first_is, first_lt}
 use Rattle.shards.specs.Quorum.{count_none, count_one}
-use Rattle.position.specs.Position.{holds, holds_true, holds_is, holds_same, padded, filled_off, filled_is, filled_blind}
+use Rattle.position.specs.Position.{holds, holds_true, holds_is, holds_same, filled_off, filled_blind}
 use Rattle.shards.specs.Parity.{byte, sector_ext}
 use Rattle.shards.specs.Strips.{position, position_bytes, missing_of, missing_has, in_range_lem, blocks_from, blocks_byte, sound_in, mended_by, one_mends, scrub_of}
 

@@ -1,9 +1,8 @@
 -- Sectors of parity: document 01's equations, byte by byte. A sector is put together from its bytes, and two sectors with the same
 -- bytes are one. Assumes nothing.
-use Rattle.std.specs.Prelude.{◌≡◌, Bool, ℕ, zero, suc, ◌+◌, ◌-◌, ◌<◌, length, get_or}
-use Rattle.std.proofs.Math.Path.{refl}
-use Rattle.std.proofs.Common.{sym, ap, ◌∙◌, arith, lit<, ext_get_or, lt-ltb, le-ltb, ltb-true}
-use Rattle.std.proofs.Math.Bool.{true, false, cond}
+use Rattle.std.specs.Prelude.{◌≡◌, ℕ, zero, suc, ◌-◌, ◌<◌, get_or}
+use Rattle.std.proofs.Common.{sym, ap, ◌∙◌, arith, lit<, ext_get_or}
+use Rattle.std.proofs.Math.Bool.{cond}
 use Rattle.std.proofs.Math.Dec.{ltb}
 use Rattle.std.proofs.lemmas.List.{get_or-replicate}
 use Rattle.disk.specs.Limits.{sector_bytes}

@@ -2,7 +2,7 @@
 -- labels, the log records' bytes and document 01's code, on sectors of 512 bytes, for every shelf within the limits that has more data
 -- disks than parity disks (k > m). No law of these is left to be assumed; what is assumed of the world stands in the protocol's
 -- `Outside`. Not said here: that code that runs is this program, or computes these blocks and findings. Assumes nothing.
-use Rattle.std.specs.Prelude.{◌≡◌, refl, Bool, true, false, ◌⊎◌, ◌≢◌, List, ℕ, ◌<◌}
+use Rattle.std.specs.Prelude.{◌≡◌, Bool, ◌⊎◌, ◌≢◌, List, ℕ, ◌<◌}
 use Rattle.std.proofs.Common.{lit<}
 use Rattle.protocol.specs.World.{Image, World, label, Sane, During}
 use Rattle.protocol.specs.Label.{Label}

@@ -1,12 +1,9 @@
 -- A shelf's strips at real sectors (document 03, section 1, and document 01, sections 2 to 4). Shard r
 -- of stripe t lies in slot (r + t) mod n; byte by byte the shards of a stripe meet the equations. What is believed gives the blocks
 -- back; a scrub tells a sound stripe. Both are definitions by search, total in the strips whatever these hold. Assumes nothing.
-use Rattle.std.specs.Prelude.{◌≡◌, Bool, ◌&&◌, ◌||◌, List, ◌≢◌, ℕ, ◌+◌, ◌≤◌, ◌<◌, eqb, ltb, leb, length}
-use Rattle.std.proofs.Math.Path.{refl, ap}
-use Rattle.std.proofs.Common.{sym, ◌∙◌, arith}
-use Rattle.std.proofs.Math.Bool.{true, false, cond, or-true, true≢false}
-use Rattle.std.proofs.Math.Logic.{⊎_elim}
-use borrow.Author.Tests.{ltb-true, lt-ltb, le-leb, eq-eqb, ne_eqb}
+use Rattle.std.specs.Prelude.{◌≡◌, Bool, ◌&&◌, ◌||◌, List, ℕ, ◌<◌, eqb, ltb, leb}
+use Rattle.std.proofs.Common.{arith}
+use Rattle.std.proofs.Math.Bool.{true, cond}
 use Rattle.disk.specs.Limits.{sector_bytes}
 use Rattle.disk.specs.Geometry.{slot_of, shard_of, in_range_with_lem}
 use Rattle.codeword.specs.Stripe.{InRange, Holds, Bytes, has}
@@ -17,7 +14,7 @@ use Rattle.codecs.specs.Sector.{Sector}
 use Rattle.codecs.proofs.Sector.{zeros}
 use Rattle.codecs.specs.Shelf.{Shelf, slots, geometry}
 use Rattle.position.specs.Search.{all, all_of, some, first}
-use Rattle.position.specs.Position.{holds, holds_is, holds_same, ascending, ascending_has, filled, filled_bytes, filled_back}
+use Rattle.position.specs.Position.{holds, holds_is, ascending, ascending_has, filled, filled_bytes}
 use Rattle.shards.specs.Parity.{byte, byte_small, sector_of, byte_of, shard_sector}
 
 -- ---- the definitions

@@ -1,23 +1,18 @@
 -- What rebuild, encode and scrub make of a shelf's stripe, by their contracts alone, is what the protocol's code says: the blocks that
 -- a read gives, the strips that a write puts, the finding of a scrub. Whatever the strips hold, also where they contradict each
 -- other. Assumes nothing.
-use Rattle.std.specs.Prelude.{◌≡◌, refl, Bool, cond, ◌⊎◌, eqb, leb, length, get_or}
+use Rattle.std.specs.Prelude.{◌≡◌, refl, Bool, cond, eqb, length}
 use Rattle.std.proofs.Math.Path.{sym, ap}
-use Rattle.std.proofs.Common.{◌∙◌, subst, true≢false, inl, inr, arith, lit<, le-leb}
-use Rattle.std.proofs.Math.Bool.{true, false}
+use Rattle.std.proofs.Common.{◌∙◌, true≢false, lit<}
+use Rattle.std.proofs.Math.Bool.{true}
 use mathlib.Core.List.{List}
-use Prim.Native.Nat.{ℕ, ◌+◌, ◌-◌, ◌*◌, ◌≤◌, ◌<◌}
+use Prim.Native.Nat.{ℕ, ◌+◌, ◌*◌, ◌<◌}
 use Rattle.field.specs.declared.Answer.{Answer}
-use Rattle.field.specs.declared.Answer.TheVariants.{Done, Refused}
-use Rattle.field.specs.declared.Refusal.TheVariants.{BadShape, TooMany, BadShard}
 use Rattle.disk.specs.Limits.{sector_bytes}
 use Rattle.disk.specs.Image.{sector}
 use Rattle.codeword.specs.Stripe.{Holds, byte_at, Sound}
 use Rattle.codeword.proofs.Laid.{holds_ext}
 use Rattle.codeword.specs.Mend.{put}
-use Rattle.solve.specs.Lost.{shards_of}
-use Rattle.code.specs.Shape.{rebuild_answer}
-use Rattle.code.specs.Lists.{below_or_not}
 use Rattle.code.specs.Stripes.{Encoded, Rebuilt, Accuses, Says}
 use Rattle.code.specs.declared.Verdict.{Verdict}
 use Rattle.code.specs.declared.Verdict.TheVariants as verdict
@@ -26,8 +21,7 @@ use Rattle.codecs.specs.Sector.{Sector}
 use Rattle.codecs.specs.Shelf.{Shelf, slots}
 use Rattle.shards.specs.Quorum.{few_of}
 use Rattle.position.specs.Search.{some, some_of, first, first_is, first_lt}
-use Rattle.position.specs.Position.{holds, holds_true, holds_is, padded_off, parity_ext}
-use Rattle.position.specs.Rebuild.{same_padding}
+use Rattle.position.specs.Position.{holds, holds_true, holds_is}
 use Rattle.shards.specs.Strips.{position, missing_of, scrub_holds}
 use Rattle.shards.proofs.Even.{any_code}
 use Rattle.shards.specs.Exact as Exact

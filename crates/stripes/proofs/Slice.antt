@@ -1,28 +1,21 @@
 -- A stripe of a shelf as one slice: its shards one behind the other, as the functions on a stripe take them. Assumes nothing.
-use Rattle.std.specs.Prelude.{◌≡◌, Bool, true, length, take, drop}
+use Rattle.std.specs.Prelude.{◌≡◌, length, drop}
 use Rattle.std.proofs.Math.Path.{sym, ap}
 use Rattle.std.proofs.Common.{◌∙◌, subst, div-add-mod', div-lt_iff_lt-mul, mod-lt, arith, ext_get_or}
 use mathlib.Core.List.{List}
-use Prim.Native.Nat.{ℕ, ◌+◌, ◌*◌, ◌/◌, ◌%◌, ◌≤◌, ◌<◌}
-use Rattle.std.proofs.Math.Nat.{mul_assoc}
-use Rattle.std.proofs.Math.Arith.{digits_lt}
-use Rattle.std.proofs.Math.ListN.{get_or, length-drop}
-use Rattle.std.proofs.Math.Seq.{get_or-take, get_or-drop, length-take-le}
-use borrow.Author.Tests.{le-leb, eq-eqb}
+use Prim.Native.Nat.{ℕ, ◌+◌, ◌*◌, ◌/◌, ◌%◌, ◌<◌}
+use Rattle.std.proofs.Math.ListN.{get_or}
+use Rattle.std.proofs.Math.Seq.{get_or-take, get_or-drop}
 use Rattle.disk.specs.Limits.{sector_bytes}
 use Rattle.disk.specs.Geometry.{slot_of}
 use Rattle.disk.specs.Image.{sector}
 use Rattle.record.specs.Log.{part}
 use Rattle.codeword.specs.Stripe.{byte_at}
-use Rattle.solve.specs.Lost.{shards_of, Lost}
-use Rattle.code.specs.Shape.{shaped_of}
-use Rattle.solve.specs.Lists.{shards_lost}
 use Rattle.codecs.specs.Sector.{Sector}
 use Rattle.codecs.specs.Shelf.{Shelf, slots, some_sectors}
 use Rattle.codecs.specs.Records.{strip_bytes}
 use Rattle.codecs.proofs.Written.{length_strip, strip_part}
-use Rattle.position.specs.Row.{in_row, row_length, row_at}
-use Rattle.position.specs.Lists.{ascending_shards}
+use Rattle.position.specs.Row.{row_length, row_at}
 use Rattle.shards.specs.Parity.{byte}
 use Rattle.shards.specs.Strips.{position}
 use Rattle.stripes.specs.Slice.{shard_at, laid_out, each_byte, n, len, within, sector_byte, sector_is}

@@ -1,9 +1,9 @@
 -- What rebuild, encode and scrub make of a shelf's stripe, by their contracts alone, is what the protocol's code says: the blocks that
 -- a read gives, the strips that a write puts, the finding of a scrub. Whatever the strips hold, also where they contradict each
 -- other. Assumes nothing.
-use Rattle.std.specs.Prelude.{◌≡◌, refl, Bool, cond, ◌⊎◌, eqb, leb, length, get_or}
+use Rattle.std.specs.Prelude.{◌≡◌, refl, Bool, cond, ◌⊎◌, leb, length, get_or}
 use Rattle.std.proofs.Math.Path.{sym, ap}
-use Rattle.std.proofs.Common.{◌∙◌, subst, true≢false, inl, inr, arith, lit<, le-leb}
+use Rattle.std.proofs.Common.{◌∙◌, subst, inl, inr, arith, le-leb}
 use Rattle.std.proofs.Math.Bool.{true, false}
 use mathlib.Core.List.{List}
 use Prim.Native.Nat.{ℕ, ◌+◌, ◌-◌, ◌*◌, ◌≤◌, ◌<◌}
@@ -18,15 +18,14 @@ use Rattle.codeword.specs.Named.{has_index}
 use Rattle.solve.specs.Lost.{shards_of}
 use Rattle.code.specs.Shape.{rebuild_answer}
 use Rattle.code.specs.Lists.{below_or_not}
-use Rattle.code.specs.Stripes.{Encoded, Rebuilt, Accuses, Says}
+use Rattle.code.specs.Stripes.{Encoded, Rebuilt}
 use Rattle.code.specs.declared.Verdict.{Verdict}
 use Rattle.code.specs.declared.Verdict.TheVariants as verdict
 use Rattle.protocol.specs.Host.{Blocks, Finding, all_sound, accused, several}
 use Rattle.codecs.specs.Sector.{Sector}
 use Rattle.codecs.specs.Shelf.{Shelf, slots}
 use Rattle.shards.specs.Quorum.{few_of}
-use Rattle.position.specs.Search.{some, some_of, first, first_is, first_lt}
-use Rattle.position.specs.Position.{holds, holds_true, holds_is, padded_off, parity_ext}
+use Rattle.position.specs.Position.{padded_off, parity_ext}
 use Rattle.position.specs.Rebuild.{same_padding}
 use Rattle.shards.specs.Parity.{byte, shard_sector}
 use Rattle.shards.proofs.Parity.{data_sector, sectors_hold}

@@ -1,9 +1,9 @@
 -- A stripe of a shelf as one slice: its shards one behind the other, as the functions on a stripe take them. Assumes nothing.
-use Rattle.std.specs.Prelude.{◌≡◌, Bool, true, length, take, drop}
+use Rattle.std.specs.Prelude.{◌≡◌, Bool, true, length, drop}
 use Rattle.std.proofs.Math.Path.{sym, ap}
-use Rattle.std.proofs.Common.{◌∙◌, subst, div-add-mod', div-lt_iff_lt-mul, mod-lt, arith, ext_get_or}
+use Rattle.std.proofs.Common.{◌∙◌, subst, div-add-mod', arith, ext_get_or}
 use mathlib.Core.List.{List}
-use Prim.Native.Nat.{ℕ, ◌+◌, ◌*◌, ◌/◌, ◌%◌, ◌≤◌, ◌<◌}
+use Prim.Native.Nat.{ℕ, ◌+◌, ◌*◌, ◌/◌, ◌%◌, ◌<◌}
 use Rattle.std.proofs.Math.Nat.{mul_assoc}
 use Rattle.std.proofs.Math.Arith.{digits_lt}
 use Rattle.std.proofs.Math.ListN.{get_or, length-drop}
@@ -12,7 +12,6 @@ use borrow.Author.Tests.{le-leb, eq-eqb}
 use Rattle.disk.specs.Limits.{sector_bytes}
 use Rattle.disk.specs.Geometry.{slot_of}
 use Rattle.disk.specs.Image.{place, sector}
-use Rattle.record.specs.Log.{part}
 use Rattle.codeword.specs.Stripe.{k_least, k_most, m_least, m_most, len_most, byte_at}
 use Rattle.solve.specs.Lost.{shards_of, Lost}
 use Rattle.code.specs.Shape.{shaped_of}
@@ -21,7 +20,7 @@ use Rattle.codecs.specs.Sector.{Sector}
 use Rattle.codecs.specs.Shelf.{Shelf, slots, short_strip, some_sectors}
 use Rattle.codecs.specs.Records.{strip_bytes}
 use Rattle.shards.specs.Quorum.{few_of}
-use Rattle.position.specs.Row.{in_row, row_length, row_at}
+use Rattle.position.specs.Row.{in_row}
 use Rattle.position.specs.Lists.{ascending_shards}
 use Rattle.shards.specs.Parity.{byte}
 use Rattle.shards.specs.Strips.{missing_of, in_range_lem}

@@ -1,14 +1,13 @@
 -- The strip of a slot that is not there, as it is filled in, is the strip that the protocol rebuilds: its blocks as they are read, and
 -- from these its shard. Whatever the strips that are there hold: a data shard that is there is always among the k least of them, so
 -- filling in a parity shard and computing it from the blocks is the same. Assumes nothing.
-use Rattle.std.specs.Prelude.{◌≡◌, refl, Bool, true, false, List, ℕ, ◌+◌, ◌*◌, ◌≤◌, ◌<◌}
-use Rattle.std.proofs.Common.{sym, ◌∙◌, arith}
+use Rattle.std.specs.Prelude.{◌≡◌, true, false, List, ℕ, ◌+◌, ◌*◌, ◌≤◌, ◌<◌}
+use Rattle.std.proofs.Common.{◌∙◌}
 use Rattle.std.proofs.Math.Path.{ap}
 use Rattle.std.proofs.Math.Bool.{not}
 use Rattle.disk.specs.Limits.{sector_bytes}
 use Rattle.disk.specs.Geometry.{slot_of, shard_lt, slot_shard}
 use Rattle.disk.specs.Mask.{in_mask}
-use Rattle.position.specs.Position.{padded}
 use Rattle.codecs.specs.Sector.{Sector}
 use Rattle.codecs.specs.Shelf.{Shelf, slots, geometry, some_slots}
 use Rattle.codecs.specs.Records.{strip_bytes}

@@ -12,7 +12,6 @@ use Rattle.disk.specs.Geometry.{slot_of, shard_of}
 use Rattle.disk.specs.Image.{sector}
 use Rattle.disk.specs.Mask.{in_mask, in_past}
 use Rattle.codeword.specs.Unique.{AllBytes}
-use Rattle.position.specs.Position.{ascending, filled, filled_bytes}
 use Rattle.code.specs.Stripes.{Says, Repaired}
 use Rattle.code.specs.declared.Verdict.{Verdict}
 use Rattle.code.specs.declared.Verdict.TheVariants as verdict

@@ -1,7 +1,7 @@
 -- A stripe as it is seen in the lent image is the protocol's: the strips of the slots that are there, with those of some slots taken
 -- from a slice of shards instead. What is shown of it, shard by shard, are the blocks that the protocol's code reads, whatever is lost
 -- and whatever the strips hold. Assumes nothing.
-use Rattle.std.specs.Prelude.{◌≡◌, Bool, true, false, cond, not, drop}
+use Rattle.std.specs.Prelude.{◌≡◌, Bool, true, false, cond, drop}
 use Rattle.std.proofs.Math.Path.{refl, sym, ap}
 use Rattle.std.proofs.Common.{◌∙◌, zero-add, lit<, get_or-take}
 use mathlib.Core.List.{List}
@@ -20,7 +20,6 @@ use Rattle.codecs.specs.Sector.{Sector}
 use Rattle.codecs.specs.Shelf.{Shelf, geometry, some_slots}
 use Rattle.codecs.specs.Records.{strip_bytes}
 use Rattle.codecs.proofs.Written.{length_strip}
-use Rattle.record.specs.Log.{part}
 use Rattle.shards.specs.Parity.{byte}
 use Rattle.shards.specs.Strips.{position, missing_of, missing_has, blocks_byte}
 use Rattle.shards.proofs.Even.{any_code}

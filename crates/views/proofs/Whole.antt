@@ -1,27 +1,23 @@
 -- A whole stripe: what a scrub of it finds is what the protocol finds, a mended shard is the protocol's mended strip, and what is
 -- prepared for a write is the stripe that the protocol writes. Whatever the strips hold. That a slice of bytes holds bytes is asked of
 -- what a repair left, since its contract says it by the type of the slice alone. Assumes nothing.
-use Rattle.std.specs.Prelude.{◌≡◌, refl, Bool, cond, List, [], ◌∷◌, ◌≢◌, ◌⊎◌, eqb, length}
+use Rattle.std.specs.Prelude.{◌≡◌, refl, Bool, List, [], ◌∷◌, length}
 use Rattle.std.proofs.Math.Path.{sym, ap, ap₂}
-use Rattle.std.proofs.Common.{◌∙◌, subst, inl, inr, lit<}
+use Rattle.std.proofs.Common.{◌∙◌, subst}
 use Rattle.std.proofs.Math.Bool.{true, false, not}
-use Rattle.std.proofs.lemmas.Bool.{false≢true}
-use Prim.Native.Nat.{ℕ, ◌+◌, ◌-◌, ◌*◌, ◌≤◌, ◌<◌}
-use Rattle.std.proofs.Math.Decide.{ℕ_discrete}
+use Prim.Native.Nat.{ℕ, ◌+◌, ◌-◌, ◌*◌, ◌<◌}
 use native.Mathlib.Omega.{arith}
 use Rattle.std.proofs.Math.Dec.{leb}
-use borrow.Author.Tests.{eqb-true, eqb-false, eq-eqb, ne_eqb, not-false}
+use borrow.Author.Tests.{eqb-true, eq-eqb, not-false}
 use Rattle.disk.specs.Limits.{sector_bytes}
 use Rattle.disk.specs.Geometry.{slot_of, shard_of, shard_lt, slot_shard}
 use Rattle.disk.specs.Image.{sector}
 use Rattle.disk.specs.Mask.{in_mask}
 use Rattle.codeword.specs.Stripe.{has}
 use Rattle.codeword.specs.Unique.{AllBytes}
-use Rattle.code.specs.Lists.{below_or_not}
 use Rattle.code.specs.Stripes.{Says, Repaired}
 use Rattle.code.specs.declared.Verdict.{Verdict}
 use Rattle.code.specs.declared.Verdict.TheVariants as verdict
-use Rattle.position.specs.Position.{padded, padded_off, parity_ext}
 use Rattle.protocol.specs.Count.{count}
 use Rattle.protocol.specs.Slots.{from, of_from, every_all}
 use Rattle.protocol.specs.Host.{accused}
@@ -42,7 +38,7 @@ use Rattle.strips.specs.Laws.{lost_has}
 use Rattle.strips.specs.Whole.{stripe_seen, none_lost}
 use Rattle.views.specs.Seen.{Lying, Keeping, gone, laid_over}
 use Rattle.views.proofs.Seen.{none_over, row_laid}
-use Rattle.views.specs.Whole.{all_there, n, there_all, d, mended_byte, parity_many, plainly}
+use Rattle.views.specs.Whole.{all_there, n, there_all, mended_byte, parity_many, plainly}
 
 same_test : (a b : Bool) → (a ≡ true → b ≡ true) → (b ≡ true → a ≡ true) → a ≡ b
 same_test true b f g = sym (f refl)

@@ -1,10 +1,9 @@
 -- The strip of a slot that is not there, as it is filled in, is the strip that the protocol rebuilds: its blocks as they are read, and
 -- from these its shard. Whatever the strips that are there hold: a data shard that is there is always among the k least of them, so
 -- filling in a parity shard and computing it from the blocks is the same. Assumes nothing.
-use Rattle.std.specs.Prelude.{◌≡◌, refl, Bool, true, false, List, ℕ, ◌+◌, ◌*◌, ◌≤◌, ◌<◌}
+use Rattle.std.specs.Prelude.{◌≡◌, refl, Bool, true, false, List, ℕ, ◌<◌}
 use Rattle.std.proofs.Common.{sym, ◌∙◌, arith}
 use Rattle.std.proofs.Math.Path.{ap}
-use Rattle.std.proofs.Math.Bool.{not}
 use Rattle.disk.specs.Limits.{sector_bytes}
 use Rattle.disk.specs.Geometry.{slot_of, shard_of}
 use Rattle.disk.specs.Mask.{in_mask}
@@ -18,7 +17,6 @@ use Rattle.shards.specs.Strips.{shard_in, position, position_bytes, missing_of, 
 use Rattle.shards.specs.Exact.{blocks_there}
 use Rattle.shards.proofs.Exact.{blocks_found}
 use Rattle.stripes.specs.Slice.{missing_lost}
-use Rattle.strips.specs.Seen.{shown_byte, shard_shown}
 use Rattle.views.specs.Seen.{Lying, Keeping, gone, laid_over}
 use Rattle.views.specs.Whole.{shard_by}
 use Rattle.views.specs.Solvable.{completed_least, data_least}

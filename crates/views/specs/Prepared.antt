@@ -1,23 +1,12 @@
 -- A write of one block: what is prepared for it is the stripe that the protocol writes, and all shards are to change where the protocol
 -- changes them all. Whatever the strips hold. Assumes nothing.
-use Rattle.std.specs.Prelude.{◌≡◌, Bool, true, false, cond, ◌&&◌, ◌≢◌, ◌⊎◌, length}
-use Rattle.std.proofs.Math.Path.{refl, sym, ap, subst}
-use Rattle.std.proofs.Common.{◌∙◌, inl, inr, ⊎_elim, suc-mul, mul-le-mul_right, eq-or-lt_of_le, arith, eq-eqb, ne_eqb}
-use Rattle.std.proofs.Math.Bool.{not}
-use mathlib.Core.List.{List, [], ◌∷◌}
-use Prim.Native.Nat.{ℕ, suc, ◌+◌, ◌-◌, ◌*◌, ◌≤◌, ◌<◌}
-use Rattle.std.proofs.Math.Decide.{ℕ_discrete}
-use Rattle.std.proofs.Math.ListN.{get_or}
+use Rattle.std.specs.Prelude.{◌≡◌, true, cond, ◌≢◌, length}
+use mathlib.Core.List.{List}
+use Prim.Native.Nat.{ℕ, ◌+◌, ◌*◌, ◌<◌}
 use Rattle.std.proofs.Math.Seq.{paste}
-use Rattle.std.proofs.lemmas.List.Edits.{length-paste}
-use Rattle.std.proofs.lemmas.Bool.{not-false}
-use Rattle.field.specs.declared.Answer.{Answer}
 use Rattle.disk.specs.Limits.{sector_bytes}
 use Rattle.codeword.specs.Stripe.{byte_at}
 use Rattle.codeword.specs.Unique.{AllBytes}
-use Rattle.code.specs.Lists.{below_or_not}
-use Rattle.code.specs.Stripes.{Encoded, Rebuilt, Repaired}
-use Rattle.code.specs.declared.Verdict.{Verdict}
 use Rattle.protocol.specs.Host.{Finding, mend}
 use Rattle.protocol.specs.Pairs.{no_sets}
 use Rattle.codecs.specs.Sector.{Sector}
@@ -28,9 +17,7 @@ use Rattle.shards.specs.Quorum.{few_of}
 use Rattle.shards.specs.Parity.{byte}
 use Rattle.shards.proofs.Even.{any_code}
 use Rattle.stripes.specs.Slice.{shard_bytes}
-use Rattle.strips.specs.Seen.{lost_of, seen}
-use Rattle.strips.specs.Laws.{row_bytes, row_byte}
-use Rattle.strips.specs.Whole.{stripe_seen, none_lost, changes, PreparedBy}
+use Rattle.strips.specs.Whole.{none_lost}
 use Rattle.views.specs.Seen.{Lying, gone}
 use Rattle.views.specs.Whole.{all_there}
 

@@ -1,20 +1,14 @@
 -- The same in the words of the protocol's program. Its label says which strips are believed: `there` has the slots of these. What is shown
 -- of a block is what the program reads (from the work area, where a write is on its way to its strips), what is filled in is what it
 -- rebuilds, what is prepared for a write is what it writes, and a scrub finds what it finds. Assumes nothing.
-use Rattle.std.specs.Prelude.{◌≡◌, ◌&&◌, eqb, ltb}
-use Rattle.std.proofs.Math.Path.{refl, ap, fun_ext}
-use Rattle.std.proofs.Common.{sym, ap₂, ◌∙◌, arith, lit<}
-use Rattle.std.proofs.Math.Bool.{Bool, true, false, cond, not}
-use Rattle.std.proofs.lemmas.Bool.{false≢true}
-use mathlib.Core.List.{List, []}
-use Prim.Native.Nat.{ℕ, zero, suc, ◌+◌, ◌-◌, ◌≤◌, ◌<◌}
+use Rattle.std.specs.Prelude.{◌≡◌}
+use Rattle.std.proofs.Math.Bool.{Bool, true}
+use mathlib.Core.List.{List}
+use Prim.Native.Nat.{ℕ, ◌<◌}
 use Rattle.disk.specs.Geometry.{slot_of, slot_lt}
 use Rattle.disk.specs.Mask.{in_mask}
 use Rattle.codeword.specs.Unique.{AllBytes}
 use Rattle.position.specs.Position.{ascending, filled, filled_bytes}
-use Rattle.code.specs.Stripes.{Says, Repaired}
-use Rattle.code.specs.declared.Verdict.{Verdict}
-use Rattle.code.specs.declared.Verdict.TheVariants as verdict
 use Rattle.protocol.specs.World.{strip, Image}
 use Rattle.protocol.specs.Label.{Label, believed, Quorum}
 use Rattle.protocol.specs.Host.{strips_of}
@@ -30,8 +24,7 @@ use Rattle.shards.specs.Quorum.{few_of}
 use Rattle.shards.specs.Parity.{sector_of}
 use Rattle.shards.specs.Strips.{position, position_bytes, missing_of, blocks_from}
 use Rattle.shards.proofs.Even.{any_code, any_sectors}
-use Rattle.strips.specs.Seen.{shard_shown, row_seen}
-use Rattle.strips.specs.Whole.{stripe_seen, none_lost, PreparedBy}
+use Rattle.strips.specs.Whole.{PreparedBy}
 use Rattle.views.specs.Seen.{Lying, gone}
 
 -- the blocks that are read go by which slots of the shelf are bad

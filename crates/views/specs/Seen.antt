@@ -1,29 +1,23 @@
 -- A stripe as it is seen in the lent image is the protocol's: the strips of the slots that are there, with those of some slots taken
 -- from a slice of shards instead. What is shown of it, shard by shard, are the blocks that the protocol's code reads, whatever is lost
 -- and whatever the strips hold. Assumes nothing.
-use Rattle.std.specs.Prelude.{◌≡◌, Bool, true, false, cond, not, drop}
-use Rattle.std.proofs.Math.Path.{refl, sym, ap}
-use Rattle.std.proofs.Common.{◌∙◌, zero-add, lit<, get_or-take}
+use Rattle.std.specs.Prelude.{◌≡◌, Bool, true, cond, not, drop}
+use Rattle.std.proofs.Math.Path.{sym, ap}
+use Rattle.std.proofs.Common.{◌∙◌, get_or-take}
 use mathlib.Core.List.{List}
-use Prim.Native.Nat.{ℕ, ◌+◌, ◌-◌, ◌*◌, ◌≤◌, ◌<◌}
-use native.Mathlib.Omega.{arith}
-use Rattle.std.proofs.Math.ListN.{length, get_or}
-use Rattle.std.proofs.Math.Seq.{get_or-drop, ext_get_or}
-use Rattle.std.proofs.lemmas.Bool.{not-false}
+use Prim.Native.Nat.{ℕ, ◌+◌, ◌*◌, ◌<◌}
+use Rattle.std.proofs.Math.ListN.{get_or}
+use Rattle.std.proofs.Math.Seq.{get_or-drop}
 use Rattle.disk.specs.Limits.{sector_bytes}
 use Rattle.disk.specs.Geometry.{strip_of, slot_of}
 use Rattle.disk.specs.Image.{sector}
 use Rattle.disk.specs.Mask.{in_mask}
-use Rattle.position.specs.Row.{listed, listed_length, listed_at}
-use Rattle.position.specs.Position.{filled, filled_blind}
 use Rattle.codecs.specs.Sector.{Sector}
 use Rattle.codecs.specs.Shelf.{Shelf, slots, geometry}
 use Rattle.codecs.specs.Records.{strip_bytes}
 use Rattle.codecs.proofs.Written.{strip_part}
 use Rattle.record.specs.Log.{part}
 use Rattle.shards.specs.Parity.{byte}
-use Rattle.strips.specs.Seen.{lost_of, seen, shown_byte, shard_shown, row_seen}
-use Rattle.strips.specs.Laws.{row_bytes, row_byte}
 
 -- ---- the image's strips, and the slice's
 

@@ -1,16 +1,15 @@
 -- A whole stripe: what a scrub of it finds is what the protocol finds, a mended shard is the protocol's mended strip, and what is
 -- prepared for a write is the stripe that the protocol writes. Whatever the strips hold. That a slice of bytes holds bytes is asked of
 -- what a repair left, since its contract says it by the type of the slice alone. Assumes nothing.
-use Rattle.std.specs.Prelude.{◌≡◌, refl, Bool, cond, List, [], ◌∷◌, ◌≢◌, ◌⊎◌, eqb, length}
-use Rattle.std.proofs.Math.Path.{sym, ap, ap₂}
+use Rattle.std.specs.Prelude.{◌≡◌, refl, Bool, cond, List, [], ◌∷◌, ◌≢◌, ◌⊎◌, eqb}
+use Rattle.std.proofs.Math.Path.{sym, ap}
 use Rattle.std.proofs.Common.{◌∙◌, subst, inl, inr, lit<}
-use Rattle.std.proofs.Math.Bool.{true, false, not}
+use Rattle.std.proofs.Math.Bool.{true, false}
 use Rattle.std.proofs.lemmas.Bool.{false≢true}
 use Prim.Native.Nat.{ℕ, ◌+◌, ◌-◌, ◌*◌, ◌≤◌, ◌<◌}
 use Rattle.std.proofs.Math.Decide.{ℕ_discrete}
 use native.Mathlib.Omega.{arith}
-use Rattle.std.proofs.Math.Dec.{leb}
-use borrow.Author.Tests.{eqb-true, eqb-false, eq-eqb, ne_eqb, not-false}
+use borrow.Author.Tests.{eqb-false, eq-eqb, ne_eqb}
 use Rattle.disk.specs.Limits.{sector_bytes}
 use Rattle.disk.specs.Geometry.{slot_of, slot_lt, slot_one}
 use Rattle.disk.specs.Mask.{in_mask, in_past}
@@ -18,9 +17,6 @@ use Rattle.codeword.specs.Stripe.{Holds, byte_at, has, Sound, AgreeOff}
 use Rattle.codeword.proofs.Laid.{holds_ext}
 use Rattle.codeword.specs.Mend.{put, put_at, put_off, put_bytes}
 use Rattle.code.specs.Lists.{below_or_not}
-use Rattle.code.specs.Stripes.{Says, Repaired}
-use Rattle.code.specs.declared.Verdict.{Verdict}
-use Rattle.code.specs.declared.Verdict.TheVariants as verdict
 use Rattle.position.specs.Position.{padded, padded_off, parity_ext}
 use Rattle.protocol.specs.Slots.{from, in_from, every, every_of}
 use Rattle.protocol.specs.Host.{Blocks}
@@ -37,10 +33,6 @@ use Rattle.shards.proofs.Exact.{blocks_found}
 use Rattle.shards.specs.Code.{mended_in}
 use Rattle.stripes.specs.Slice.{shard_bytes, laid_out, within}
 use Rattle.stripes.proofs.Slice.{laid_position}
-use Rattle.strips.specs.Seen.{lost_of, row_seen}
-use Rattle.strips.specs.Answers.{few_lost}
-use Rattle.strips.specs.Laws.{lost_has}
-use Rattle.strips.specs.Whole.{stripe_seen, none_lost}
 use Rattle.views.specs.Seen.{Lying, Keeping}
 
 -- ---- how many are lost

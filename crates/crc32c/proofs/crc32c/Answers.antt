@@ -1,7 +1,6 @@
 -- `crc32c::crc32c` meets its contract. The table passes its test; the rest is the definition. Assumes nothing.
 use mathlib.Core.Path.{ap}
 use Prim.Native.Nat.{ℕ}
-use borrow.Author.Rules.{rules}
 use lib.Bits.{bit_xor}
 use Rattle.crc32c.specs.Crc.{all_ones, step, steps, crc_of}
 use Rattle.crc32c.proofs.Rows.{known, doubles, added, sums, powers, right, table_right}

@@ -1,11 +1,8 @@
 -- `crc32c::rest` meets its contract. The loop's invariant: what is left, from the register so far, is what was asked. Assumes nothing.
-use mathlib.Core.Path.{◌≡◌, refl, sym, ap, ◌∙◌}
-use Prim.Native.Nat.{ℕ, ◌≤◌, ◌-◌, ◌+◌}
-use native.Mathlib.Omega.{arith}
-use borrow.Author.Rules.{rules}
+use mathlib.Core.Path.{◌≡◌}
+use Prim.Native.Nat.{◌≤◌, ◌-◌}
 use lib.ListN.{length, drop}
 use Rattle.crc32c.specs.Crc.{run}
-use Rattle.crc32c.proofs.Slices.{run_byte, run_end}
 use Rattle.crc32c.proofs.rest.Given as goal
 
 abbrev pub invariant-loop-i : goal.invariant-loop-i

@@ -1,8 +1,6 @@
 -- `crc32c::turns` meets its contract. The loop's invariant: what is left, from the register so far, is the whole. Assumes nothing.
-use mathlib.Core.Path.{◌≡◌, refl, sym, ◌∙◌}
+use mathlib.Core.Path.{◌≡◌}
 use Prim.Native.Nat.{◌≤◌, ◌-◌}
-use native.Mathlib.Omega.{arith}
-use borrow.Author.Rules.{rules}
 use lib.ListN.{length, drop}
 use Rattle.crc32c.specs.Crc.{run}
 use Rattle.crc32c.proofs.turns.Given as goal

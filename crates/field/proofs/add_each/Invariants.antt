@@ -1,8 +1,5 @@
 use Prim.Native.Nat.{◌-◌}
-use mathlib.Core.Path.{refl}
-use native.Mathlib.Omega.{arith}
-use borrow.Author.Rules.{rules}
-use lib.ListN.{length, length-set}
+use lib.ListN.{length}
 use lib.Bits.{bit_xor}
 use Rattle.field.specs.Turns.{Begun}
 use Rattle.field.proofs.add_each.Given as goal

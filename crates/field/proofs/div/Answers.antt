@@ -1,5 +1,4 @@
 use mathlib.Core.Path.{ap, sym}
-use borrow.Author.Rules.{rules}
 use Rattle.field.specs.Quotient.{quotient_of}
 use Rattle.field.proofs.QuotientLaws.{quotient_of_lem}
 use Rattle.field.proofs.div.Goals as goal

@@ -1,8 +1,5 @@
-use Prim.Native.Nat.{ℕ, ◌-◌}
-use mathlib.Core.Path.{ap}
-use native.Mathlib.Omega.{arith}
-use borrow.Author.Rules.{rules}
-use lib.ListN.{length, length-set, get_or}
+use Prim.Native.Nat.{◌-◌}
+use lib.ListN.{length}
 use lib.Bits.{bit_xor}
 use Rattle.field.specs.Turns.{Begun}
 use Rattle.field.specs.Field.{mul_of, g}

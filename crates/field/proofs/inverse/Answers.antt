@@ -1,4 +1,3 @@
-use borrow.Author.Rules.{rules}
 use Rattle.field.specs.Field.{inverse_of}
 use Rattle.field.proofs.inverse.Goals as goal
 

@@ -1,7 +1,5 @@
-use Prim.Native.Nat.{◌<◌}
-use mathlib.Core.Path.{◌≡◌, ◌∙◌}
+use mathlib.Core.Path.{◌∙◌}
 use borrow.Author.Rules.{rules}
-use lib.Bits.{bit_xor}
 use Rattle.field.proofs.Product.{mul_bytes}
 use Rattle.field.proofs.Turns.{mul_turn, mul_done, double_byte}
 use Rattle.field.proofs.mul.Goals as goal

@@ -1,6 +1,5 @@
 use Prim.Native.Nat.{◌<◌}
-use mathlib.Core.Path.{◌≡◌, ◌∙◌}
-use borrow.Author.Rules.{rules}
+use mathlib.Core.Path.{◌≡◌}
 use lib.Bits.{bit_xor}
 use Rattle.field.specs.Field.{mul_bits, mul_of}
 use Rattle.field.proofs.mul.Given as goal

@@ -1,8 +1,7 @@
-use Prim.Native.Nat.{◌-◌}
 use mathlib.Core.Path.{ap}
 use native.Mathlib.Omega.{arith}
 use borrow.Author.Rules.{rules}
-use lib.ListN.{length, length-set, get_or}
+use lib.ListN.{length-set, get_or}
 use lib.Bits.{bit_xor}
 use Rattle.field.specs.Turns.{each_first, each_turn, each_done}
 use Rattle.field.specs.Field.{mul_of}

@@ -1,6 +1,4 @@
-use mathlib.Core.Path.{◌≡◌}
 use borrow.Author.Rules.{rules}
-use Prim.Native.Nat.{◌<◌}
 use Rattle.field.proofs.Turns.{power_first, power_turn, power_done, double_byte}
 use Rattle.field.proofs.power_of_g.Goals as goal
 

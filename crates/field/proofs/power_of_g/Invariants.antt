@@ -1,5 +1,4 @@
 use mathlib.Core.Path.{◌≡◌}
-use borrow.Author.Rules.{rules}
 use Prim.Native.Nat.{◌<◌}
 use Rattle.field.specs.Field.{mul_of, power_of}
 use Rattle.field.proofs.power_of_g.Given as goal

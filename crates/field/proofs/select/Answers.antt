@@ -1,4 +1,3 @@
-use borrow.Author.Rules.{rules}
 use Rattle.field.specs.Turns.{pick_pos}
 use Rattle.field.proofs.select.Goals as goal
 

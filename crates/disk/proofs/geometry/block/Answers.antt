@@ -1,10 +1,9 @@
 -- Each way out is one of the three tests; a block is below T * k, so that its number fits.
-use Prim.Native.Nat.{◌*◌, ◌+◌, ◌≤◌, ◌-◌}
-use borrow.Author.Tests.{le-ltb, lt-ltb, not-true, not-false}
+use Prim.Native.Nat.{◌*◌, ◌+◌, ◌≤◌}
+use borrow.Author.Tests.{le-ltb, lt-ltb}
 use mathlib.Core.Path.{◌≡◌, sym, ◌∙◌}
 use mathlib.Core.Bool.{true}
 use native.Mathlib.Omega.{arith}
-use borrow.Author.Rules.{rules}
 use Rattle.disk.specs.Geometry.{block_lt, in_range_with, stripes_of, blocks_of, block_of, in_range_with_lem, stripes_le, product_le}
 use Rattle.disk.specs.Limits.{most_k, most_sectors}
 use Rattle.disk.proofs.geometry.block.Goals as goal

@@ -1,10 +1,7 @@
 -- T and k are in range, so that their product fits.
-use borrow.Author.Tests.{not-true, not-false}
 use mathlib.Core.Path.{◌≡◌, sym, ◌∙◌}
 use mathlib.Core.Bool.{true}
 use native.Mathlib.Omega.{arith}
-use Prim.Native.Nat.{◌-◌}
-use borrow.Author.Rules.{rules}
 use Rattle.disk.specs.Geometry.{in_range_with, blocks_of, in_range_with_lem, product_le}
 use Rattle.disk.specs.Limits.{most_k, most_sectors}
 use Rattle.disk.proofs.geometry.blocks.Goals as goal

@@ -1,6 +1,5 @@
 -- T, and its bound.
 use native.Mathlib.Omega.{arith}
-use Prim.Native.Nat.{◌-◌}
 use borrow.Author.Rules.{rules}
 use Rattle.disk.specs.Geometry.{stripes_of, stripes_le}
 use Rattle.disk.proofs.geometry.count.Goals as goal

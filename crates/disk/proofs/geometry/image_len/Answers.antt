@@ -1,10 +1,7 @@
 -- The products fit, since n and S are in range.
-use borrow.Author.Tests.{not-true, not-false}
 use mathlib.Core.Path.{◌≡◌, sym, ◌∙◌}
 use mathlib.Core.Bool.{true}
 use native.Mathlib.Omega.{arith}
-use Prim.Native.Nat.{◌-◌}
-use borrow.Author.Rules.{rules}
 use Rattle.disk.specs.Geometry.{in_range, image_bytes, in_range_lem, sectors_le}
 use Rattle.disk.proofs.geometry.image_len.Goals as goal
 

@@ -1,10 +1,8 @@
 -- Each way out is one of the five tests.
-use borrow.Author.Tests.{not-true, not-false, lt-leb, le-leb}
+use borrow.Author.Tests.{lt-leb, le-leb}
 use mathlib.Core.Path.{◌≡◌, sym, ◌∙◌}
 use mathlib.Core.Bool.{true}
 use native.Mathlib.Omega.{arith}
-use Prim.Native.Nat.{◌-◌}
-use borrow.Author.Rules.{rules}
 use Rattle.disk.specs.Geometry.{strip_length, in_range, strip_length_lem}
 use Rattle.disk.proofs.geometry.in_range.Goals as goal
 

@@ -1,8 +1,5 @@
 -- Both tests, one after the other.
-use borrow.Author.Tests.{not-true, not-false}
 use mathlib.Core.Path.{sym, ◌∙◌}
-use Prim.Native.Nat.{◌-◌}
-use borrow.Author.Rules.{rules}
 use Rattle.disk.specs.Geometry.{in_range_with}
 use Rattle.disk.proofs.geometry.in_range_with.Goals as goal
 

@@ -1,7 +1,5 @@
 -- Each way out is one of the four tests.
 use borrow.Author.Tests.{lt-leb, le-leb}
-use Prim.Native.Nat.{◌-◌}
-use borrow.Author.Rules.{rules}
 use Rattle.disk.specs.Geometry.{splits}
 use Rattle.disk.proofs.geometry.may_split.Goals as goal
 

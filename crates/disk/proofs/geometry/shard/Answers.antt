@@ -1,11 +1,9 @@
 -- Each way out is one of the three tests; d is below n, so that the sum fits.
 use native.Mathlib.Nat.{mod-lt}
-use borrow.Author.Tests.{le-ltb, lt-ltb, not-true, not-false}
+use borrow.Author.Tests.{le-ltb, lt-ltb}
 use mathlib.Core.Path.{◌≡◌, sym, ◌∙◌}
 use mathlib.Core.Bool.{true}
 use native.Mathlib.Omega.{arith}
-use Prim.Native.Nat.{◌-◌}
-use borrow.Author.Rules.{rules}
 use Rattle.disk.specs.Geometry.{in_range, stripes_of, shard_of, in_range_lem, InRange}
 use Rattle.disk.proofs.geometry.shard.Goals as goal
 

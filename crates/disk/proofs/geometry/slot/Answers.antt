@@ -1,10 +1,8 @@
 -- Each way out is one of the three tests; t is below T, so that the sum fits.
-use borrow.Author.Tests.{le-ltb, lt-ltb, not-true, not-false}
+use borrow.Author.Tests.{le-ltb, lt-ltb}
 use mathlib.Core.Path.{◌≡◌, sym, ◌∙◌}
 use mathlib.Core.Bool.{true}
 use native.Mathlib.Omega.{arith}
-use Prim.Native.Nat.{◌-◌}
-use borrow.Author.Rules.{rules}
 use Rattle.disk.specs.Geometry.{in_range, stripes_of, slot_of, in_range_lem}
 use Rattle.disk.proofs.geometry.slot.Goals as goal
 

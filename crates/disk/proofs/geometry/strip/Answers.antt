@@ -1,10 +1,9 @@
 -- A strip in range lies within the disk, so that its first sector is a number that fits.
-use borrow.Author.Tests.{le-ltb, lt-ltb, not-true, not-false}
+use borrow.Author.Tests.{le-ltb, lt-ltb}
 use mathlib.Core.Path.{◌≡◌, sym, ◌∙◌}
 use mathlib.Core.Bool.{true}
 use native.Mathlib.Omega.{arith}
-use Prim.Native.Nat.{◌≤◌, ◌-◌, ◌+◌, ◌*◌}
-use borrow.Author.Rules.{rules}
+use Prim.Native.Nat.{◌≤◌, ◌+◌, ◌*◌}
 use Rattle.disk.specs.Geometry.{in_range, stripes_of, strip_of, in_range_lem}
 use Rattle.disk.proofs.GeometryLaws.{strip_inside}
 use Rattle.disk.specs.Limits.{most_sectors, first_strip}

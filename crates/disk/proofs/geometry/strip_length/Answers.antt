@@ -1,6 +1,5 @@
 -- Each way out is one of the four tests.
 use borrow.Author.Tests.{ne_eqb, eq-eqb}
-use Prim.Native.Nat.{◌-◌}
 use Rattle.disk.specs.Geometry.{strip_length}
 use Rattle.disk.proofs.geometry.strip_length.Goals as goal
 

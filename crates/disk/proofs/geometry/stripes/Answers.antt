@@ -1,9 +1,6 @@
 -- T, of a geometry in range.
-use borrow.Author.Tests.{not-true, not-false}
 use mathlib.Core.Path.{◌≡◌, sym, ◌∙◌}
 use mathlib.Core.Bool.{true}
-use Prim.Native.Nat.{◌-◌}
-use borrow.Author.Rules.{rules}
 use Rattle.disk.specs.Geometry.{in_range, in_range_lem}
 use Rattle.disk.proofs.geometry.stripes.Goals as goal
 

@@ -6,7 +6,6 @@ use Prim.Native.Nat.{◌^◌}
 use lib.Pow.{shl_exact, pow_mono}
 use native.Mathlib.Nat.{one-mul}
 use lib.Dec.{ltb}
-use borrow.Author.Rules.{rules}
 use Rattle.disk.proofs.mask.all_below.Goals as goal
 
 pub returns-then-n-ge-MASK_BITS : goal.returns-then-n-ge-MASK_BITS

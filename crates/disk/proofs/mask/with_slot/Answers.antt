@@ -5,7 +5,6 @@ use native.Mathlib.Omega.{arith}
 use Prim.Native.Nat.{◌%◌, ◌^◌, ◌+◌, ◌*◌}
 use lib.Pow.{shl_exact}
 use native.Mathlib.Nat.{one-mul}
-use borrow.Author.Rules.{rules}
 use Rattle.disk.specs.Mask.{with_slot, with_lt}
 use Rattle.disk.proofs.mask.with_slot.Goals as goal
 

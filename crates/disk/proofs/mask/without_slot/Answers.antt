@@ -4,7 +4,6 @@ use native.Mathlib.Omega.{arith}
 use Prim.Native.Nat.{◌%◌, ◌^◌, ◌*◌}
 use lib.Pow.{shl_exact}
 use native.Mathlib.Nat.{one-mul}
-use borrow.Author.Rules.{rules}
 use Rattle.disk.specs.Mask.{without_slot, in_past, slot_le}
 use Rattle.disk.proofs.mask.without_slot.Goals as goal
 

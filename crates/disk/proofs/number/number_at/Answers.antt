@@ -1,7 +1,6 @@
 use mathlib.Core.Path.{◌≡◌, sym, ap₂, ◌∙◌, subst}
 use native.Mathlib.Omega.{arith}
-use Prim.Native.Nat.{◌^◌, ℕ, ◌≤◌, ◌<◌, ◌-◌, ◌+◌, ◌*◌}
-use borrow.Author.Rules.{rules}
+use Prim.Native.Nat.{◌^◌, ℕ, ◌<◌, ◌-◌, ◌+◌, ◌*◌}
 use Rattle.disk.specs.Number.{number_at, read_fits, pow_some}
 use Rattle.disk.proofs.NumberLaws.{read_none, read_turn, number_past}
 use Rattle.disk.proofs.number.number_at.Goals as goal

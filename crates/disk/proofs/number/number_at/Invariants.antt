@@ -1,8 +1,6 @@
 -- The loop's invariant: x is the number of the bytes from i on. Its measure is i.
-use mathlib.Core.Path.{◌≡◌, sym, ap₂, ◌∙◌, subst}
-use native.Mathlib.Omega.{arith}
-use Prim.Native.Nat.{◌^◌, ℕ, ◌≤◌, ◌<◌, ◌-◌, ◌+◌, ◌*◌}
-use borrow.Author.Rules.{rules}
+use mathlib.Core.Path.{◌≡◌}
+use Prim.Native.Nat.{◌^◌, ◌≤◌, ◌<◌, ◌-◌, ◌+◌}
 use Rattle.disk.specs.Number.{number_at}
 use Rattle.disk.proofs.number.number_at.Given as goal
 

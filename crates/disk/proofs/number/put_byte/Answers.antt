@@ -1,7 +1,6 @@
 -- Past the end nothing is written.
 use mathlib.Core.Path.{sym}
 use lib.Seq.{set_out}
-use borrow.Author.Rules.{rules}
 use Rattle.disk.proofs.number.put_byte.Goals as goal
 
 pub returns-else-at-b : goal.returns-else-at-b

@@ -1,9 +1,8 @@
-use mathlib.Core.Path.{◌≡◌, refl, sym, ap, ◌∙◌}
+use mathlib.Core.Path.{refl, sym, ap, ◌∙◌}
 use mathlib.Core.List.{List}
 use native.Mathlib.Omega.{arith}
 use lib.ListN.{length, length-set}
-use Prim.Native.Nat.{◌/◌, ◌%◌, ℕ, ◌≤◌, ◌-◌, ◌+◌}
-use borrow.Author.Rules.{rules}
+use Prim.Native.Nat.{◌/◌, ◌%◌, ℕ, ◌-◌, ◌+◌}
 use Rattle.disk.specs.Number.{with_number, write_start, write_turn, write_done, with_past}
 use Rattle.disk.proofs.number.put_number.Goals as goal
 

@@ -1,10 +1,7 @@
 -- The loop's invariant: what is still to be written makes the whole. Its measure is what is left of the width.
-use mathlib.Core.Path.{◌≡◌, refl, sym, ap, ◌∙◌}
-use mathlib.Core.List.{List}
-use native.Mathlib.Omega.{arith}
-use lib.ListN.{length, length-set}
-use Prim.Native.Nat.{◌/◌, ◌%◌, ℕ, ◌≤◌, ◌-◌, ◌+◌}
-use borrow.Author.Rules.{rules}
+use mathlib.Core.Path.{◌≡◌}
+use lib.ListN.{length}
+use Prim.Native.Nat.{◌≤◌, ◌-◌, ◌+◌}
 use Rattle.disk.specs.Number.{with_number}
 use Rattle.disk.proofs.number.put_number.Given as goal
 

@@ -3,7 +3,6 @@ use mathlib.Core.Path.{◌≡◌, ap}
 use native.Mathlib.Omega.{arith}
 use lib.ListN.{take, drop}
 use Prim.Native.Nat.{ℕ, ◌-◌, ◌+◌}
-use borrow.Author.Rules.{rules}
 use Rattle.disk.specs.Limits.{sector_bytes}
 use Rattle.disk.specs.Image.{place, sector}
 use Rattle.disk.proofs.sector.get_sector.Goals as goal

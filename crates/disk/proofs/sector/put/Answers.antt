@@ -1,10 +1,9 @@
 -- Each refusal is the first test that fails; after all three the sector lies within the image.
-use borrow.Author.Tests.{ne_eqb, eq-eqb, not-true, not-false}
+use borrow.Author.Tests.{ne_eqb, eq-eqb}
 use mathlib.Core.Path.{◌≡◌, refl, sym, ◌∙◌}
 use mathlib.Core.Bool.{true}
 use native.Mathlib.Omega.{arith}
 use lib.ListN.{length}
-use borrow.Author.Rules.{rules}
 use Rattle.disk.specs.Image.{fits_image, on_shelf, put_answer, Shape, fits_image_lem, on_shelf_lem}
 use Rattle.disk.proofs.Image.{place_fits}
 use Rattle.disk.proofs.sector.put.Goals as goal

@@ -1,9 +1,8 @@
 -- The part that is lent comes back as the bytes, and the whole is then the image with these bytes at the sector's place.
-use mathlib.Core.Path.{◌≡◌, refl, ap, ◌∙◌}
+use mathlib.Core.Path.{refl, ap, ◌∙◌}
 use native.Mathlib.Omega.{arith}
 use Prim.Native.Nat.{ℕ, ◌-◌, ◌+◌}
 use borrow.Rule.Slice.PartMut.{put_mid}
-use borrow.Author.Rules.{rules}
 use Rattle.disk.specs.Limits.{sector_bytes}
 use Rattle.disk.specs.Image.{place, put_sector, back}
 use Rattle.disk.proofs.sector.put_sector.Goals as goal

@@ -1,10 +1,8 @@
 -- Both tests, then the sector.
-use borrow.Author.Tests.{not-true, not-false}
 use mathlib.Core.Path.{◌≡◌, sym, ◌∙◌}
 use mathlib.Core.Bool.{true}
 use native.Mathlib.Omega.{arith}
 use lib.ListN.{length}
-use borrow.Author.Rules.{rules}
 use Rattle.disk.specs.Image.{fits_image, on_shelf, read_of, Shape, fits_image_lem, on_shelf_lem}
 use Rattle.disk.proofs.Image.{place_fits}
 use Rattle.disk.proofs.sector.read.Goals as goal
