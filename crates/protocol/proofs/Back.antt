@@ -3,6 +3,7 @@
 use Rattle.std.specs.Prelude.{ℕ, zero, suc, ◌≡◌, refl, List, [], ◌∷◌, ◌++◌, true, false, ◌≢◌, eqb}
 use Rattle.std.proofs.Common.{ap, inl, arith, eq-eqb, ne_eqb}
 use Rattle.std.proofs.lemmas.Bool.{false≢true}
+use Rattle.protocol.proofs.Told.{rounds_told, turn_told}
 use Rattle.protocol.specs.World.{slot, update, World, after, Possible, Sane, sane_after, sane_act, always_after}
 use Rattle.protocol.specs.Slots.{slots}
 use Rattle.protocol.specs.Label.{belief, copy, round_batch, prep_places, prep_batch, last_side, expel_batch}
@@ -25,20 +26,32 @@ use Rattle.protocol.specs.Back.{react, steps, cut_now, disk_in, seen, familiar, 
 
 mended_seen : (seen filled 0 ≡ datum 7) × (seen filled 1 ≡ datum 8) × (seen mended 0 ≡ datum 9) × (seen mended 1 ≡ datum 8) × (out_now mended ≡ false)
 unfolding update after belief copy round_batch prep_batch slots logged_sectors stored_sectors compared_sectors involved log_batch store_batch complete_b whole forward marked kill_batch redo gone level_to again_to last_to rounds in_turn behind disowned last_side expel_batch expel_first prep_places startup wiped_sectors filled_sectors wipe_batch fill_batch flushed_at_begin set_block replace table read read_through write_of change_made rebuilt at_most mask told_to flushed_first left_out program quorum code medium
-mended_seen = (refl, refl, refl, refl, refl)
+mended_seen =
+    let told1 = rounds_told in
+    let told2 = turn_told in
+    (refl, refl, refl, refl, refl)
 
 -- THE OLD DISK, WITH THE OLD BLOCK, IS NOTICED
 pub returned_seen : (familiar returned ≡ true) × (out_now risen ≡ true) × (seen risen 0 ≡ datum 9) × (seen risen 1 ≡ datum 8)
 unfolding update after belief copy round_batch prep_batch slots logged_sectors stored_sectors compared_sectors involved log_batch store_batch complete_b whole forward marked kill_batch redo gone level_to again_to last_to rounds in_turn behind disowned last_side expel_batch expel_first prep_places startup wiped_sectors filled_sectors wipe_batch fill_batch flushed_at_begin set_block replace table read read_through write_of change_made rebuilt at_most mask told_to flushed_first left_out program quorum code medium
-returned_seen = (refl, refl, refl, refl)
+returned_seen =
+    let told1 = rounds_told in
+    let told2 = turn_told in
+    (refl, refl, refl, refl)
 
 pub again_seen : (out_now again_risen ≡ true) × (seen again_risen 0 ≡ datum 9) × (seen again_risen 1 ≡ datum 8)
 unfolding update after belief copy round_batch prep_batch slots logged_sectors stored_sectors compared_sectors involved log_batch store_batch complete_b whole forward marked kill_batch redo gone level_to again_to last_to rounds in_turn behind disowned last_side expel_batch expel_first prep_places startup wiped_sectors filled_sectors wipe_batch fill_batch flushed_at_begin set_block replace table read read_through write_of change_made rebuilt at_most mask told_to flushed_first left_out program quorum code medium
-again_seen = (refl, refl, refl)
+again_seen =
+    let told1 = rounds_told in
+    let told2 = turn_told in
+    (refl, refl, refl)
 
 pub disowned_seen : (out_now begun_again ≡ false) × (out_now disowning ≡ true) × (seen disowning 0 ≡ datum 7) × (seen disowning 1 ≡ datum 8)
 unfolding update after belief copy round_batch prep_batch slots logged_sectors stored_sectors compared_sectors involved log_batch store_batch complete_b whole forward marked kill_batch redo gone level_to again_to last_to rounds in_turn behind disowned last_side expel_batch expel_first prep_places startup wiped_sectors filled_sectors wipe_batch fill_batch flushed_at_begin set_block replace table read read_through write_of change_made rebuilt at_most mask told_to flushed_first left_out program quorum code medium
-disowned_seen = (refl, refl, refl, refl)
+disowned_seen =
+    let told1 = rounds_told in
+    let told2 = turn_told in
+    (refl, refl, refl, refl)
 
 then : {r r' r'' : Room Sector} {l : List (Event Sector)} {e : Event Sector} → Befell size quorum labels records code stamps medium r l r' → Befalls size quorum labels records code stamps medium r' e r'' → Befell size quorum labels records code stamps medium r (l ++ (e ∷ [])) r''
 then Exchange.stays b = Exchange.goes b Exchange.stays
@@ -97,6 +110,8 @@ came_disk i (room w m x) e n h = (
 filled_came : Came filled
 unfolding update after belief copy round_batch prep_batch slots logged_sectors stored_sectors compared_sectors involved log_batch store_batch complete_b whole forward marked kill_batch redo gone level_to again_to last_to rounds in_turn behind disowned last_side expel_batch expel_first prep_places startup wiped_sectors filled_sectors wipe_batch fill_batch flushed_at_begin set_block replace table read read_through write_of change_made rebuilt at_most mask told_to flushed_first left_out program quorum code medium
 filled_came =
+    let told1 = rounds_told in
+    let told2 = turn_told in
     let a = came_steps 10 (react empty create) (came_ask empty create (λ p. inl (λ q. refl {a = true})) ([], Exchange.stays, sane_after (λ k. blank))) in
     let b = came_steps 12 (react made (write 0 (one_block 0 (λ j. datum 7)))) (came_ask made (write 0 (one_block 0 (λ j. datum 7))) (fair_write made 0 (one_block 0 (λ j. datum 7))) a) in
     came_steps 12 (react first (write 0 (one_block 1 (λ j. datum 8)))) (came_ask first (write 0 (one_block 1 (λ j. datum 8))) (fair_write first 0 (one_block 1 (λ j. datum 8))) b)
@@ -104,6 +119,8 @@ filled_came =
 mended_came : Came mended
 unfolding update after belief copy round_batch prep_batch slots logged_sectors stored_sectors compared_sectors involved log_batch store_batch complete_b whole forward marked kill_batch redo gone level_to again_to last_to rounds in_turn behind disowned last_side expel_batch expel_first prep_places startup wiped_sectors filled_sectors wipe_batch fill_batch flushed_at_begin set_block replace table read read_through write_of change_made rebuilt at_most mask told_to flushed_first left_out program quorum code medium
 mended_came =
+    let told1 = rounds_told in
+    let told2 = turn_told in
     let a = came_disk 1 filled (refl {a = true}) (λ q. omega (arith, q)) filled_came in
     let b = came_steps 30 (react strange (start (λ d. eqb d 0))) (came_ask strange (start (λ d. eqb d 0)) (λ p. inl (λ q. refl {a = true})) a) in
     let c = came_steps 20 (react without (begin 0)) (came_ask without (begin 0) (fair_begin without 0) b) in
@@ -113,6 +130,8 @@ mended_came =
 pub again_came : Came again_risen
 unfolding update after belief copy round_batch prep_batch slots logged_sectors stored_sectors compared_sectors involved log_batch store_batch complete_b whole forward marked kill_batch redo gone level_to again_to last_to rounds in_turn behind disowned last_side expel_batch expel_first prep_places startup wiped_sectors filled_sectors wipe_batch fill_batch flushed_at_begin set_block replace table read read_through write_of change_made rebuilt at_most mask told_to flushed_first left_out program quorum code medium
 again_came =
+    let told1 = rounds_told in
+    let told2 = turn_told in
     let a = came_disk 0 mended (refl {a = true}) (λ q. omega (arith, q)) mended_came in
     let b = came_steps 30 (react returned (start (λ d. false))) (came_ask returned (start (λ d. false)) (λ p. inl (λ q. refl {a = true})) a) in
     let c = came_disk 1 risen (refl {a = true}) (λ q. omega (arith, q)) b in

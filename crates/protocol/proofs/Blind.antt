@@ -7,6 +7,7 @@ use Rattle.std.proofs.Math.Bool.{Bool, true, false, cond, not}
 use mathlib.Core.List.{List, [], ◌∷◌, ◌++◌, Memᴰ}
 use Rattle.std.proofs.Math.Dec.{eqb, ltb}
 use Rattle.std.proofs.lemmas.Bool.{not-true}
+use Rattle.protocol.proofs.Told.{rounds_told}
 use Rattle.protocol.specs.World.{Place, label, log, strip, slot, Image, Action, put}
 use Rattle.protocol.specs.Batch.{actions, puts, flushes}
 use Rattle.protocol.specs.Slots.{from, slots, of_slots, keep, of_keep, rows, of_rows, leader, every}
@@ -174,7 +175,9 @@ module _ {X : Type 0} (z : Size) (W : Quorum z.n) (C : LabelCodec X z.n) (K : Re
 
   rounds_same : rounds z C absent f ≡ rounds z C absent g
   unfolding rounds level_to again_to last_to
-  rounds_same = λ i. round C (L_same i) (slots z.n (λ d. not (gone_same i d))) ++ (round C (again (L_same i) (suc ((M_same z W C K absent f g same some) i))) (slots z.n (λ d. not (gone_same i d))) ++ (round C (settled_same i) (slots z.n (λ d. not (gone_same i d))) ++ adopt_same i))
+  rounds_same =
+      let told = rounds_told in
+      λ i. round C (L_same i) (slots z.n (λ d. not (gone_same i d))) ++ (round C (again (L_same i) (suc ((M_same z W C K absent f g same some) i))) (slots z.n (λ d. not (gone_same i d))) ++ (round C (settled_same i) (slots z.n (λ d. not (gone_same i d))) ++ adopt_same i))
 
   -- NO ACTION OF START-UP DEPENDS ON AN ABSENT SLOT'S SECTORS
   pub startup_blind : startup z C K absent f ≡ startup z C K absent g

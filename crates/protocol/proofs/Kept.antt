@@ -7,6 +7,7 @@ use Rattle.std.proofs.Math.Bool.{true, not}
 use Rattle.std.proofs.lemmas.Bool.{false≢true}
 use Rattle.std.proofs.Math.Logic.{⊎_elim, inl, inr}
 use Rattle.std.proofs.Math.Decide.{ℕ_discrete}
+use Rattle.protocol.proofs.Told.{turn_told}
 use Rattle.protocol.specs.World.{log, strip, Image, World, Action, put, flush, Sane, Always, During, always_map, during_start}
 use Rattle.protocol.specs.Batch.{Each, each_append, each_batch}
 use Rattle.protocol.specs.Slots.{keep, of_rows, every_all}
@@ -282,6 +283,7 @@ module _ {X : Type 0} (z : Size) (W : Quorum z.n) (C : LabelCodec X z.n) (K : Re
   pub labels_first : (A : ℕ → Bool) (f : Image X) → (startup z C K A f ≡ rounds z C A f ++ redo K (belief z (settled z C K A f)) f) × Each (λ k. is_label k ≡ true) (λ d. Unit {0}) (rounds z C A f)
   unfolding startup in_turn rounds
   labels_first A f =
+      let told = turn_told in
       let m = M z C A f in
       let l2 = settled z C K A f in
       let A1 = round C (L z C A f) (level_to z C A f) in

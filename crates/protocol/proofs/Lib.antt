@@ -34,5 +34,6 @@ pub mod Startup
 pub mod Strangers
 pub mod Swap
 pub mod Tidy
+pub mod Told
 pub mod Walk
 pub mod Write

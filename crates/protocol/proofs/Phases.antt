@@ -6,6 +6,7 @@ use Rattle.std.proofs.Math.Path.{refl, sym, ap}
 use Rattle.std.proofs.Common.{◌∙◌}
 use Rattle.std.proofs.Math.Bool.{Bool, true, false, cond, not}
 use mathlib.Core.List.{List, [], ◌∷◌, ◌++◌}
+use Rattle.protocol.proofs.Told.{rounds_told, turn_told}
 use Rattle.protocol.specs.World.{Image, Action}
 use Rattle.protocol.specs.Batch.{actions, flushes}
 use Rattle.protocol.specs.Slots.{from, keep, slots}
@@ -63,6 +64,8 @@ module _ {X : Type 0} (z : Size) (W : Quorum z.n) (C : LabelCodec X z.n) (K : Re
   pub start_phases : (A : ℕ → Bool) (f : Image X) → flushes {X = X} (flushed_first z W C K E S R A) ++ startup z C K A f ≡ all_of ((start_walks z W C K E S R) A f)
   unfolding flushed_first startup in_turn rounds level_to again_to last_to slots
   start_phases A f =
+      let told1 = rounds_told in
+      let told2 = turn_told in
       let B = belief z (settled z C K A f) in
       let p : ℕ → Bool = λ d. not (gone z C A f d) in
       let q : ℕ → Bool = λ d. not (A d) && stale z C A f d in

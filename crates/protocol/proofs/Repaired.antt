@@ -9,6 +9,7 @@ use Rattle.std.proofs.lemmas.Bool.{false≢true}
 use Rattle.std.proofs.Math.Logic.{inl}
 use mathlib.Core.List.{List, ◌++◌}
 use borrow.Author.Tests.{eq-eqb, eqb-true}
+use Rattle.protocol.proofs.Told.{rounds_told, turn_told}
 use Rattle.protocol.specs.World.{Place, log, strip, slot, Image, update_other, World, Action, run, after, Sane, Always, During, sane_after, sane_run, always_map, during_map, run_append}
 use Rattle.protocol.specs.Batch.{flushes, Kept, Covered, Done, stage}
 use Rattle.protocol.specs.Slots.{in_rows, of_rows, rows_slots}
@@ -90,7 +91,10 @@ module _ {X : Type 0} (z : Size) (W : Quorum z.n) (C : LabelCodec X z.n) (K : Re
 
   startup_bones : (A : ℕ → Bool) (f : Image X) → startup z C K A f ≡ startup z C K A (bones z W C K E S R f)
   unfolding copy gone startup in_turn rounds level_to again_to last_to prep_batch redo whole complete_b forward marked kill_batch store_batch
-  startup_bones A f = refl
+  startup_bones A f =
+      let told1 = rounds_told in
+      let told2 = turn_told in
+      refl
 
   module _ (rot : Rot) (w : World X) (o : Own) (v : Host X) (h : Rotten z W C K E S R rot w (idle o) (sure v)) (none : (d : ℕ) → d < z.n → o.now.out d ≡ false) (t : ℕ) (in_t : t < z.T) (r : ℕ) (acc : finding z W C K E S R (mask z W C K E S R o.absent w.cur) t ≡ accused r) (room : suc o.count < S.base (suc o.epoch)) where
     m : Mending z W C K E S R v (repairing z W C K E S R rot w o v h none t in_t r acc room) h.clean (log_write K (belief z o.now) (suc o.count) (repairing z W C K E S R rot w o v h none t in_t r acc room) ++ stores_of z W C K E S R o (repairing z W C K E S R rot w o v h none t in_t r acc room)) o (record { now = o.now; absent = o.absent; epoch = o.epoch; count = suc o.count })

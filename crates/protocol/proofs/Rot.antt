@@ -11,6 +11,7 @@ use mathlib.Core.List.{List, [], ◌∷◌, ◌++◌}
 use Rattle.std.proofs.Math.Decide.{ℕ_discrete}
 use Rattle.std.proofs.Math.Dec.{eqb, ltb}
 use borrow.Author.Tests.{eq-eqb, ne_eqb, eqb-true, eqb-false, ltb-true, ltb-false, not-true}
+use Rattle.protocol.proofs.Told.{rounds_told, turn_told}
 use Rattle.protocol.specs.World.{Place, label, log, strip, slot, Image, World, Action, act, run, after, Possible, Sane, Always, During, sane_act, sane_run, always_cur, during_start}
 use Rattle.protocol.specs.Slots.{from, in_from, of_from, every_of, every_all}
 use Rattle.protocol.specs.Log.{Write, RecordCodec, Belief, Quiet}
@@ -57,7 +58,10 @@ module _ {X : Type 0} (z : Size) (W : Quorum z.n) (C : LabelCodec X z.n) (K : Re
 
   start_bones : (A : ℕ → Bool) (f : Image X) → from_nothing z W C K E S R f (start A) ≡ from_nothing z W C K E S R ((bones z W C K E S R) f) (start A)
   unfolding copy gone left_out startup in_turn rounds level_to again_to last_to prep_batch redo whole complete_b forward marked kill_batch store_batch
-  start_bones A f = refl
+  start_bones A f =
+      let told1 = rounds_told in
+      let told2 = turn_told in
+      refl
 
   begin_bones : (o : Own) (d : ℕ) (f : Image X) → from_idle z W C K E S R o f (begin d) ≡ from_idle z W C K E S R o ((bones z W C K E S R) f) (begin d)
   unfolding copy last_side expel_batch prep_batch

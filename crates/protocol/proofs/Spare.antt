@@ -5,6 +5,7 @@ use Rattle.std.proofs.Common.{inr}
 use mathlib.Core.List.Memᴰ
 use mathlib.Core.List.{List, [], ◌∷◌, ◌++◌, Memᴰ}
 use borrow.Author.Tests.{not-true}
+use Rattle.protocol.proofs.Told.{rounds_told, turn_told}
 use Rattle.protocol.specs.World.{label, log, strip, slot, Image, Action}
 use Rattle.protocol.specs.Batch.{flushes, Each, each_append, each_batch, each_map}
 use Rattle.protocol.specs.Slots.{from, keep, of_keep, of_slots, of_rows}
@@ -87,6 +88,8 @@ module _ {X : Type 0} (z : Size) (W : Quorum z.n) (C : LabelCodec X z.n) (K : Re
   pub startup_spares : (f : Image X) → Spares absent (startup z C K absent f)
   unfolding startup in_turn rounds level_to again_to last_to
   startup_spares f =
+      let told1 = rounds_told in
+      let told2 = turn_told in
       let ps : (d : ℕ) → Memᴰ d (parts z C absent f) → absent d ≡ false = λ d m. let y = of_slots (λ e. not (gone z C absent f e)) z.n d m in gone_absent z W C absent f d y.0 (not-true (gone z C absent f d) y.1) in
       let ls : (d : ℕ) → Memᴰ d (late z C absent f) → absent d ≡ false = λ d m. not-true (absent d) (both (not (absent d)) (stale z C absent f d) (of_slots (λ e. not (absent e) && stale z C absent f e) z.n d m).1).0 in
       let m = M z C absent f in

@@ -6,6 +6,7 @@ use Rattle.std.proofs.Math.Bool.{true, false, not, or-true}
 use Rattle.std.proofs.lemmas.Bool.{false≢true, not-true}
 use mathlib.Core.List.{◌++◌, Memᴰ}
 use Rattle.std.proofs.Math.Decide.{ℕ_discrete}
+use Rattle.protocol.proofs.Told.{rounds_told}
 use Rattle.protocol.specs.World.{label, slot, Image, update, update_other, run, after, Always, During, sane_after, sane_run, always_after, always_map, during_map, during_end, during_append, run_append}
 use Rattle.protocol.specs.Batch.{each_during}
 use Rattle.protocol.specs.Slots.{from, in_from, in_slots, of_slots, every_of, leader_top}
@@ -115,7 +116,9 @@ module _ {X : Type 0} (z : Size) (W : Quorum z.n) (C : LabelCodec X z.n) (K : Re
 
     rounds_shape : During (after f0) (rounds z C A f0) (ShapesBy C strict) × Always (run (after f0) (rounds z C A f0)) (λ f. ShapesBy C strict f × (Everyone z W C K A f0 ok strict h0) f)
     unfolding rounds level_to again_to last_to
-    rounds_shape = go (m z W C K A f0 ok strict h0) refl
+    rounds_shape =
+        let told = rounds_told in
+        go (m z W C K A f0 ok strict h0) refl
       where
         everybody : (f : Image X) → ((d : ℕ) → Memᴰ d (late z C A f0) → Top C f d (suc (m z W C K A f0 ok strict h0))) → (Parts z W C K A f0 ok strict h0) f → (d : ℕ) → d < z.n → A d ≡ false → (b : Bool) → gone z C A f0 d ≡ b → Top C f d (suc (m z W C K A f0 ok strict h0))
         everybody f ls ps d i a true e = ls d (in_slots (λ x. not (A x) && stale z C A f0 x) z.n d i (not_and (A d) (stale z C A f0 d) a (gone_true d i a e)))
