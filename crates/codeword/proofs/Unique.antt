@@ -12,6 +12,7 @@ use Rattle.codeword.specs.Chosen.{over, chosen_falls, chosen_all, chosen_at, cho
 use Rattle.codeword.specs.Minors.{Minors}
 use Rattle.codeword.proofs.Minors.{minors}
 use Rattle.codeword.specs.Unique.{sum, shards, kept, rows, AllBytes}
+use Rattle.codeword.proofs.Enough.{enough}
 
 sum_holds : (k m : ℕ) (x y : ℕ → ℕ) → Holds k m x → Holds k m y → Holds k m (sum x y)
 sum_holds k m x y hx hy j l =
@@ -33,11 +34,6 @@ not_true false e = refl
 
 module _ (k m : ℕ) (table : Minors k m) (lost : List ℕ) (few : length lost ≤ m) (z : ℕ → ℕ) (bz : Bytes z) (hz : Holds k m z)
     (off : (r : ℕ) → r < k + m → has lost r ≡ false → z r ≡ 0) where
-  -- each lost parity shard takes one row away, and leaves one shard less to be lost among the data
-  enough : length (shards k m table lost few z bz hz off) ≤ length (rows k m table lost few z bz hz off)
-  enough =
-      omega (arith, chosen_length (has lost) k, chosen_length (kept k m table lost few z bz hz off) m, has_few lost (k + m), count_split (has lost) k m, count_not (λ j. has lost (k + j)) m)
-
   data_zero : (i : ℕ) → i < k → z i ≡ 0
   data_zero i h = go (has lost i) refl
     where
@@ -45,7 +41,7 @@ module _ (k m : ℕ) (table : Minors k m) (lost : List ℕ) (few : length lost �
       go false e = off i (omega arith) e
       go true e =
           chosen_at (has lost) (λ i. z i ≡ 0) k
-          (table (rows k m table lost few z bz hz off) (shards k m table lost few z bz hz off) (chosen_falls (kept k m table lost few z bz hz off) m m (omega arith)) (chosen_falls (has lost) k k (omega arith)) enough z bz
+          (table (rows k m table lost few z bz hz off) (shards k m table lost few z bz hz off) (chosen_falls (kept k m table lost few z bz hz off) m m (omega arith)) (chosen_falls (has lost) k k (omega arith)) (enough k m table lost few z bz hz off) z bz
           (chosen_all (kept k m table lost few z bz hz off) (λ j. over (shards k m table lost few z bz hz off) (λ i. mul_of (coef m j i) (z i)) ≡ 0) m
           (λ j l t.
           sym (chosen_sum (has lost) (λ i. mul_of (coef m j i) (z i)) k (λ i l n. times_zero (coef m j i) (z i) (off i (omega arith) n))) ∙ sym (hz j l)

@@ -1,5 +1,5 @@
 // Sectors of the lent image: sector s of slot d is read and put, or refused where there is none. A put changes the 512
-// bytes of its sector and nothing else; the laws of specs/Image.antt say so, sector by sector and byte by byte.
+// bytes of its sector and nothing else; the laws of proofs/Image.antt say so, sector by sector and byte by byte.
 ghost use Rattle.std.specs.Prelude.{◌≡◌, ◌+◌, ◌≤◌, length, replicate};
 ghost use Rattle.disk.specs.Limits.{sector_bytes};
 ghost use Rattle.disk.specs.Image.{place, sector, put_sector, fits_image, on_shelf, read_of, put_answer, after_put};

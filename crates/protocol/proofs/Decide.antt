@@ -7,7 +7,6 @@ use Rattle.std.proofs.lemmas.Bool.{false≢true}
 use Rattle.std.proofs.Math.Logic.{⊎_elim, inl, inr}
 use mathlib.Core.List.{List, [], ◌∷◌}
 use Rattle.std.proofs.Math.Dec.{eqb}
-use Rattle.protocol.proofs.Told.{turn_told}
 use Rattle.protocol.specs.World.{Place, label, log, strip, Image, update, update_other, World, Action, run, after, Sane, Always, During, sane_after, sane_run, always_after, always_map, during_map, during_append, during_end, run_append}
 use Rattle.protocol.specs.Batch.{Each, each_batch, each_during, during_both}
 use Rattle.protocol.specs.Slots.{of_slots, of_rows}
@@ -64,15 +63,11 @@ labels_data z W C Q N top far f k v p o = labels_same z W C Q N top far f (updat
 module _ {X : Type 0} where
   pub turn_run : (w : World X) (labels logs : List (Action X)) → run w (in_turn labels logs) ≡ run (run w labels) logs
   unfolding in_turn
-  turn_run w labels logs =
-      let told = turn_told in
-      run_append w labels logs
+  turn_run w labels logs = run_append w labels logs
 
   pub turn_during : (P : Image X → Type 0) (w : World X) (labels logs : List (Action X)) → During w labels P → During (run w labels) logs P → During w (in_turn labels logs) P
   unfolding in_turn
-  turn_during P w labels logs a b =
-      let told = turn_told in
-      during_append P w labels logs a b
+  turn_during P w labels logs a b = during_append P w labels logs a b
 
 pub base_below : {X : Type 0} (z : Size) (W : Quorum z.n) (C : LabelCodec X z.n) (base : Label) (D : Belief → Image X → Type 0) (f : Image X) → (h : Shelf z W C base D f) → base.generation ≤ h.Q.generation
 base_below z W C base D f h = ⊎_elim (λ q. omega (arith, ap (λ (l : Label). l.generation) q)) (λ i. omega arith) h.since

@@ -11,7 +11,6 @@ use Rattle.std.proofs.Math.Logic.{⊎_elim, inl, inr}
 use mathlib.Core.List.{◌++◌, Memᴰ}
 use Rattle.std.proofs.Math.Dec.{ltb}
 use borrow.Author.Tests.{ne_eqb, eqb-true, eqb-false, ltb-true, ltb-false, lt-ltb, not-true}
-use Rattle.protocol.proofs.Told.{rounds_told}
 use Rattle.protocol.specs.World.{label, log, strip, Image, World, run, Sane, Always, During, sane_run, always_map, during_map, during_append, run_append}
 use Rattle.protocol.specs.Slots.{from, in_from, in_slots, of_slots, every_of, leader_top, leader_below}
 use Rattle.protocol.specs.Log.{Belief, Within, within_trans, Agrees}
@@ -264,34 +263,24 @@ module _ {X : Type 0} (z : Size) (W : Quorum z.n) (C : LabelCodec X z.n) (absent
     -- whoever is not gone gets each of the three labels
     in_level : (d : ℕ) → d < z.n → gone z C absent f0 d ≡ false → Memᴰ d (level_to z C absent f0)
     unfolding level_to
-    in_level d i e =
-        let told = rounds_told in
-        in_slots (λ x. not (gone z C absent f0 x)) z.n d i (rw e)
+    in_level d i e = in_slots (λ x. not (gone z C absent f0 x)) z.n d i (rw e)
 
     in_again : (d : ℕ) → d < z.n → gone z C absent f0 d ≡ false → Memᴰ d (again_to z C absent f0)
     unfolding again_to
-    in_again d i e =
-        let told = rounds_told in
-        in_slots (λ x. not (gone z C absent f0 x)) z.n d i (rw e)
+    in_again d i e = in_slots (λ x. not (gone z C absent f0 x)) z.n d i (rw e)
 
     in_last : (d : ℕ) → d < z.n → gone z C absent f0 d ≡ false → Memᴰ d (last_to z C absent f0)
     unfolding last_to
-    in_last d i e =
-        let told = rounds_told in
-        in_slots (λ x. not (gone z C absent f0 x)) z.n d i (rw e)
+    in_last d i e = in_slots (λ x. not (gone z C absent f0 x)) z.n d i (rw e)
 
     -- and nobody else
     of_level : (d : ℕ) → Memᴰ d (level_to z C absent f0) → (d < z.n) × (gone z C absent f0 d ≡ false)
     unfolding level_to
-    of_level d m =
-        let told = rounds_told in
-        of_parts d m
+    of_level d m = of_parts d m
 
     of_again : (d : ℕ) → Memᴰ d (again_to z C absent f0) → (d < z.n) × (gone z C absent f0 d ≡ false)
     unfolding again_to
-    of_again d m =
-        let told = rounds_told in
-        of_parts d m
+    of_again d m = of_parts d m
 
     -- a stale slot is out in the settled label
     late_out : (d : ℕ) → Memᴰ d (late z C absent f0) → ((L z C absent f0).out d || gone z C absent f0 d) ≡ true
@@ -346,7 +335,6 @@ module _ {X : Type 0} (z : Size) (W : Quorum z.n) (C : LabelCodec X z.n) (absent
     pub rounds_safe : (P : Image X → Type 0) → ((t : ℕ) (fr : ℕ → Bool) (f : Image X) → top ≤ t → Bays z W C Q N t fr odd last f → Same f0 f → P f) → ((f : Image X) → Labels z W C (settled z W C absent f0 odd last Q N top far H M_low all_labelled enough fits1 fits1' fits2) (settled z W C absent f0 odd last Q N top far H M_low all_labelled enough fits1 fits1' fits2) (settled z W C absent f0 odd last Q N top far H M_low all_labelled enough fits1 fits1' fits2).generation (settled z W C absent f0 odd last Q N top far H M_low all_labelled enough fits1 fits1' fits2).out f → Same f0 f → P f) → (w : World X) → Sane w → Always w (λ f. Bays z W C Q N top far odd last f × Same f0 f) → During w (rounds z C absent f0) P × Always (run w (rounds z C absent f0)) (λ f. Labels z W C (settled z W C absent f0 odd last Q N top far H M_low all_labelled enough fits1 fits1' fits2) (settled z W C absent f0 odd last Q N top far H M_low all_labelled enough fits1 fits1' fits2) (settled z W C absent f0 odd last Q N top far H M_low all_labelled enough fits1 fits1' fits2).generation (settled z W C absent f0 odd last Q N top far H M_low all_labelled enough fits1 fits1' fits2).out f × Same f0 f)
     unfolding rounds Bare last_to
     rounds_safe P before later w sane start =
-        let told = rounds_told in
         let m = M z C absent f0 in
         let l = L z C absent f0 in
         let l1 = again l (suc m) in

@@ -1,19 +1,23 @@
--- Who is told in start-up's rounds, and that the labels come before the logs. A proof that opens these definitions takes the facts from
--- here first, so that where one of them says something else it is here that the prover notices, and soon. Assumes nothing.
-use Rattle.std.specs.Prelude.{◌≡◌, Bool}
-use Rattle.std.proofs.Math.Path.{refl}
-use mathlib.Core.List.{List, ◌++◌}
+-- What start-up owes whoever takes part: each such slot is told in each of the three rounds, and the logs are acted on behind the labels. A proof
+-- that opens these definitions takes these facts first, so that a wrong round or order is noticed here, and soon. Assumes nothing.
+use Rattle.std.specs.Prelude.{◌≡◌, Bool, ◌<◌}
+use Rattle.std.proofs.Math.Bool.{false, not}
+use mathlib.Core.List.{List, Memᴰ}
 use Prim.Native.Nat.{ℕ}
-use Rattle.protocol.specs.World.{Image, Action}
+use Rattle.protocol.specs.World.{Image, World, Action, run, run_append}
+use Rattle.protocol.specs.Slots.{slots, in_slots}
 use Rattle.protocol.specs.Label.{Size, LabelCodec}
-use Rattle.protocol.specs.Startup.{parts, level_to, again_to, last_to}
+use Rattle.protocol.specs.Startup.{gone, level_to, again_to, last_to}
 use Rattle.protocol.specs.Decide.{in_turn}
 
-pub rounds_told : (X : Type 0) (z : Size) (C : LabelCodec X z.n) (absent : ℕ → Bool) (f : Image X)
-    → (level_to z C absent f ≡ parts z C absent f) × (again_to z C absent f ≡ parts z C absent f) × (last_to z C absent f ≡ parts z C absent f)
+pub rounds_told : (X : Type 0) (z : Size) (C : LabelCodec X z.n) (absent : ℕ → Bool) (f : Image X) (d : ℕ) → d < z.n → gone z C absent f d ≡ false
+    → Memᴰ d (level_to z C absent f) × Memᴰ d (again_to z C absent f) × Memᴰ d (last_to z C absent f)
 unfolding level_to again_to last_to
-rounds_told X z C absent f = (refl, refl, refl)
+rounds_told X z C absent f d i e = (at, at, at)
+  where
+    at : Memᴰ d (slots z.n (λ x. not (gone z C absent f x)))
+    at = in_slots (λ x. not (gone z C absent f x)) z.n d i (rw e)
 
-pub turn_told : (X : Type 0) (labels logs : List (Action X)) → in_turn labels logs ≡ labels ++ logs
+pub turn_told : (X : Type 0) (w : World X) (labels logs : List (Action X)) → run w (in_turn labels logs) ≡ run (run w labels) logs
 unfolding in_turn
-turn_told X labels logs = refl
+turn_told X w labels logs = run_append w labels logs

@@ -1,4 +1,4 @@
--- `at_least_one_lem` meets its contract. Assumes nothing.
+-- `at_least_one` meets its contract. Assumes nothing.
 use Rattle.rebuilds.specs.On.{at_least, at_none}
 use Rattle.rebuilds.proofs.on.at_least_one.Goals as goal
 
