@@ -3,7 +3,7 @@
 use Rattle.std.specs.Prelude.{ℕ, zero, suc, ◌≡◌, refl, List, [], ◌∷◌, ◌++◌, true, false, ◌≢◌, eqb}
 use Rattle.std.proofs.Common.{ap, inl, arith, eq-eqb, ne_eqb}
 use Rattle.std.proofs.lemmas.Bool.{false≢true}
-use Rattle.protocol.proofs.Told.{rounds_told, turn_told}
+use Rattle.protocol.proofs.Told.{flushed_told, rounds_told, turn_told}
 use Rattle.protocol.specs.World.{slot, update, World, after, Possible, Sane, sane_after, sane_act, always_after}
 use Rattle.protocol.specs.Slots.{slots}
 use Rattle.protocol.specs.Label.{belief, copy, round_batch, prep_places, prep_batch, last_side, expel_batch}
@@ -27,6 +27,7 @@ use Rattle.protocol.specs.Back.{react, steps, cut_now, disk_in, seen, familiar, 
 mended_seen : (seen filled 0 ≡ datum 7) × (seen filled 1 ≡ datum 8) × (seen mended 0 ≡ datum 9) × (seen mended 1 ≡ datum 8) × (out_now mended ≡ false)
 unfolding update after belief copy round_batch prep_batch slots logged_sectors stored_sectors compared_sectors involved log_batch store_batch complete_b whole forward marked kill_batch redo gone level_to again_to last_to rounds in_turn behind disowned last_side expel_batch expel_first prep_places startup wiped_sectors filled_sectors wipe_batch fill_batch flushed_at_begin set_block replace table read read_through write_of change_made rebuilt at_most mask told_to flushed_first left_out program quorum code medium
 mended_seen =
+    let flushed = flushed_told in
     let told1 = rounds_told in
     let told2 = turn_told in
     (refl, refl, refl, refl, refl)
@@ -35,6 +36,7 @@ mended_seen =
 pub returned_seen : (familiar returned ≡ true) × (out_now risen ≡ true) × (seen risen 0 ≡ datum 9) × (seen risen 1 ≡ datum 8)
 unfolding update after belief copy round_batch prep_batch slots logged_sectors stored_sectors compared_sectors involved log_batch store_batch complete_b whole forward marked kill_batch redo gone level_to again_to last_to rounds in_turn behind disowned last_side expel_batch expel_first prep_places startup wiped_sectors filled_sectors wipe_batch fill_batch flushed_at_begin set_block replace table read read_through write_of change_made rebuilt at_most mask told_to flushed_first left_out program quorum code medium
 returned_seen =
+    let flushed = flushed_told in
     let told1 = rounds_told in
     let told2 = turn_told in
     (refl, refl, refl, refl)
@@ -42,6 +44,7 @@ returned_seen =
 pub again_seen : (out_now again_risen ≡ true) × (seen again_risen 0 ≡ datum 9) × (seen again_risen 1 ≡ datum 8)
 unfolding update after belief copy round_batch prep_batch slots logged_sectors stored_sectors compared_sectors involved log_batch store_batch complete_b whole forward marked kill_batch redo gone level_to again_to last_to rounds in_turn behind disowned last_side expel_batch expel_first prep_places startup wiped_sectors filled_sectors wipe_batch fill_batch flushed_at_begin set_block replace table read read_through write_of change_made rebuilt at_most mask told_to flushed_first left_out program quorum code medium
 again_seen =
+    let flushed = flushed_told in
     let told1 = rounds_told in
     let told2 = turn_told in
     (refl, refl, refl)
@@ -49,6 +52,7 @@ again_seen =
 pub disowned_seen : (out_now begun_again ≡ false) × (out_now disowning ≡ true) × (seen disowning 0 ≡ datum 7) × (seen disowning 1 ≡ datum 8)
 unfolding update after belief copy round_batch prep_batch slots logged_sectors stored_sectors compared_sectors involved log_batch store_batch complete_b whole forward marked kill_batch redo gone level_to again_to last_to rounds in_turn behind disowned last_side expel_batch expel_first prep_places startup wiped_sectors filled_sectors wipe_batch fill_batch flushed_at_begin set_block replace table read read_through write_of change_made rebuilt at_most mask told_to flushed_first left_out program quorum code medium
 disowned_seen =
+    let flushed = flushed_told in
     let told1 = rounds_told in
     let told2 = turn_told in
     (refl, refl, refl, refl)
@@ -110,6 +114,7 @@ came_disk i (room w m x) e n h = (
 filled_came : Came filled
 unfolding update after belief copy round_batch prep_batch slots logged_sectors stored_sectors compared_sectors involved log_batch store_batch complete_b whole forward marked kill_batch redo gone level_to again_to last_to rounds in_turn behind disowned last_side expel_batch expel_first prep_places startup wiped_sectors filled_sectors wipe_batch fill_batch flushed_at_begin set_block replace table read read_through write_of change_made rebuilt at_most mask told_to flushed_first left_out program quorum code medium
 filled_came =
+    let flushed = flushed_told in
     let told1 = rounds_told in
     let told2 = turn_told in
     let a = came_steps 10 (react empty create) (came_ask empty create (λ p. inl (λ q. refl {a = true})) ([], Exchange.stays, sane_after (λ k. blank))) in
@@ -119,6 +124,7 @@ filled_came =
 mended_came : Came mended
 unfolding update after belief copy round_batch prep_batch slots logged_sectors stored_sectors compared_sectors involved log_batch store_batch complete_b whole forward marked kill_batch redo gone level_to again_to last_to rounds in_turn behind disowned last_side expel_batch expel_first prep_places startup wiped_sectors filled_sectors wipe_batch fill_batch flushed_at_begin set_block replace table read read_through write_of change_made rebuilt at_most mask told_to flushed_first left_out program quorum code medium
 mended_came =
+    let flushed = flushed_told in
     let told1 = rounds_told in
     let told2 = turn_told in
     let a = came_disk 1 filled (refl {a = true}) (λ q. omega (arith, q)) filled_came in
@@ -130,6 +136,7 @@ mended_came =
 pub again_came : Came again_risen
 unfolding update after belief copy round_batch prep_batch slots logged_sectors stored_sectors compared_sectors involved log_batch store_batch complete_b whole forward marked kill_batch redo gone level_to again_to last_to rounds in_turn behind disowned last_side expel_batch expel_first prep_places startup wiped_sectors filled_sectors wipe_batch fill_batch flushed_at_begin set_block replace table read read_through write_of change_made rebuilt at_most mask told_to flushed_first left_out program quorum code medium
 again_came =
+    let flushed = flushed_told in
     let told1 = rounds_told in
     let told2 = turn_told in
     let a = came_disk 0 mended (refl {a = true}) (λ q. omega (arith, q)) mended_came in

@@ -10,7 +10,7 @@ use native.Mathlib.Omega.{arith}
 use Rattle.std.proofs.Math.Nat.{mul-le-mul_right}
 use Rattle.std.proofs.Math.Dec.{eqb}
 use Rattle.std.proofs.Math.ListN.{length, length-append}
-use Rattle.protocol.proofs.Told.{rounds_told, turn_told}
+use Rattle.protocol.proofs.Told.{flushed_told, rounds_told, turn_told}
 use Rattle.protocol.specs.World.{Place, label, log, strip, Image, World, Action, act, run}
 use Rattle.protocol.specs.Batch.{flushes}
 use Rattle.protocol.specs.Slots.{from, keep, row, rows}
@@ -170,6 +170,7 @@ module _ {X : Type 0} (z : Size) (W : Quorum z.n) (C : LabelCodec X z.n) (K : Re
   pub start_actions : (A : ℕ → Bool) (f : Image X) → length (flushes {X = X} (flushed_first z W C K E S R A) ++ startup z C K A f) ≤ z.n * K.c + 13 * z.n
   unfolding startup in_turn rounds level_to again_to last_to belief flushed_first
   start_actions A f =
+      let flushed = flushed_told in
       let told1 = rounds_told in
       let told2 = turn_told in
       let m = M z C A f in

@@ -6,7 +6,7 @@ use Rattle.std.proofs.Math.Path.{refl, sym, ap}
 use Rattle.std.proofs.Common.{◌∙◌}
 use Rattle.std.proofs.Math.Bool.{Bool, true, false, cond, not}
 use mathlib.Core.List.{List, [], ◌∷◌, ◌++◌}
-use Rattle.protocol.proofs.Told.{rounds_told, turn_told}
+use Rattle.protocol.proofs.Told.{flushed_told, rounds_told, turn_told}
 use Rattle.protocol.specs.World.{Image, Action}
 use Rattle.protocol.specs.Batch.{actions, flushes}
 use Rattle.protocol.specs.Slots.{from, keep, slots}
@@ -64,6 +64,7 @@ module _ {X : Type 0} (z : Size) (W : Quorum z.n) (C : LabelCodec X z.n) (K : Re
   pub start_phases : (A : ℕ → Bool) (f : Image X) → flushes {X = X} (flushed_first z W C K E S R A) ++ startup z C K A f ≡ all_of ((start_walks z W C K E S R) A f)
   unfolding flushed_first startup in_turn rounds level_to again_to last_to slots
   start_phases A f =
+      let flushed = flushed_told in
       let told1 = rounds_told in
       let told2 = turn_told in
       let B = belief z (settled z C K A f) in
@@ -84,6 +85,7 @@ module _ {X : Type 0} (z : Size) (W : Quorum z.n) (C : LabelCodec X z.n) (K : Re
   pub create_phases : (l : Label) (A : ℕ → Bool) → flushes {X = X} (flushed_first z W C K E S R A) ++ round C l (from 0 z.n) ≡ all_of (flush_phase C K z.n (λ d. not (A d)) ∷ label_phase C K l z.n (λ d. true) ∷ [])
   unfolding flushed_first slots
   create_phases l A =
+      let flushed = flushed_told in
       ap (λ (y : List (Action X)). flushes (keep (λ d. not (A d)) (from 0 z.n)) ++ y)
       (ap (λ (ds : List ℕ). round C l ds) (all_kept 0 z.n) ∙ (round_phase C K (belief z l) l z.n (λ d. true) ∙ sym (append_nil (actions (batch_of (label_phase C K l z.n (λ d. true)))))))
 

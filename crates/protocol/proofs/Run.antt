@@ -2,7 +2,7 @@
 -- lost, and reads. This is the classic hole of document 03, section 5: the data strip is written, the parity strip is not, power is lost, then
 -- another disk; and the block that nobody was writing comes back right.
 use Rattle.std.specs.Prelude.{◌≡◌, refl}
-use Rattle.protocol.proofs.Told.{rounds_told, turn_told}
+use Rattle.protocol.proofs.Told.{flushed_told, rounds_told, turn_told}
 use Rattle.protocol.specs.World.{update, after}
 use Rattle.protocol.specs.Slots.{slots}
 use Rattle.protocol.specs.Label.{belief, copy, round_batch, prep_places, prep_batch}
@@ -19,6 +19,7 @@ use Rattle.protocol.specs.Run.{ask_block, made, filled, risen}
 made_reads : ask_block made 0 ≡ blank
 unfolding update after belief copy round_batch prep_batch slots logged_sectors stored_sectors compared_sectors involved log_batch store_batch complete_b whole forward marked kill_batch redo gone level_to again_to last_to rounds in_turn behind disowned prep_places startup set_block replace table read read_through write_of change_made at_most mask told_to flushed_first left_out program quorum code medium
 made_reads =
+    let flushed = flushed_told in
     let told1 = rounds_told in
     let told2 = turn_told in
     refl
@@ -26,6 +27,7 @@ made_reads =
 filled_reads : (ask_block filled 0 ≡ datum 7) × (ask_block filled 1 ≡ datum 8)
 unfolding update after belief copy round_batch prep_batch slots logged_sectors stored_sectors compared_sectors involved log_batch store_batch complete_b whole forward marked kill_batch redo gone level_to again_to last_to rounds in_turn behind disowned prep_places startup set_block replace table read read_through write_of change_made at_most mask told_to flushed_first left_out program quorum code medium
 filled_reads =
+    let flushed = flushed_told in
     let told1 = rounds_told in
     let told2 = turn_told in
     (refl, refl)
@@ -34,6 +36,7 @@ filled_reads =
 pub risen_reads : (ask_block risen 0 ≡ datum 9) × (ask_block risen 1 ≡ datum 8)
 unfolding update after belief copy round_batch prep_batch slots logged_sectors stored_sectors compared_sectors involved log_batch store_batch complete_b whole forward marked kill_batch redo gone level_to again_to last_to rounds in_turn behind disowned prep_places startup set_block replace table read read_through write_of change_made at_most mask told_to flushed_first left_out program quorum code medium
 risen_reads =
+    let flushed = flushed_told in
     let told1 = rounds_told in
     let told2 = turn_told in
     (refl, refl)
