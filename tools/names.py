@@ -6,8 +6,8 @@ usage: names.py [FOLDER]      after port.py has run there; FOLDER is the top of 
 A row of the table is a name as it was before the port, as port.py left it, and as it is now: words in snake case, and
 `_lem` behind a lemma that would else have its function's name. A name that a file takes from a library stays. In a file
 of antt the code turns, and in a comment what stands between backquotes or is in camel case; in a .rt file the clauses, the `ghost use` lines and
-such comments; in a page and in a must-fail edit the names of before the port turn too. Proof.antt files, which speak of names that
-Rattle makes, turn only what they take from the repository's own files. Run it once.
+such comments. Pages and must-fail edits it leaves alone: they were brought over by the table's first and last columns. Proof.antt files, which
+speak of names that Rattle makes, turn only what they take from the repository's own files. Run it once.
 """
 
 import os
@@ -25,15 +25,13 @@ CLAUSE = re.compile(r"\b(?:requires|ensures|ghost)\b\*?\s*(?:\w+\s*)?(?::\s*)?\{
 
 
 def table():
-    ported, landed = {}, {}
+    names = {}
     with open(os.path.join(HERE, "names.tsv"), encoding="utf-8") as f:
         for line in f:
-            old, now, new = line.rstrip("\n").split("\t")
+            _, now, new = line.rstrip("\n").split("\t")
             if now != new:
-                ported[now] = new
-            if old != new:
-                landed[old] = new
-    return ported, landed
+                names[now] = new
+    return names
 
 
 def turn(text, names):
@@ -97,7 +95,7 @@ def plain(text, names):
 
 def main():
     top = sys.argv[1] if len(sys.argv) > 1 else "."
-    ported, landed = table()
+    names = table()
     crates = set(os.listdir(os.path.join(top, "crates")))
     for folder, dirs, files in os.walk(top):
         dirs[:] = sorted(d for d in dirs if d not in (".git", "out", "target", "tools"))
@@ -107,7 +105,7 @@ def main():
                 continue
             with open(path, encoding="utf-8") as f:
                 text = f.read()
-            new = rust(text, ported, crates) if name.endswith(".rt") else antt(text, ported, crates, name == "Proof.antt")
+            new = rust(text, names, crates) if name.endswith(".rt") else antt(text, names, crates, name == "Proof.antt")
             if new != text:
                 with open(path, "w", encoding="utf-8") as f:
                     f.write(new)
