@@ -1,12 +1,11 @@
 -- READ, WRITE AND SCRUB on images that are alike. Assumes nothing.
-use Rattle.std.specs.Prelude.{◌≡◌, refl, List, [], length}
+use Rattle.std.specs.Prelude.{◌≡◌, refl, List, [], length, Ok, Err}
 use Rattle.std.proofs.Common.{sym, ap, subst, ◌∙◌, arith}
 use Prim.Native.Nat.{ℕ, ◌+◌, ◌-◌, ◌*◌, ◌/◌, ◌%◌}
 use Rattle.code.specs.Stripes.{Says}
 use Rattle.disk.specs.Limits.{sector_bytes}
 use Rattle.disk.specs.declared.geometry.Geometry.{Geometry}
-use Rattle.disk.specs.declared.refusal.Outcome.{Outcome}
-use Rattle.disk.specs.declared.refusal.Outcome.TheVariants.{Done, Refused}
+use Rattle.disk.specs.Refusal.{Outcome}
 use Rattle.label.specs.Fields.{geometry_of}
 use Rattle.label.proofs.Fits.{fits_says}
 use Rattle.label.specs.declared.fields.Label.{Label}
@@ -16,8 +15,7 @@ use Rattle.stages.specs.declared.state.State.{State}
 use Rattle.strips.specs.Seen.{shard_bytes, shown_byte}
 use Rattle.strips.specs.Laws.{listed_ext}
 use Rattle.strips.specs.Whole.{stripe_seen, Restored}
-use Rattle.strips.specs.declared.whole.Scrubbed.{Scrubbed}
-use Rattle.strips.specs.declared.whole.Scrubbed.TheVariants as scrubbed
+use Rattle.strips.specs.Whole.{Scrubbed}
 use Rattle.blocks.specs.Slots.{there}
 use Rattle.blocks.specs.Answers.{block_answer}
 use Rattle.blocks.specs.Read.{laid_over, block_shown, half_of, shown_of, read_answer, after_read, Shows, shows_block, read_done}
@@ -49,8 +47,8 @@ module _ (s : State) (block : ℕ) (buf work x y : List ℕ) (h : Alike (geometr
   -- A READ answers the same, and gives the same bytes
   pub read_blind : (o : Outcome) → o ≡ read_answer s.now s.kind s.absent block (length x) (length buf) (length work)
       → after_read o s block x work buf ≡ after_read o s block y work buf
-  read_blind Done e = shown_same (read_done s.now s.kind s.absent block x work buf (sym e)) (laid_over s (block / s.now.k))
-  read_blind (Refused why) e = refl
+  read_blind (Ok tt) e = shown_same (read_done s.now s.kind s.absent block x work buf (sym e)) (laid_over s (block / s.now.k))
+  read_blind (Err why) e = refl
 
 -- ---- write
 
@@ -62,7 +60,7 @@ module _ (s : State) (block : ℕ) (bytes work x y : List ℕ) (h : Alike (geome
   -- A WRITE answers the same, and what it may hand out and leave in the work area on the one image it may on the other
   pub write_blind : (o : Outcome) → o ≡ write_answer s.now s.kind s.absent s.count x block (length bytes) (length work)
       → (s' : State) (after : List ℕ) → AfterWrite o s block bytes x work s' after → AfterWrite o s block bytes y work s' after
-  write_blind Done e s' after w =
+  write_blind (Ok tt) e s' after w =
       let l : Label = s.now in
       let g : Geometry = geometry_of l in
       let t : ℕ = block / l.k in
@@ -87,7 +85,7 @@ module _ (s : State) (block : ℕ) (bytes work x y : List ℕ) (h : Alike (geome
             };
         becomes = w.becomes;
       }
-  write_blind (Refused why) e s' after w = w
+  write_blind (Err why) e s' after w = w
 
 -- ---- scrub
 
@@ -96,12 +94,12 @@ module _ (s : State) (t : ℕ) (work x y : List ℕ) (h : Alike (geometry_of s.n
   pub scrub_blind : (r : Scrubbed)
       → ScrubbedBy (scrub_answer s.now s.kind s.absent t (length x) (length work)) (SaysOf s.now s.absent (laid_over s t) x work t) r
       → ScrubbedBy (scrub_answer s.now s.kind s.absent t (length y) (length work)) (SaysOf s.now s.absent (laid_over s t) y work t) r
-  scrub_blind (scrubbed.Found v) p =
+  scrub_blind (Ok v) p =
       let l : Label = s.now in
       let g : Geometry = geometry_of l in
       let u = (scrub_done l s.kind s.absent t x work p.0).lies in (
         ap (λ (n : ℕ). scrub_answer l s.kind s.absent t n (length work)) (sym h.lengths) ∙ p.0,
-        subst (λ (row : List ℕ). Says l.k (l.k + l.m - l.k) (l.c * sector_bytes) row v)
+        subst (λ (row : List ℕ). Says l.k (l.k + l.m - l.k) (l.c * sector_bytes) row (Ok v))
             (row_alike g s.absent x y h (fits_says l u.fits).range (there g l s.absent t) (there_dark g l s.absent t) t u.stripe (laid_over s t) (half_of g work)) p.1,
       )
-  scrub_blind (scrubbed.Refused why) p = ap (λ (n : ℕ). scrub_answer s.now s.kind s.absent t n (length work)) (sym h.lengths) ∙ p
+  scrub_blind (Err why) p = ap (λ (n : ℕ). scrub_answer s.now s.kind s.absent t n (length work)) (sym h.lengths) ∙ p

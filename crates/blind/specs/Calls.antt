@@ -2,17 +2,17 @@
 use Rattle.std.specs.Prelude.{◌≡◌, List, ℕ, length}
 use Rattle.disk.specs.Mask.{without_slot}
 use Rattle.disk.specs.declared.geometry.Geometry.{Geometry}
-use Rattle.disk.specs.declared.refusal.Outcome.{Outcome}
+use Rattle.disk.specs.Refusal.{Outcome}
 use Rattle.label.specs.Fields.{geometry_of}
 use Rattle.stages.specs.declared.state.State.{State}
-use Rattle.stages.specs.declared.state.Answer.{Answer}
+use Rattle.stages.specs.Told.{Answer}
 use Rattle.requests.specs.Create.{create_of}
 use Rattle.requests.specs.Start.{start_of}
 use Rattle.requests.specs.TakeOut.{take_out_of}
 use Rattle.requests.specs.Status.{status_answer, after_status}
 use Rattle.requests.specs.Step.{step_with}
-use Rattle.requests.specs.declared.begun.Begun.{Begun}
-use Rattle.strips.specs.declared.whole.Scrubbed.{Scrubbed}
+use Rattle.requests.specs.Begun.{Begun, outcome_of, state_of}
+use Rattle.strips.specs.Whole.{Scrubbed}
 use Rattle.rebuilds.specs.Begin.{begin_of}
 use Rattle.rebuilds.specs.On.{on_of}
 use Rattle.blocks.specs.Read as blocks
@@ -52,16 +52,16 @@ abbrev pub reply : Said → State → List ℕ → Reply
 reply said s work = record { said = said; state = s; work = work }
 
 -- a request that touches neither work area nor image
-abbrev pub Begins : Begun → List ℕ → List ℕ → Reply → List ℕ → Type 0
-Begins b work img r after = (r ≡ reply (began b.outcome) b.state work) × (after ≡ img)
+abbrev pub Begins : Begun → State → List ℕ → List ℕ → Reply → List ℕ → Type 0
+Begins b s work img r after = (r ≡ reply (began (outcome_of b)) (state_of s b) work) × (after ≡ img)
 
 -- WHAT A CALL MAY MAKE of a state, a work area and an image: the contracts, each in its crate's own words
 abbrev pub Makes : Call → State → List ℕ → List ℕ → Reply → List ℕ → Type 0
-Makes (create k m c S shelf room) s work img r after = Begins (create_of s k m c S shelf img room) work img r after
-Makes (start g absent room) s work img r after = Begins (start_of s g absent img room) work img r after
-Makes (take_out d room) s work img r after = Begins (take_out_of s d img room) work img r after
-Makes (begin d room) s work img r after = Begins (begin_of s d img room) work img r after
-Makes (rebuild_on batch room) s work img r after = Begins (on_of s batch img room) work img r after
+Makes (create k m c S shelf room) s work img r after = Begins (create_of k m c S shelf img room) s work img r after
+Makes (start g absent room) s work img r after = Begins (start_of g absent img room) s work img r after
+Makes (take_out d room) s work img r after = Begins (take_out_of s d img room) s work img r after
+Makes (begin d room) s work img r after = Begins (begin_of s d img room) s work img r after
+Makes (rebuild_on batch room) s work img r after = Begins (on_of s batch img room) s work img r after
 Makes step s work img r after =
     let m = step_with s img work in (r ≡ reply (did m.stepped.answer) m.stepped.state work) × (after ≡ m.image)
 Makes (status fields) s work img r after =
@@ -76,7 +76,7 @@ Makes (scrub t) s work img r after =
     let o = blocks_scrub.scrub_answer s.now s.kind s.absent t (length img) (length work) in
     ((v : Scrubbed) × (r ≡ reply (found v) s work) × blocks_scrub.ScrubbedBy o (blocks_scrub.SaysOf s.now s.absent (blocks.laid_over s t) img work t) v) × (after ≡ img)
 Makes (repair t) s work img r after =
-    ((o : Outcome) × (r.said ≡ began o) × Repairs s t img work (record { state = r.state; outcome = o }) r.work) × (after ≡ img)
+    ((b : Begun) × (r.said ≡ began (outcome_of b)) × (r.state ≡ state_of s b) × Repairs s t img work b r.work) × (after ≡ img)
 
 -- ---- what a call looks at
 

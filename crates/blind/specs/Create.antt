@@ -1,5 +1,5 @@
 -- CREATE AND A STEP on images that are alike. Create has no absent slots: it looks at every byte. Assumes nothing.
-use Rattle.std.specs.Prelude.{◌≡◌, Bool, cond, ◌&&◌, List, ℕ, ◌+◌, eqb, length}
+use Rattle.std.specs.Prelude.{◌≡◌, Bool, cond, ◌&&◌, List, ℕ, ◌+◌, eqb, length, Ok, Err}
 use Rattle.std.proofs.Math.Path.{refl, sym, ap}
 use Rattle.std.proofs.Common.{subst, ◌∙◌}
 use Rattle.std.proofs.Math.Bool.{true, false}
@@ -7,8 +7,7 @@ use Rattle.disk.specs.Tests.{and_right}
 use Rattle.disk.specs.Image.{fits_image}
 use Rattle.disk.specs.declared.geometry.Geometry.{Geometry}
 use Rattle.disk.specs.declared.refusal.Refusal.TheVariants.{BadImage, NotNow, BadBuffer}
-use Rattle.disk.specs.declared.refusal.Outcome.{Outcome}
-use Rattle.disk.specs.declared.refusal.Outcome.TheVariants as outcome
+use Rattle.disk.specs.Refusal.{Outcome}
 use Rattle.label.specs.Fields.{geometry_of}
 use Rattle.label.specs.Bytes.{all_zero}
 use Rattle.shelf.specs.Act.{Move, refuses}
@@ -24,14 +23,14 @@ use Rattle.blind.specs.Alike.{Alike, in_none, alike_same}
 abbrev pub new_shelf : ℕ → ℕ → ℕ → ℕ → Geometry
 new_shelf k m c S = record { n = k + m; c = c; sectors = S }
 
-pub create_blind : (s : State) (k m c S shelf room : ℕ) (x y : List ℕ) → Alike (new_shelf k m c S) 0 x y → create_of s k m c S shelf x room ≡ create_of s k m c S shelf y room
+pub create_blind : (k m c S shelf room : ℕ) (x y : List ℕ) → Alike (new_shelf k m c S) 0 x y → create_of k m c S shelf x room ≡ create_of k m c S shelf y room
 unfolding create_answer shelf_fits
-create_blind s k m c S shelf room x y h =
-    ap (λ (o : Outcome). begun o s (created k m c S shelf))
+create_blind k m c S shelf room x y h =
+    ap (λ (o : Outcome). begun o (created k m c S shelf))
     (by (shelf_fits k m c S (length x)) refl ∙ ap (λ (n : ℕ). answer (shelf_fits k m c S n) y) h.lengths)
   where
     answer : Bool → List ℕ → Outcome
-    answer b img = cond b (cond (all_zero img) (cond (eqb room (work_bytes (k + m) c)) outcome.Done (outcome.Refused BadBuffer)) (outcome.Refused NotNow)) (outcome.Refused BadImage)
+    answer b img = cond b (cond (all_zero img) (cond (eqb room (work_bytes (k + m) c)) (Ok tt) (Err BadBuffer)) (Err NotNow)) (Err BadImage)
 
     fits : shelf_fits k m c S (length x) ≡ true → fits_image (new_shelf k m c S) (length x) ≡ true
     fits e = and_right (shards_fit k m) (fits_image (new_shelf k m c S) (length x)) (opened e)

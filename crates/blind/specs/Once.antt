@@ -1,8 +1,8 @@
 -- WHERE A CONTRACT IS NO FUNCTION IT STILL ALLOWS ONE RESULT ONLY, on lists of bytes: what a scrub finds, what a write and a repair hand
 -- out and leave in the work area. Assumes nothing.
-use Rattle.std.specs.Prelude.{◌≡◌, Bool, true, false, cond, eqb, length, get_or, take, drop}
+use Rattle.std.specs.Prelude.{◌≡◌, Bool, true, false, cond, eqb, length, get_or, take, drop, Ok, Err}
 use Rattle.std.proofs.Math.Path.{refl, subst}
-use Rattle.std.proofs.Common.{sym, ap, ap₂, ◌∙◌, true≢false, ⊎_elim, mul-le-mul_right, arith, lit<, take-append-drop, get_or-take, get_or-drop, eqb-true}
+use Rattle.std.proofs.Common.{sym, ap, ap₂, ◌∙◌, ⊎_elim, mul-le-mul_right, arith, lit<, take-append-drop, get_or-take, get_or-drop, eqb-true}
 use mathlib.Core.List.{List, [], ◌∷◌, ◌++◌}
 use Prim.Native.Nat.{ℕ, ◌+◌, ◌-◌, ◌*◌, ◌≤◌, ◌<◌, ◌/◌, ◌%◌}
 use Rattle.std.proofs.Math.ListN.{get_or-eq_default}
@@ -13,13 +13,12 @@ use Rattle.disk.specs.Image.{lt_or_ge}
 use Rattle.disk.specs.declared.geometry.Geometry.{Geometry}
 use Rattle.disk.specs.declared.refusal.Refusal.{Refusal}
 use Rattle.disk.specs.declared.refusal.Refusal.TheVariants.{NotNow}
-use Rattle.disk.specs.declared.refusal.Outcome.{Outcome}
-use Rattle.disk.specs.declared.refusal.Outcome.TheVariants.{Done, Refused}
+use Rattle.disk.specs.Refusal.{Outcome}
 use Rattle.codeword.specs.Stripe.{byte_at, AgreeOff}
 use Rattle.codeword.specs.Unique.{AllBytes}
 use Rattle.codeword.proofs.Unique.{unique}
 use Rattle.code.specs.Shape.{shaped_of}
-use Rattle.code.specs.Stripes.{Says, Mends, Repaired}
+use Rattle.code.specs.Stripes.{Said, Says, Mends, Repaired}
 use Rattle.code.specs.Exact.{scrub_sound, scrub_accused, scrub_unsound, repaired_only}
 use Rattle.code.specs.declared.Verdict.{Verdict}
 use Rattle.code.specs.declared.Verdict.TheVariants as verdict
@@ -27,16 +26,14 @@ use Rattle.position.specs.Position.{parity_ext}
 use Rattle.label.specs.Fields.{geometry_of, fits_of}
 use Rattle.label.proofs.Fits.{fits_says}
 use Rattle.label.specs.declared.fields.Label.{Label}
-use Rattle.requests.specs.Begun.{begun, first}
-use Rattle.requests.specs.declared.begun.Begun.{Begun}
+use Rattle.requests.specs.Begun.{Begun, begun, outcome_of, begun_says, first}
 use Rattle.stages.specs.declared.state.State.{State}
 use Rattle.strips.specs.Seen.{shard_bytes, row_seen}
 use Rattle.strips.specs.Answers.{few_lost}
 use Rattle.strips.specs.Laws.{row_bytes, row_shaped, code_range}
 use Rattle.strips.specs.Whole.{stripe_seen, none_lost, changes, PreparedBy}
 use Rattle.strips.specs.Prepared.{prepared_length, prepared_sound, prepared_block, prepared_others, prepared_shown}
-use Rattle.strips.specs.declared.whole.Scrubbed.{Scrubbed}
-use Rattle.strips.specs.declared.whole.Scrubbed.TheVariants as scrubbed
+use Rattle.strips.specs.Whole.{Scrubbed}
 use Rattle.blocks.specs.Slots.{all_slots, there, changed_shards}
 use Rattle.blocks.specs.Answers.{never}
 use Rattle.blocks.specs.Read.{half_of, shows_block}
@@ -47,11 +44,15 @@ use Rattle.blind.specs.Small.{small_front, small_take, small_seen, shards_same}
 
 -- ---- the verdict
 
-says_once : (k m len : ℕ) (s : List ℕ) → shaped_of k m len (length s) ≡ true → AllBytes s → (v w : Verdict) → Says k m len s v → Says k m len s w → v ≡ w
-says_once k m len s fits b verdict.Sound w h e = sym (scrub_sound k m len s fits b w e h.1)
-says_once k m len s fits b (verdict.Accused r) w h e = sym (scrub_accused k m len s fits b w e h.2 h.1 r h.3)
-says_once k m len s fits b verdict.Unsound w h e = sym (scrub_unsound k m len s fits b w e h.1 h.2)
-says_once k m len s fits b (verdict.Refused x) w h e = absurd (true≢false (sym fits ∙ h.0))
+-- the verdict of an answer, or another where there is none
+abbrev verdict_in : Verdict → Said → Verdict
+verdict_in w (Ok v) = v
+verdict_in w (Err x) = w
+
+says_once : (k m len : ℕ) (s : List ℕ) → shaped_of k m len (length s) ≡ true → AllBytes s → (v w : Verdict) → Says k m len s (Ok v) → Says k m len s (Ok w) → v ≡ w
+says_once k m len s fits b verdict.Sound w h e = ap (verdict_in w) (sym (scrub_sound k m len s fits b (Ok w) e h.1))
+says_once k m len s fits b (verdict.Accused r) w h e = ap (verdict_in w) (sym (scrub_accused k m len s fits b (Ok w) e h.2 h.1 r h.3))
+says_once k m len s fits b verdict.Unsound w h e = ap (verdict_in w) (sym (scrub_unsound k m len s fits b (Ok w) e h.1 h.2))
 
 -- ---- a mended stripe, at a data shard j that is bytes
 
@@ -67,11 +68,10 @@ module _ (k m len : ℕ) (before : List ℕ) (fits : length before ≡ (k + m) *
       beyond l = subst (λ (v : ℕ). v < 256) (sym (get_or-eq_default x 0 {n = q * len + p} (omega (arith, e, fits, mul-le-mul_right len l)))) (lit< tt)
 
 mends_once : (n k len : ℕ) → Splits n k → (before : List ℕ) → length before ≡ n * len → AllBytes before → (v : Verdict) (x y : List ℕ)
-    → Mends k (n - k) len v before x → Mends k (n - k) len v before y → (j p : ℕ) → j < k → p < len → byte_at len x p j < 256 → byte_at len y p j < 256
+    → Mends k (n - k) len (Ok v) before x → Mends k (n - k) len (Ok v) before y → (j p : ℕ) → j < k → p < len → byte_at len x p j < 256 → byte_at len y p j < 256
     → byte_at len x p j ≡ byte_at len y p j
 mends_once n k len s before fits small verdict.Sound x y h g j p hj hp bx by = ap (λ (z : List ℕ). byte_at len z p j) (h ∙ sym g)
 mends_once n k len s before fits small verdict.Unsound x y h g j p hj hp bx by = ap (λ (z : List ℕ). byte_at len z p j) (h ∙ sym g)
-mends_once n k len s before fits small (verdict.Refused w) x y h g j p hj hp bx by = ap (λ (z : List ℕ). byte_at len z p j) (h ∙ sym g)
 mends_once n k len s before fits small (verdict.Accused r) x y h g j p hj hp bx by = at (eqb r j) refl
   where
     all : k + (n - k) ≡ n
@@ -123,7 +123,7 @@ module _ (g : Geometry) (k : ℕ) (img : List ℕ) (there t i : ℕ) (bytes : Li
             let q = says_once k (g.n - k) len before shaped before_small h.0 u.0 h.1.says u.1.says in (
               h.2 ∙ ap changes q ∙ sym u.2,
               λ j p hj o hp. mends_once g.n k len split before before_length before_small u.0 v.stripe w.stripe
-                  (subst (λ (z : Verdict). Mends k (g.n - k) len z before v.stripe) q h.1.mends) u.1.mends j p hj hp
+                  (subst (λ (z : Verdict). Mends k (g.n - k) len (Ok z) before v.stripe) q h.1.mends) u.1.mends j p hj hp
                   (subst (λ (z : ℕ). z < 256) (other_x j p hj o hp) (bx (j * len + p))) (subst (λ (z : ℕ). z < 256) (other_y j p hj o hp) (by (j * len + p))),
             )
         go false e = (
@@ -169,7 +169,7 @@ module _ (g : Geometry) (k : ℕ) (img : List ℕ) (there t i : ℕ) (bytes : Li
 pub write_once : (o : Outcome) (s : State) (block : ℕ) (bytes img work : List ℕ) → o ≡ write_answer s.now s.kind s.absent s.count img block (length bytes) (length work)
     → AllBytes img → (t u : State) (x y : List ℕ) → AfterWrite o s block bytes img work t x → AfterWrite o s block bytes img work u y → AllBytes x → AllBytes y → (t ≡ u) × (x ≡ y)
 unfolding half_of
-write_once Done s block bytes img work e small t u x y v w bx by =
+write_once (Ok tt) s block bytes img work e small t u x y v w bx by =
     let l : Label = s.now in
     let g : Geometry = geometry_of l in
     let H : ℕ = (l.k + l.m) * (l.c * sector_bytes) in
@@ -182,12 +182,12 @@ write_once Done s block bytes img work e small t u x y v w bx by =
       v.becomes ∙ ap (λ (a : Bool). changing s (block / l.k) (changed_shards (l.k + l.m) l.k (block % l.k) a)) p.0 ∙ sym w.becomes,
       sym (take-append-drop H x) ∙ ap₂ (λ (a b : List ℕ). a ++ b) p.1 (v.prepared.rest ∙ sym w.prepared.rest) ∙ take-append-drop H y,
     )
-write_once (Refused why) s block bytes img work e small t u x y v w bx by = (v.0 ∙ sym w.0, v.1 ∙ sym w.1)
+write_once (Err why) s block bytes img work e small t u x y v w bx by = (v.0 ∙ sym w.0, v.1 ∙ sym w.1)
 
 -- ---- scrubs
 
 -- the refusal of a scrub that is refused
-refused_once : (x y : Refusal) → Refused x ≡ Refused y → scrubbed.Refused x ≡ scrubbed.Refused y
+refused_once : (x y : Refusal) → ◌≡◌ {A = Outcome} (Err x) (Err y) → ◌≡◌ {A = Scrubbed} (Err x) (Err y)
 refused_once x y e = cc
 
 -- WHAT A SCRUB FINDS
@@ -196,7 +196,7 @@ pub scrub_once : (s : State) (t over : ℕ) (img work : List ℕ) → AllBytes i
     → blocks_scrub.ScrubbedBy (blocks_scrub.scrub_answer s.now s.kind s.absent t (length img) (length work)) (blocks_scrub.SaysOf s.now s.absent over img work t) y
     → x ≡ y
 unfolding half_of
-scrub_once s t over img work small sw (scrubbed.Found v) (scrubbed.Found w) h e =
+scrub_once s t over img work small sw (Ok v) (Ok w) h e =
     let l : Label = s.now in
     let g : Geometry = geometry_of l in
     let len : ℕ = l.c * sector_bytes in
@@ -205,11 +205,11 @@ scrub_once s t over img work small sw (scrubbed.Found v) (scrubbed.Found w) h e 
     let row : List ℕ = row_seen g img (there g l s.absent t) over kept t 0 l.c in
     let fits : shaped_of l.k (l.k + l.m - l.k) len (length row) ≡ true =
     row_shaped (l.k + l.m) l.k len (length row) f.split (omega (arith, f.range.some)) (omega (arith, f.range.short)) (row_bytes g img (there g l s.absent t) over kept t 0 l.c) in
-    ap scrubbed.Found (says_once l.k (l.k + l.m - l.k) len row fits
+    ap Ok (says_once l.k (l.k + l.m - l.k) len row fits
     (small_seen g img (there g l s.absent t) over kept t 0 l.c small (small_take ((l.k + l.m) * (l.c * sector_bytes)) work sw)) v w h.1 e.1)
-scrub_once s t over img work small sw (scrubbed.Found v) (scrubbed.Refused y) h e = absurd (never y (sym e ∙ h.0))
-scrub_once s t over img work small sw (scrubbed.Refused x) (scrubbed.Found w) h e = absurd (never x (sym h ∙ e.0))
-scrub_once s t over img work small sw (scrubbed.Refused x) (scrubbed.Refused y) h e = refused_once x y (sym h ∙ e)
+scrub_once s t over img work small sw (Ok v) (Err y) h e = absurd (never y (sym e ∙ h.0))
+scrub_once s t over img work small sw (Err x) (Ok w) h e = absurd (never x (sym h ∙ e.0))
+scrub_once s t over img work small sw (Err x) (Err y) h e = refused_once x y (sym h ∙ e)
 
 -- a stripe of the shelf, all its slots there
 module _ (l : Label) (img : List ℕ) (t over : ℕ) (kept : List ℕ) (fits : fits_of l ≡ true) (small : AllBytes img) (sk : AllBytes kept) where
@@ -229,7 +229,7 @@ module _ (l : Label) (img : List ℕ) (t over : ℕ) (kept : List ℕ) (fits : f
       subst (λ (m : ℕ). shaped_of l.k m (l.c * sector_bytes) (length row) ≡ true) e
       (row_shaped (l.k + l.m) l.k (l.c * sector_bytes) (length row) f.split (omega (arith, f.range.some)) (omega (arith, f.range.short)) row_whole)
 
-  row_says : (v w : Verdict) → Says l.k l.m (l.c * sector_bytes) row v → Says l.k l.m (l.c * sector_bytes) row w → v ≡ w
+  row_says : (v w : Verdict) → Says l.k l.m (l.c * sector_bytes) row (Ok v) → Says l.k l.m (l.c * sector_bytes) row (Ok w) → v ≡ w
   row_says v w = says_once l.k l.m (l.c * sector_bytes) row row_fits row_small v w
 
 -- ---- repair
@@ -243,26 +243,22 @@ module _ (s : State) (t : ℕ) (img work : List ℕ) (small : AllBytes img) (b c
   abbrev may : Outcome
   may = may_repair s.now s.kind s.absent s.count t img
 
-  left_x : (o : Outcome) → b.outcome ≡ o → x ≡ leaves o l v.stripe work
+  left_x : (o : Outcome) → outcome_of b ≡ o → x ≡ leaves o l v.stripe work
   left_x o e = v.left ∙ ap (λ (p : Outcome). leaves p l v.stripe work) e
 
-  left_y : (o : Outcome) → c.outcome ≡ o → y ≡ leaves o l w.stripe work
+  left_y : (o : Outcome) → outcome_of c ≡ o → y ≡ leaves o l w.stripe work
   left_y o e = w.left ∙ ap (λ (p : Outcome). leaves p l w.stripe work) e
 
-  begun_outcome : (o : Outcome) (p q : State) → (begun o p q).outcome ≡ o
-  begun_outcome Done p q = refl
-  begun_outcome (Refused why) p q = refl
-
   -- refused before the stripe is looked at
-  turned_away : (why : Refusal) → may ≡ Refused why → (b ≡ c) × (x ≡ y)
+  turned_away : (why : Refusal) → may ≡ Err why → (b ≡ c) × (x ≡ y)
   turned_away why e =
-      let at : (f : Verdict) → begun (first may (mend_answer f l (length work))) s (mended s t f) ≡ begun (Refused why) s s =
-      λ f. ap (λ (o : Outcome). begun (first o (mend_answer f l (length work))) s (mended s t f)) e in
+      let at : (f : Verdict) → begun (first may (mend_answer f l (length work))) (mended s t f) ≡ begun (Err why) s =
+      λ f. ap (λ (o : Outcome). begun (first o (mend_answer f l (length work))) (mended s t f)) e in
       let p = v.answers ∙ at v.found in
       let q = w.answers ∙ at w.found in
-      (p ∙ sym q, left_x (Refused why) (ap (λ (z : Begun). z.outcome) p) ∙ sym (left_y (Refused why) (ap (λ (z : Begun). z.outcome) q)))
+      (p ∙ sym q, left_x (Err why) (ap (λ (z : Begun). outcome_of z) p) ∙ sym (left_y (Err why) (ap (λ (z : Begun). outcome_of z) q)))
 
-  module _ (done : may ≡ Done) where
+  module _ (done : may ≡ Ok tt) where
     fits : fits_of l ≡ true
     fits = (may_done s img t done).lies.fits
 
@@ -272,14 +268,14 @@ module _ (s : State) (t : ℕ) (img work : List ℕ) (small : AllBytes img) (b c
     found_once : v.found ≡ w.found
     found_once = row_says l img t 0 [] fits small empty_small v.found w.found (v.repaired done).0.says (w.repaired done).0.says
 
-    outcome_x : b.outcome ≡ mend_answer v.found l (length work)
+    outcome_x : outcome_of b ≡ mend_answer v.found l (length work)
     outcome_x =
-        ap (λ (z : Begun). z.outcome) v.answers ∙ begun_outcome (first may (mend_answer v.found l (length work))) s (mended s t v.found)
+        ap (λ (z : Begun). outcome_of z) v.answers ∙ begun_says (first may (mend_answer v.found l (length work))) (mended s t v.found)
         ∙ ap (λ (o : Outcome). first o (mend_answer v.found l (length work))) done
 
-    outcome_y : c.outcome ≡ mend_answer w.found l (length work)
+    outcome_y : outcome_of c ≡ mend_answer w.found l (length work)
     outcome_y =
-        ap (λ (z : Begun). z.outcome) w.answers ∙ begun_outcome (first may (mend_answer w.found l (length work))) s (mended s t w.found)
+        ap (λ (z : Begun). outcome_of z) w.answers ∙ begun_says (first may (mend_answer w.found l (length work))) (mended s t w.found)
         ∙ ap (λ (o : Outcome). first o (mend_answer w.found l (length work))) done
 
     -- the mended stripe, where a shard is accused
@@ -288,35 +284,34 @@ module _ (s : State) (t : ℕ) (img work : List ℕ) (small : AllBytes img) (b c
     stripe_once r e f sx sy =
         let len : ℕ = l.c * sector_bytes in
         let before : List ℕ = stripe_seen (geometry_of l) img (all_slots (l.k + l.m)) t in
-        let p = subst (λ (z : Verdict). Repaired l.k l.m len z before v.stripe) e (v.repaired done).0 in
-        let q = subst (λ (z : Verdict). Repaired l.k l.m len z before w.stripe) f (w.repaired done).0 in
+        let p = subst (λ (z : Verdict). Repaired l.k l.m len (Ok z) before v.stripe) e (v.repaired done).0 in
+        let q = subst (λ (z : Verdict). Repaired l.k l.m len (Ok z) before w.stripe) f (w.repaired done).0 in
         let a = repaired_only l.k l.m len before (row_fits l img t 0 [] fits small empty_small) (row_small l img t 0 [] fits small empty_small) r v.stripe w.stripe p sx sy
         q.mends.2 q.mends.1 in
         shards_same (l.k + l.m) len v.stripe w.stripe (omega (arith, (fits_says l fits).range.some)) (v.repaired done).1 (w.repaired done).1 (λ i j hi hj. a i hi refl j hj)
 
     -- one refusal
-    both_refused : (why : Refusal) → b.outcome ≡ Refused why → c.outcome ≡ Refused why → x ≡ y
-    both_refused why e f = left_x (Refused why) e ∙ sym (left_y (Refused why) f)
+    both_refused : (why : Refusal) → outcome_of b ≡ Err why → outcome_of c ≡ Err why → x ≡ y
+    both_refused why e f = left_x (Err why) e ∙ sym (left_y (Err why) f)
 
-    by_size : (o : Outcome) (r : ℕ) → v.found ≡ verdict.Accused r → w.found ≡ verdict.Accused r → b.outcome ≡ o → c.outcome ≡ o → x ≡ y
-    by_size Done r e f p q =
-        let ex = left_x Done p in
-        let ey = left_y Done q in
+    by_size : (o : Outcome) (r : ℕ) → v.found ≡ verdict.Accused r → w.found ≡ verdict.Accused r → outcome_of b ≡ o → outcome_of c ≡ o → x ≡ y
+    by_size (Ok tt) r e f p q =
+        let ex = left_x (Ok tt) p in
+        let ey = left_y (Ok tt) q in
         let rest : List ℕ = drop (stripe_bytes l) work in
         let sx = small_front v.stripe rest (subst AllBytes ex bx) in
         let sy = small_front w.stripe rest (subst AllBytes ey by) in
         ex ∙ ap (λ (z : List ℕ). z ++ rest) (stripe_once r e f sx sy) ∙ sym ey
-    by_size (Refused why) r e f p q = both_refused why p q
+    by_size (Err why) r e f p q = both_refused why p q
 
-    by_found : (f : Verdict) → v.found ≡ f → w.found ≡ f → b.outcome ≡ mend_answer f l (length work) → c.outcome ≡ mend_answer f l (length work) → x ≡ y
+    by_found : (f : Verdict) → v.found ≡ f → w.found ≡ f → outcome_of b ≡ mend_answer f l (length work) → outcome_of c ≡ mend_answer f l (length work) → x ≡ y
     by_found (verdict.Accused r) e f p q = by_size (sized_answer l (length work)) r e f p q
     by_found verdict.Sound e f p q = both_refused NotNow p q
     by_found verdict.Unsound e f p q = both_refused NotNow p q
-    by_found (verdict.Refused z) e f p q = both_refused NotNow p q
 
     taken_up : (b ≡ c) × (x ≡ y)
     taken_up = (
-      v.answers ∙ ap (λ (f : Verdict). begun (first may (mend_answer f l (length work))) s (mended s t f)) found_once ∙ sym w.answers,
+      v.answers ∙ ap (λ (f : Verdict). begun (first may (mend_answer f l (length work))) (mended s t f)) found_once ∙ sym w.answers,
       by_found w.found found_once refl (outcome_x ∙ ap (λ (f : Verdict). mend_answer f l (length work)) found_once) outcome_y,
     )
 
@@ -324,5 +319,5 @@ module _ (s : State) (t : ℕ) (img work : List ℕ) (small : AllBytes img) (b c
   repair_once = go may refl
     where
       go : (o : Outcome) → may ≡ o → (b ≡ c) × (x ≡ y)
-      go Done e = taken_up e
-      go (Refused why) e = turned_away why e
+      go (Ok tt) e = taken_up e
+      go (Err why) e = turned_away why e

@@ -1,5 +1,5 @@
 -- WHOSE A STATE IS: of a shelf with these numbers and these slots absent. A step keeps that. Assumes nothing.
-use Rattle.std.specs.Prelude.{◌≡◌, Bool, cond, ◌&&◌, List, ltb, length, replicate}
+use Rattle.std.specs.Prelude.{◌≡◌, Bool, cond, ◌&&◌, List, ltb, length, replicate, Ok, Err}
 use Rattle.std.proofs.Math.Bool.{true, false}
 use Prim.Native.Nat.{ℕ, zero, suc, ◌+◌, ◌*◌, ◌/◌, ◌%◌}
 use Rattle.disk.specs.Limits.{sector_bytes, first_log, first_strip}
@@ -7,11 +7,9 @@ use Rattle.disk.specs.Geometry.{in_range, stripes_of, strip_of, found}
 use Rattle.disk.specs.Mask.{in_mask}
 use Rattle.disk.specs.Image.{fits_image, put_answer}
 use Rattle.disk.specs.declared.geometry.Geometry.{Geometry}
-use Rattle.disk.specs.declared.geometry.Found.{Found}
-use Rattle.disk.specs.declared.geometry.Found.TheVariants as spot
+use Rattle.disk.specs.Geometry.{Found}
 use Rattle.disk.specs.declared.refusal.Refusal.TheVariants.{BadImage, NotNow, BadBuffer}
-use Rattle.disk.specs.declared.refusal.Outcome.{Outcome}
-use Rattle.disk.specs.declared.refusal.Outcome.TheVariants as outcome
+use Rattle.disk.specs.Refusal.{Outcome}
 use Rattle.label.specs.Fields.{geometry_of, fits_of}
 use Rattle.label.specs.Bytes.{sealed}
 use Rattle.label.specs.declared.fields.Label.{Label}
@@ -24,9 +22,9 @@ use Rattle.stages.specs.Stage.{stage_of}
 use Rattle.shelf.specs.Act.{Move, onward, refusal, refuses, by_outcome, put_move, flush_move, named, give_move, wipe_move, by_strip, by_restored, restore_move, tail_of, by_logged, log_move, by_stored, store_move, clear_move, odd_sector, erase_move, in_strips, by_rebuilt, fill_move, act_move}
 use Rattle.shelf.specs.Step.{is_end, finished, on_stage, next_slot, walk, by_answer, kept, keeps, sound, step_move}
 use Rattle.stages.specs.declared.state.State.{State}
-use Rattle.stages.specs.declared.state.Stepped.{Stepped}
-use Rattle.stages.specs.declared.state.Answer.{Answer}
-use Rattle.stages.specs.declared.state.Answer.TheVariants.{Put, Flush, Done, Refused}
+use Rattle.stages.specs.Told.{Told}
+use Rattle.stages.specs.Told.{Answer}
+use Rattle.stages.specs.Told.{Put, Flush, Done, Refused}
 use Rattle.stages.specs.declared.stage.Stage.{Stage}
 use Rattle.stages.specs.declared.stage.Stage.TheVariants as stage
 use Rattle.requests.specs.Step.{other_work, step_with}
@@ -58,14 +56,14 @@ module _ (q : Geometry) (absent : ℕ) where
     where
       by : (b : Bool) (p : Outcome) → Owns (cond b (refuses s NotNow img) (by_outcome p s g d to count v img))
       by true p = o
-      by false outcome.Done = onward_own s d count o
-      by false (outcome.Refused why) = o
+      by false (Ok tt) = onward_own s d count o
+      by false (Err why) = o
 
   flush_own : (s : State) (d : ℕ) → Own q absent s → Own q absent (flush_move s d).state
   unfolding flush_move
   flush_own s d o = by (in_mask s.absent d)
     where
-      by : (b : Bool) → Own q absent (cond {A = Stepped} b (refusal s NotNow) (record { state = onward s d 1; answer = Flush d })).state
+      by : (b : Bool) → Own q absent (cond {A = Told} b (refusal s NotNow) (record { state = onward s d 1; answer = Flush d })).state
       by true = o
       by false = onward_own s d 1 o
 
@@ -85,30 +83,30 @@ module _ (q : Geometry) (absent : ℕ) where
   restore_own s g d t img o = by (restore_answer g.c s.cursor.sector (length (area_of g img d)) sector_bytes)
     where
       on : (f : Found) → Owns (by_strip f s g d img)
-      on (spot.At p) =
-          put_own s g d (p + s.cursor.sector) g.c (after_restore outcome.Done (area_of g img d) g.c s.cursor.sector (replicate sector_bytes 0)) img o
-      on (spot.Refused why) = o
+      on (Ok p) =
+          put_own s g d (p + s.cursor.sector) g.c (after_restore (Ok tt) (area_of g img d) g.c s.cursor.sector (replicate sector_bytes 0)) img o
+      on (Err why) = o
 
       by : (p : Outcome) → Owns (by_restored p s g d t img)
-      by outcome.Done = on (found (in_range g) (ltb t (stripes_of g)) (strip_of g t))
-      by (outcome.Refused why) = o
+      by (Ok tt) = on (found (in_range g) (ltb t (stripes_of g)) (strip_of g t))
+      by (Err why) = o
 
   log_own : (s : State) (g : Geometry) (d t shards : ℕ) (work img : List ℕ) → Own q absent s → Owns (log_move s g d t shards work img)
   unfolding log_move
   log_own s g d t shards work img o = by (logged_answer g.c s.cursor.sector (kept_of g t d work) (replicate sector_bytes 0))
     where
       by : (p : Outcome) → Owns (by_logged p s g d t shards (kept_of g t d work) img)
-      by outcome.Done =
+      by (Ok tt) =
           put_own s g d (first_log + s.cursor.sector) (g.c + 1) (record_sector (tail_of s t shards) g.c s.cursor.sector (kept_of g t d work)) img o
-      by (outcome.Refused why) = o
+      by (Err why) = o
 
   store_own : (s : State) (g : Geometry) (d t : ℕ) (work img : List ℕ) → Own q absent s → Owns (store_move s g d t work img)
   unfolding store_move
   store_own s g d t work img o = by (found (in_range g) (ltb t (stripes_of g)) (strip_of g t))
     where
       by : (f : Found) → Owns (by_stored f s g d (kept_of g t d work) img)
-      by (spot.At p) = put_own s g d (p + s.cursor.sector) g.c (part_of (kept_of g t d work) s.cursor.sector) img o
-      by (spot.Refused why) = o
+      by (Ok p) = put_own s g d (p + s.cursor.sector) g.c (part_of (kept_of g t d work) s.cursor.sector) img o
+      by (Err why) = o
 
   clear_own : (s : State) (g : Geometry) (d : ℕ) (img : List ℕ) → Own q absent s → Owns (clear_move s g d img)
   unfolding clear_move
@@ -125,10 +123,10 @@ module _ (q : Geometry) (absent : ℕ) where
       (rebuild_answer s.now s.absent g d (first + s.cursor.sector / g.c) (s.cursor.sector % g.c) work img)
     where
       by : (b : Bool) (p : Outcome) → Owns (cond b (by_rebuilt p s g d first count work img) (refuses s NotNow img))
-      by true outcome.Done =
+      by true (Ok tt) =
           put_own s g d (first_strip + first * g.c + s.cursor.sector) (count * g.c)
           (rebuilt_sector s.now s.absent g d (first + s.cursor.sector / g.c) (s.cursor.sector % g.c) work img) img o
-      by true (outcome.Refused why) = o
+      by true (Err why) = o
       by false p = o
 
   act_own : (s : State) (g : Geometry) (x : Stage) (d : ℕ) (work img : List ℕ) → Own q absent s → Owns (act_move s g x d work img)
@@ -160,7 +158,7 @@ module _ (q : Geometry) (absent : ℕ) where
       by false true r = act_own s g (stage_of s) (next_slot s g) work img o
       by false false r = r
 
-  kept_own : (s : State) (r : Stepped) → Own q absent s → Own q absent r.state → Own q absent (kept s r).state
+  kept_own : (s : State) (r : Told) → Own q absent s → Own q absent r.state → Own q absent (kept s r).state
   kept_own s r o p = by r.answer
     where
       by : (a : Answer) → Own q absent (by_answer a s r).state

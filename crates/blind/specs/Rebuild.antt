@@ -1,6 +1,6 @@
 -- BEGIN, AND GOING ON, WITH A REBUILD on images that are alike. Begin counts its slot as present: it looks at the labels on that disk,
 -- and at no other absent slot. Assumes nothing.
-use Rattle.std.specs.Prelude.{◌≡◌, refl, Bool, true, false, cond, ◌&&◌, ◌||◌, ℕ, ◌+◌, leb, ltb}
+use Rattle.std.specs.Prelude.{◌≡◌, refl, Bool, true, false, cond, ◌&&◌, ◌||◌, ℕ, ◌+◌, leb, ltb, Ok, Err}
 use Rattle.std.proofs.Math.Path.{ap, ap₂, fun_ext}
 use Rattle.std.proofs.Common.{◌∙◌, arith, eq-eqb}
 use Rattle.std.proofs.Math.Bool.{not}
@@ -9,8 +9,7 @@ use Rattle.std.proofs.Math.Dec.{eqb}
 use Rattle.disk.specs.Limits.{most_n}
 use Rattle.disk.specs.Mask.{in_mask, without_slot, in_without}
 use Rattle.disk.specs.declared.geometry.Geometry.{Geometry}
-use Rattle.disk.specs.declared.refusal.Outcome.{Outcome}
-use Rattle.disk.specs.declared.refusal.Outcome.TheVariants as outcome
+use Rattle.disk.specs.Refusal.{Outcome}
 use Rattle.label.specs.Fields.{geometry_of}
 use Rattle.label.specs.Newest.{copy_of}
 use Rattle.label.specs.Valid.{decode_of}
@@ -20,7 +19,7 @@ use Rattle.label.proofs.Fits.{fits_says}
 use Rattle.rounds.specs.Slot.{age_under, copy_age, sector_for}
 use Rattle.shelf.specs.Act.{odd_sector}
 use Rattle.stages.specs.declared.state.State.{State}
-use Rattle.requests.specs.Begun.{accepted, begun, first, slots_but}
+use Rattle.requests.specs.Begun.{begun, first, slots_but}
 use Rattle.requests.specs.Ready.{is_idle}
 use Rattle.rebuilds.specs.Readied.{foreign, odd_first, alien, prepared, wiped, gets_zeros}
 use Rattle.rebuilds.specs.Begin.{begin_answer, asked_begin, only, begun_label, began_with, began, begin_of}
@@ -75,7 +74,7 @@ begin_answer_blind s d room x y h = ap (λ (o : Outcome). first o (asked_begin s
 -- BEGIN answers the same and hands out the same state
 pub begin_blind : (s : State) (d room : ℕ) (x y : List ℕ) → Alike (geometry_of s.now) (without_slot s.absent d) x y → begin_of s d x room ≡ begin_of s d y room
 begin_blind s d room x y h =
-    ap₂ (λ (o : Outcome) (t : State). begun o s t) (begin_answer_blind s d room x y (alike_under g then s.absent x y (without_more s.absent d) h)) state
+    ap₂ (λ (o : Outcome) (t : State). begun o t) (begin_answer_blind s d room x y (alike_under g then s.absent x y (without_more s.absent d) h)) state
   where
     g : Geometry
     g = geometry_of s.now
@@ -107,7 +106,7 @@ begin_blind s d room x y h =
 
 -- ---- on
 
-contradict_alike : (s : State) (b room : ℕ) (x y : List ℕ) → Alike (geometry_of s.now) s.absent x y → on_answer s.now s.kind s.absent x room ≡ outcome.Done
+contradict_alike : (s : State) (b room : ℕ) (x y : List ℕ) → Alike (geometry_of s.now) s.absent x y → on_answer s.now s.kind s.absent x room ≡ Ok tt
     → some_contradict s.now s.absent x b ≡ some_contradict s.now s.absent y b
 unfolding some_contradict
 contradict_alike s b room x y h e =
@@ -120,9 +119,9 @@ contradict_alike s b room x y h e =
 pub on_blind : (s : State) (b room : ℕ) (x y : List ℕ) → Alike (geometry_of s.now) s.absent x y → on_of s b x room ≡ on_of s b y room
 on_blind s b room x y h =
     by (on_answer s.now s.kind s.absent x room) refl
-    ∙ ap (λ (o : Outcome). begun (first o (asked_on s.now (is_idle s.kind) s.absent room)) s (went_on s b y)) (ready_alike s x y h)
+    ∙ ap (λ (o : Outcome). begun (first o (asked_on s.now (is_idle s.kind) s.absent room)) (went_on s b y)) (ready_alike s x y h)
   where
-    by : (o : Outcome) → on_answer s.now s.kind s.absent x room ≡ o → begun o s (went_on s b x) ≡ begun o s (went_on s b y)
-    by outcome.Done e =
-        ap (λ (c : Bool). accepted (went_on_with s (on_label s.now b) (on_marks s.now s.absent b c))) (contradict_alike s b room x y h e)
-    by (outcome.Refused why) e = refl
+    by : (o : Outcome) → on_answer s.now s.kind s.absent x room ≡ o → begun o (went_on s b x) ≡ begun o (went_on s b y)
+    by (Ok tt) e =
+        ap (λ (c : Bool). Ok (went_on_with s (on_label s.now b) (on_marks s.now s.absent b c))) (contradict_alike s b room x y h e)
+    by (Err why) e = refl

@@ -1,5 +1,5 @@
 -- REPAIR on images that are alike. It looks at all slots, and only where none is absent. Assumes nothing.
-use Rattle.std.specs.Prelude.{◌≡◌, Bool, true, false, ◌&&◌, ◌||◌, List, [], ℕ, ◌+◌, ◌*◌, ◌<◌, ltb, length}
+use Rattle.std.specs.Prelude.{◌≡◌, Bool, true, false, ◌&&◌, ◌||◌, List, [], ℕ, ◌+◌, ◌*◌, ◌<◌, ltb, length, Ok}
 use Rattle.std.proofs.Common.{sym, ap, subst, ◌∙◌, true≢false, eqb-true}
 use Rattle.code.specs.Stripes.{Repaired}
 use Rattle.disk.specs.Limits.{sector_bytes}
@@ -7,14 +7,13 @@ use Rattle.disk.specs.Tests.{and_right}
 use Rattle.disk.specs.Geometry.{stripes_of}
 use Rattle.disk.specs.Mask.{in_mask, mask_below}
 use Rattle.disk.specs.declared.geometry.Geometry.{Geometry}
-use Rattle.disk.specs.declared.refusal.Outcome.{Outcome}
-use Rattle.disk.specs.declared.refusal.Outcome.TheVariants.{Done}
+use Rattle.disk.specs.Refusal.{Outcome}
 use Rattle.label.specs.Fields.{geometry_of}
 use Rattle.label.proofs.Fits.{fits_says}
 use Rattle.label.specs.declared.fields.Label.{Label}
 use Rattle.requests.specs.Begun.{begun, first}
 use Rattle.requests.specs.Ready.{is_idle, ready_of}
-use Rattle.requests.specs.declared.begun.Begun.{Begun}
+use Rattle.requests.specs.Begun.{Begun}
 use Rattle.stages.specs.declared.state.State.{State}
 use Rattle.strips.specs.Whole.{stripe_seen}
 use Rattle.blocks.specs.Slots.{missing_at, missing, too_few, none_missing, all_slots}
@@ -37,7 +36,7 @@ none_absent l absent e d hd =
     no false b q = q
 
 -- a stripe that is repaired makes sense only with no slot missing
-stripe_whole : (l : Label) (absent : ℕ) (idle more sized : Bool) (t : ℕ) → stripe_answer l absent idle (more && none_missing l absent) sized t ≡ Done → none_missing l absent ≡ true
+stripe_whole : (l : Label) (absent : ℕ) (idle more sized : Bool) (t : ℕ) → stripe_answer l absent idle (more && none_missing l absent) sized t ≡ Ok tt → none_missing l absent ≡ true
 unfolding stripe_answer
 stripe_whole l absent idle more sized t e =
     and_right more (none_missing l absent) (answered_done (too_few l absent) (ltb t (stripes_of (geometry_of l))) idle (more && none_missing l absent) sized e).makes_sense
@@ -55,7 +54,7 @@ module _ (s : State) (t : ℕ) (work x y : List ℕ) (h : Alike (geometry_of s.n
   may_same : may_repair s.now s.kind s.absent s.count t x ≡ may_repair s.now s.kind s.absent s.count t y
   may_same = ap (λ (o : Outcome). first o (stripe_answer l s.absent (is_idle s.kind) (stamp_left s.count && none_missing l s.absent) true t)) (ready_alike s x y h)
 
-  repair_row : may_repair s.now s.kind s.absent s.count t x ≡ Done → stripe_seen g x slots t ≡ stripe_seen g y slots t
+  repair_row : may_repair s.now s.kind s.absent s.count t x ≡ Ok tt → stripe_seen g x slots t ≡ stripe_seen g y slots t
   repair_row e =
       let u = (may_done s x t e).lies in
       let sense : Bool = stamp_left s.count && none_missing l s.absent in
@@ -71,7 +70,7 @@ module _ (s : State) (t : ℕ) (work x y : List ℕ) (h : Alike (geometry_of s.n
         repaired =
             λ e. let f = may_same ∙ e in
             let p = r.repaired f in
-            (subst (λ (row : List ℕ). Repaired l.k l.m (l.c * sector_bytes) r.found row r.stripe) (repair_row f) p.0, p.1);
-        answers = r.answers ∙ ap (λ (o : Outcome). begun (first o (mend_answer r.found s.now (length work))) s (mended s t r.found)) may_same;
+            (subst (λ (row : List ℕ). Repaired l.k l.m (l.c * sector_bytes) (Ok r.found) row r.stripe) (repair_row f) p.0, p.1);
+        answers = r.answers ∙ ap (λ (o : Outcome). begun (first o (mend_answer r.found s.now (length work))) (mended s t r.found)) may_same;
         left = r.left;
       }

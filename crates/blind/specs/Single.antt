@@ -2,10 +2,10 @@
 use Rattle.std.specs.Prelude.{◌≡◌, refl, List, ℕ, length}
 use Rattle.std.proofs.Common.{sym, ap, ◌∙◌}
 use Rattle.codeword.specs.Unique.{AllBytes}
-use Rattle.disk.specs.declared.refusal.Outcome.{Outcome}
-use Rattle.requests.specs.declared.begun.Begun.{Begun}
+use Rattle.disk.specs.Refusal.{Outcome}
+use Rattle.requests.specs.Begun.{Begun, outcome_of, state_of}
 use Rattle.stages.specs.declared.state.State.{State}
-use Rattle.strips.specs.declared.whole.Scrubbed.{Scrubbed}
+use Rattle.strips.specs.Whole.{Scrubbed}
 use Rattle.blocks.specs.Read as blocks
 use Rattle.blocks.specs.Write.{write_answer}
 use Rattle.blind.specs.Once.{write_once, scrub_once, repair_once}
@@ -30,8 +30,7 @@ makes_once (scrub t) s work img hi hw x y a b p q bx by =
     let e = scrub_once s t (blocks.laid_over s t) img work hi hw p.0.0 q.0.0 p.0.2 q.0.2 in
     (p.0.1 ∙ ap (λ (v : Scrubbed). reply (found v) s work) e ∙ sym q.0.1, p.1 ∙ sym q.1)
 makes_once (repair t) s work img hi hw x y a b p q bx by =
-    let c : Begun = record { state = x.state; outcome = p.0.0 } in
-    let d : Begun = record { state = y.state; outcome = q.0.0 } in
-    let e = repair_once s t img work hi c d x.work y.work p.0.2 q.0.2 bx by in
-    let f = p.0.1 ∙ ap (λ (z : Begun). began z.outcome) e.0 ∙ sym q.0.1 in
-    (λ i. record { said = f i; state = (e.0 i).state; work = e.1 i }, p.1 ∙ sym q.1)
+    let e = repair_once s t img work hi p.0.0 q.0.0 x.work y.work p.0.3 q.0.3 bx by in
+    let f = p.0.1 ∙ ap (λ (z : Begun). began (outcome_of z)) e.0 ∙ sym q.0.1 in
+    let h = p.0.2 ∙ ap (state_of s) e.0 ∙ sym q.0.2 in
+    (λ i. record { said = f i; state = h i; work = e.1 i }, p.1 ∙ sym q.1)

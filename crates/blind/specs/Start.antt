@@ -1,5 +1,5 @@
 -- START-UP, AND TAKING A SLOT OUT, on images that are alike: they answer the same and hand out the same state. Assumes nothing.
-use Rattle.std.specs.Prelude.{◌≡◌, Bool, not, ◌&&◌, ◌||◌, eqb, ltb, length}
+use Rattle.std.specs.Prelude.{◌≡◌, Bool, not, ◌&&◌, ◌||◌, eqb, ltb, length, Ok, Err, None}
 use Rattle.std.proofs.Math.Path.{refl, sym, ap, ap₂, fun_ext}
 use Rattle.std.proofs.Common.{◌∙◌, subst, true≢false, arith, lt-ltb, eqb-true}
 use Rattle.std.proofs.Math.Bool.{true, false, cond}
@@ -12,25 +12,23 @@ use Rattle.disk.specs.Mask.{in_mask, mask_of}
 use Rattle.disk.specs.Image.{fits_image, fits_image_lem}
 use Rattle.disk.specs.declared.geometry.Geometry.{Geometry}
 use Rattle.disk.specs.declared.refusal.Refusal.TheVariants.{BadImage, NoLabel, NotNow, BadBuffer}
-use Rattle.disk.specs.declared.refusal.Outcome.{Outcome}
-use Rattle.disk.specs.declared.refusal.Outcome.TheVariants as outcome
+use Rattle.disk.specs.Refusal.{Outcome}
 use Rattle.label.specs.Fields.{no_slot, geometry_of}
 use Rattle.label.specs.Newest.{newest_of, copy_of, disk_label, all_of}
 use Rattle.label.specs.Valid.{decode_of}
 use Rattle.label.specs.declared.fields.Label.{Label}
-use Rattle.label.specs.declared.codec.Decoded.{Decoded}
+use Rattle.label.specs.Fields.{Decoded}
 use Rattle.record.specs.Stamp.{stamp_at, zero_stamp, same_stamp}
 use Rattle.record.specs.Tail.{tail_at}
 use Rattle.record.specs.Tail as tail
 use Rattle.record.specs.declared.stamp.Stamp.{Stamp}
 use Rattle.record.specs.declared.tail.Tail.{Tail}
-use Rattle.record.specs.declared.tail.Found as found
+use Rattle.record.specs.Tail.{Found}
 use Rattle.rounds.specs.Survey.{next_of, plan_of, survey_of}
 use Rattle.rounds.specs.Slot.{stale, gone}
 use Rattle.rounds.specs.Plans as plans
 use Rattle.rounds.specs.declared.plan.Plan.{Plan}
-use Rattle.rounds.specs.declared.plan.Survey.{Survey}
-use Rattle.rounds.specs.declared.plan.Survey.TheVariants as survey
+use Rattle.rounds.specs.Survey.{Survey}
 use Rattle.rounds.proofs.Plans.{survey_grounds, plan_sound}
 use Rattle.rounds.proofs.Same.{survey_same}
 use Rattle.redo.specs.Decide.{plainly_out, looked, log_at, tail_found, stamp_found, key_of, leader_of, lead_of, involved, complete_with, serves, whole_of, marked, settled, decided, redo_of}
@@ -41,11 +39,11 @@ use Rattle.redo.specs.declared.Redo.TheVariants.{Nothing, Forward, Kill}
 use Rattle.shelf.specs.Act.{named}
 use Rattle.stages.specs.declared.state.State.{State}
 use Rattle.stages.specs.declared.state.Kind.TheVariants.{Starting}
-use Rattle.requests.specs.Begun.{work_bytes, slots_but, begun, first, accepted, refused}
+use Rattle.requests.specs.Begun.{work_bytes, slots_but, begun, first}
 use Rattle.requests.specs.Ready.{is_idle, is_label, has_shelf, holding, ready_of}
 use Rattle.requests.specs.TakeOut.{out_answer, took_out, take_out_of}
 use Rattle.requests.specs.Start.{marks_by, by_survey, start_of}
-use Rattle.requests.specs.declared.begun.Begun.{Begun}
+use Rattle.requests.specs.Begun.{Begun}
 use Rattle.blind.specs.Alike.{Alike, fits_alike, read_alike}
 
 module _ (g : Geometry) (absent : ℕ) (x y : List ℕ) (h : Alike g absent x y) where
@@ -75,8 +73,8 @@ module _ (g : Geometry) (absent : ℕ) (x y : List ℕ) (h : Alike g absent x y)
     found_alike d = by (looked g l d) refl
       where
         by : (b : Bool) → looked g l d ≡ b
-            → cond {A = found.Found} b (tail.decode_of (log_at g x d g.c) (stripes_of g) g.n l.generation) found.TheVariants.Nothing
-            ≡ cond {A = found.Found} b (tail.decode_of (log_at g y d g.c) (stripes_of g) g.n l.generation) found.TheVariants.Nothing
+            → cond {A = Found} b (tail.decode_of (log_at g x d g.c) (stripes_of g) g.n l.generation) None
+            ≡ cond {A = Found} b (tail.decode_of (log_at g y d g.c) (stripes_of g) g.n l.generation) None
         by true e = ap (λ (v : List ℕ). tail.decode_of v (stripes_of g) g.n l.generation) (log_alike d g.c e)
         by false e = refl
 
@@ -94,7 +92,7 @@ module _ (g : Geometry) (absent : ℕ) (x y : List ℕ) (h : Alike g absent x y)
     key_looked d = by (looked g l d) refl
       where
         by : (b : Bool) → looked g l d ≡ b
-            → zero_stamp (stamp_found (cond {A = found.Found} b (tail.decode_of (log_at g x d g.c) (stripes_of g) g.n l.generation) found.TheVariants.Nothing)) ≡ false → looked g l d ≡ true
+            → zero_stamp (stamp_found (cond {A = Found} b (tail.decode_of (log_at g x d g.c) (stripes_of g) g.n l.generation) None)) ≡ false → looked g l d ≡ true
         by true e q = e
         by false e q = absurd (true≢false q)
 
@@ -171,17 +169,17 @@ pub ready_alike : (s : State) (x y : List ℕ) → Alike (geometry_of s.now) s.a
 unfolding ready_of
 ready_alike s x y h =
     let l = s.now in
-    ap₂ (λ (b : Bool) (p : ℕ → Bool). cond {A = Outcome} (has_shelf l s.kind) (cond b (cond (is_idle s.kind) (cond (all_of p (l.k + l.m)) outcome.Done (outcome.Refused NoLabel)) outcome.Done) (outcome.Refused BadImage)) (outcome.Refused NotNow))
+    ap₂ (λ (b : Bool) (p : ℕ → Bool). cond {A = Outcome} (has_shelf l s.kind) (cond b (cond (is_idle s.kind) (cond (all_of p (l.k + l.m)) (Ok tt) (Err NoLabel)) (Ok tt)) (Err BadImage)) (Err NotNow))
     (fits_alike (geometry_of l) s.absent x y h) (holding_alike (geometry_of l) s.absent x y h l)
 
 -- TAKING A SLOT OUT answers the same and hands out the same state
 pub out_blind : (s : State) (d room : ℕ) (x y : List ℕ) → Alike (geometry_of s.now) s.absent x y → take_out_of s d x room ≡ take_out_of s d y room
-out_blind s d room x y h = ap (λ (o : Outcome). begun (first o (out_answer s.now (is_idle s.kind) s.absent d room)) s (took_out s d)) (ready_alike s x y h)
+out_blind s d room x y h = ap (λ (o : Outcome). begun (first o (out_answer s.now (is_idle s.kind) s.absent d room)) (took_out s d)) (ready_alike s x y h)
 
 -- ---- start-up
 
 -- the label that start-up settles looks at no absent slot
-next_dark : (g : Geometry) (img : List ℕ) (absent : ℕ) (p : Plan) → survey_of g img absent ≡ survey.Plan p → (d : ℕ) → looked g p.next d ≡ true → in_mask absent d ≡ false
+next_dark : (g : Geometry) (img : List ℕ) (absent : ℕ) (p : Plan) → survey_of g img absent ≡ Ok p → (d : ℕ) → looked g p.next d ≡ true → in_mask absent d ≡ false
 unfolding looked plainly_out plan_of next_of gone
 next_dark g img absent p e d q = by (in_mask absent d) refl
   where
@@ -217,16 +215,16 @@ next_dark g img absent p e d q = by (in_mask absent d) refl
     by false a = refl
 
 -- START-UP answers the same and hands out the same state
-pub start_blind : (s : State) (g : Geometry) (absent room : ℕ) (x y : List ℕ) → Alike g absent x y → start_of s g absent x room ≡ start_of s g absent y room
-start_blind s g absent room x y h =
-    ap (λ (v : Survey). by_survey v s g absent x room) (survey_same g x y absent absent alike) ∙ by (survey_of g y absent) refl
+pub start_blind : (g : Geometry) (absent room : ℕ) (x y : List ℕ) → Alike g absent x y → start_of g absent x room ≡ start_of g absent y room
+start_blind g absent room x y h =
+    ap (λ (v : Survey). by_survey v g absent x room) (survey_same g x y absent absent alike) ∙ by (survey_of g y absent) refl
   where
     alike : plans.Alike g x y absent absent
     alike = record { lengths = h.lengths; absents = λ d i. refl; beyond = refl; sectors = λ d t i j e. read_alike g absent x y h d t e }
 
-    by : (v : Survey) → survey_of g y absent ≡ v → by_survey v s g absent x room ≡ by_survey v s g absent y room
-    by (survey.Refused why) e = refl
-    by (survey.Plan p) e =
+    by : (v : Survey) → survey_of g y absent ≡ v → by_survey v g absent x room ≡ by_survey v g absent y room
+    by (Err why) e = refl
+    by (Ok p) e =
         ap (λ (r : Redo). cond {A = Begun} (eqb room (work_bytes g.n g.c))
-        (accepted (record { now = p.lead; next = p.next; absent = absent; epoch = p.next.generation; count = 0; marks = marks_by (slots_but absent g.n) p r; kind = Starting; cursor = record { stage = 0; slot = 0; sector = 0 } })) (refused s BadBuffer))
+        (Ok (record { now = p.lead; next = p.next; absent = absent; epoch = p.next.generation; count = 0; marks = marks_by (slots_but absent g.n) p r; kind = Starting; cursor = record { stage = 0; slot = 0; sector = 0 } })) (Err BadBuffer))
         (redo_alike g absent x y h p.next (next_dark g y absent p e))

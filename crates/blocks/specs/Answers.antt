@@ -1,17 +1,16 @@
 -- What the requests of blocks and stripes are refused for, in the document's order. Assumes nothing.
-use Rattle.std.specs.Prelude.{◌≡◌, refl, Bool, true, false, cond, ◌&&◌, ℕ, ◌+◌, ◌*◌, ◌≤◌, leb, ltb, eqb}
+use Rattle.std.specs.Prelude.{◌≡◌, refl, Bool, true, false, cond, ◌&&◌, ℕ, ◌+◌, ◌*◌, ◌≤◌, leb, ltb, eqb, Ok, Err}
 use Rattle.std.proofs.Common.{sym, ap, subst, ◌∙◌, true≢false, mul_assoc, arith, eqb-true}
 use Rattle.disk.specs.Limits.{least_n, most_n, most_c, sector_bytes, most_k, most_m}
 use Rattle.disk.specs.Tests.{and_left, and_right, both}
 use Rattle.disk.specs.Geometry.{strip_length, in_range, splits, in_range_with, stripes_of, blocks_of, placed, product_le, InRange}
 use Rattle.disk.specs.Image.{fits_image}
 use Rattle.disk.specs.declared.geometry.Geometry.{Geometry}
+use Rattle.disk.specs.declared.geometry.DataShard.{DataShard}
 use Rattle.disk.specs.declared.refusal.Refusal.{Refusal}
 use Rattle.disk.specs.declared.refusal.Refusal.TheVariants.{BadImage, TooFew, BadBlock, Busy, NotNow, BadBuffer}
-use Rattle.disk.specs.declared.refusal.Outcome.{Outcome}
-use Rattle.disk.specs.declared.refusal.Outcome.TheVariants.{Done, Refused}
-use Rattle.disk.specs.declared.geometry.Placed.{Placed}
-use Rattle.disk.specs.declared.geometry.Placed.TheVariants as placed_as
+use Rattle.disk.specs.Refusal.{Outcome}
+use Rattle.disk.specs.Geometry.{Placed}
 use Rattle.label.specs.Fields.{geometry_of, fits_of}
 use Rattle.label.proofs.Fits.{fits_says}
 use Rattle.label.specs.declared.fields.Label.{Label}
@@ -35,14 +34,14 @@ serves Filling = true
 
 -- no shelf: NOT_NOW; another image: BAD_IMAGE
 unfoldable pub look_answer : Label → Kind → ℕ → Outcome
-look_answer l kind len = cond (has_shelf l kind) (cond (fits_image (geometry_of l) len) Done (Refused BadImage)) (Refused NotNow)
+look_answer l kind len = cond (has_shelf l kind) (cond (fits_image (geometry_of l) len) (Ok tt) (Err BadImage)) (Err NotNow)
 
 -- then: more than m slots missing TOO_FEW; no such block or stripe BAD_BLOCK; another request under way BUSY; no sense in this state NOT_NOW;
 -- buffers of another size BAD_BUFFER
 unfoldable pub answered : Bool → Bool → Bool → Bool → Bool → Outcome
 answered few inside idle sense sized =
-    cond few (Refused TooFew)
-    (cond inside (cond idle (cond sense (cond sized Done (Refused BadBuffer)) (Refused NotNow)) (Refused Busy)) (Refused BadBlock))
+    cond few (Err TooFew)
+    (cond inside (cond idle (cond sense (cond sized (Ok tt) (Err BadBuffer)) (Err NotNow)) (Err Busy)) (Err BadBlock))
 
 -- the work area has its size, and the data is a block
 unfoldable pub sizes : ℕ → ℕ → ℕ → ℕ → Bool
@@ -63,17 +62,17 @@ stripe_answer l absent idle sense sized t = answered (too_few l absent) (ltb t (
 
 -- ---- what the tests of a request that is not refused say
 
-pub look_done : (l : Label) (kind : Kind) (len : ℕ) → look_answer l kind len ≡ Done → (fits_of l ≡ true) × (fits_image (geometry_of l) len ≡ true)
+pub look_done : (l : Label) (kind : Kind) (len : ℕ) → look_answer l kind len ≡ Ok tt → (fits_of l ≡ true) × (fits_image (geometry_of l) len ≡ true)
 unfolding look_answer
 look_done l kind len e =
     let p = passed (has_shelf l kind) _ NotNow e in
     (has_fits l kind p.0, (passed (fits_image (geometry_of l) len) _ BadImage p.1).0)
 
 is_done : Outcome → Bool
-is_done Done = true
-is_done (Refused why) = false
+is_done (Ok tt) = true
+is_done (Err why) = false
 
-pub never : (why : Refusal) → Refused why ≡ Done → ⊥
+pub never : (why : Refusal) → ◌≡◌ {A = Outcome} (Err why) (Ok tt) → ⊥
 unfolding is_done
 never why e = true≢false (sym (ap is_done e))
 
@@ -84,7 +83,7 @@ pub record Passed (few inside idle sense sized : Bool) : Type 0 where
   pub makes_sense : sense ≡ true
   pub fit : sized ≡ true
 
-pub answered_done : (few inside idle sense sized : Bool) → answered few inside idle sense sized ≡ Done → Passed few inside idle sense sized
+pub answered_done : (few inside idle sense sized : Bool) → answered few inside idle sense sized ≡ Ok tt → Passed few inside idle sense sized
 unfolding answered
 answered_done true inside idle sense sized e = absurd (never TooFew e)
 answered_done false false idle sense sized e = absurd (never BadBlock e)
@@ -94,14 +93,14 @@ answered_done false true true true false e = absurd (never BadBuffer e)
 answered_done false true true true true e = record { enough = refl; there_is = refl; at_rest = refl; makes_sense = refl; fit = refl }
 
 -- the first of two is not refused, nor the second
-pub first_done : (o p : Outcome) → first o p ≡ Done → (o ≡ Done) × (p ≡ Done)
-first_done Done p e = (refl, e)
-first_done (Refused why) p e = absurd (never why e)
+pub first_done : (o p : Outcome) → first o p ≡ Ok tt → (o ≡ Ok tt) × (p ≡ Ok tt)
+first_done (Ok tt) p e = (refl, e)
+first_done (Err why) p e = absurd (never why e)
 
-pub first_stops : (o p : Outcome) (why : Refusal) → o ≡ Refused why → Refused why ≡ first o p
+pub first_stops : (o p : Outcome) (why : Refusal) → o ≡ Err why → Err why ≡ first o p
 first_stops o p why e = ap (λ (x : Outcome). first x p) (sym e)
 
-pub first_goes : (o p : Outcome) → o ≡ Done → p ≡ first o p
+pub first_goes : (o p : Outcome) → o ≡ Ok tt → p ≡ first o p
 first_goes o p e = ap (λ (x : Outcome). first x p) (sym e)
 
 -- the work area of a shelf: each slot's strip twice
@@ -118,8 +117,8 @@ work_is l e =
 -- ---- what the answer to a question of place tells
 
 is_shard : Placed → Bool
-is_shard (placed_as.Shard t r) = true
-is_shard (placed_as.Refused why) = false
+is_shard (Ok p) = true
+is_shard (Err why) = false
 
 shard_is : (a b : Bool) (t r : ℕ) → a ≡ true → is_shard (placed a b t r) ≡ b
 unfolding is_shard
@@ -127,11 +126,11 @@ shard_is true true t r e = refl
 shard_is true false t r e = refl
 shard_is false b t r e = absurd (true≢false (sym e))
 
-pub placed_yes : (f : Placed) (a b : Bool) (t r : ℕ) {x y : ℕ} → f ≡ placed a b t r → a ≡ true → f ≡ placed_as.Shard x y → true ≡ b
+pub placed_yes : (f : Placed) (a b : Bool) (t r : ℕ) {x : DataShard} → f ≡ placed a b t r → a ≡ true → f ≡ Ok x → true ≡ b
 unfolding is_shard
 placed_yes f a b t r e h g = sym (ap is_shard g) ∙ ap is_shard e ∙ shard_is a b t r h
 
-pub placed_no : (f : Placed) (a b : Bool) (t r : ℕ) {why : Refusal} → f ≡ placed a b t r → a ≡ true → f ≡ placed_as.Refused why → false ≡ b
+pub placed_no : (f : Placed) (a b : Bool) (t r : ℕ) {why : Refusal} → f ≡ placed a b t r → a ≡ true → f ≡ Err why → false ≡ b
 unfolding is_shard
 placed_no f a b t r e h g = sym (ap is_shard g) ∙ ap is_shard e ∙ shard_is a b t r h
 

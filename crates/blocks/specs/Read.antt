@@ -1,5 +1,5 @@
 -- Read: a block as it is shown, whatever is missing. Assumes nothing.
-use Rattle.std.specs.Prelude.{◌≡◌, refl, Bool, true, false, cond, ◌&&◌, List, [], ◌∷◌, ◌++◌, ℕ, zero, suc, ◌+◌, ◌*◌, ◌<◌, ◌/◌, ◌%◌, leb, ltb, eqb, length, take}
+use Rattle.std.specs.Prelude.{◌≡◌, refl, Bool, true, false, cond, ◌&&◌, List, [], ◌∷◌, ◌++◌, ℕ, zero, suc, ◌+◌, ◌*◌, ◌<◌, ◌/◌, ◌%◌, leb, ltb, eqb, length, take, Ok, Err}
 use Rattle.std.proofs.Common.{sym, ◌∙◌, zero-add, suc-add, arith, length-take-le, ltb-true, eqb-true, lt-ltb, le-leb, eq-eqb}
 use Rattle.std.proofs.Math.Path.{ap, subst}
 use Rattle.disk.specs.Limits.{sector_bytes}
@@ -7,8 +7,7 @@ use Rattle.disk.specs.Geometry.{splits, stripes_of, blocks_of, block_inside}
 use Rattle.disk.specs.Image.{fits_image, fits_image_lem}
 use Rattle.disk.specs.Tests.{and_left, and_right}
 use Rattle.disk.specs.declared.geometry.Geometry.{Geometry}
-use Rattle.disk.specs.declared.refusal.Outcome.{Outcome}
-use Rattle.disk.specs.declared.refusal.Outcome.TheVariants.{Done, Refused}
+use Rattle.disk.specs.Refusal.{Outcome}
 use Rattle.label.specs.Fields.{geometry_of, fits_of}
 use Rattle.label.proofs.Fits.{fits_says}
 use Rattle.label.specs.declared.fields.Label.{Label}
@@ -68,8 +67,8 @@ read_answer l kind absent block len bytes room = first (look_answer l kind len) 
 
 -- and what it leaves of the buffer: a refusal changes nothing
 abbrev pub after_read : Outcome → State → ℕ → List ℕ → List ℕ → List ℕ → List ℕ
-after_read Done s block img work buf = shown_of s.now s.absent (laid_over s (block / s.now.k)) img work block
-after_read (Refused why) s block img work buf = buf
+after_read (Ok tt) s block img work buf = shown_of s.now s.absent (laid_over s (block / s.now.k)) img work block
+after_read (Err why) s block img work buf = buf
 
 -- ---- what the tests of a read that is not refused say
 
@@ -82,7 +81,7 @@ pub record Shows (l : Label) (absent : ℕ) (img work : List ℕ) (block : ℕ) 
   pub sized : length buf ≡ l.c * sector_bytes
 
 pub shows : (l : Label) (absent : ℕ) (idle sense : Bool) (img work : List ℕ) (block : ℕ) (buf : List ℕ) → fits_of l ≡ true → fits_image (geometry_of l) (length img) ≡ true
-    → block_answer l absent idle sense block (length buf) (length work) ≡ Done → Shows l absent img work block buf
+    → block_answer l absent idle sense block (length buf) (length work) ≡ Ok tt → Shows l absent img work block buf
 unfolding block_answer sizes
 shows l absent idle sense img work block buf f i e =
     let x : Bool = eqb (length work) (work_bytes (l.k + l.m) l.c) in
@@ -97,7 +96,7 @@ shows l absent idle sense img work block buf f i e =
       sized = eqb-true _ _ (and_right x y p.fit);
     }
 
-pub read_done : (l : Label) (kind : Kind) (absent block : ℕ) (img work buf : List ℕ) → read_answer l kind absent block (length img) (length buf) (length work) ≡ Done
+pub read_done : (l : Label) (kind : Kind) (absent block : ℕ) (img work buf : List ℕ) → read_answer l kind absent block (length img) (length buf) (length work) ≡ Ok tt
     → Shows l absent img work block buf
 read_done l kind absent block img work buf e =
     let p = first_done (look_answer l kind (length img)) (block_answer l absent true (serves kind) block (length buf) (length work)) e in
@@ -160,7 +159,7 @@ pub record Showing (g : Geometry) (k : ℕ) (img : List ℕ) (there : ℕ) (kept
 
 -- then no sector is refused
 pub sector_goes : (g : Geometry) (k : ℕ) (img : List ℕ) (there : ℕ) (kept : List ℕ) (t r : ℕ) → Showing g k img there kept t r
-    → (j a b : ℕ) → j < g.c → a ≡ g.n * sector_bytes → b ≡ sector_bytes → shown_answer g k (length img) t r j 1 there (length kept) a b ≡ Done
+    → (j a b : ℕ) → j < g.c → a ≡ g.n * sector_bytes → b ≡ sector_bytes → shown_answer g k (length img) t r j 1 there (length kept) a b ≡ Ok tt
 unfolding shown_answer part_of
 sector_goes g k img there kept t r h j a b hj ha hb =
     simp (
@@ -177,7 +176,7 @@ sector_goes g k img there kept t r h j a b hj ha hb =
 
 -- nor the shard, where it is taken as it lies
 pub fetch_goes : (g : Geometry) (k : ℕ) (img : List ℕ) (there : ℕ) (kept : List ℕ) (t r : ℕ) → Showing g k img there kept t r
-    → (b : ℕ) → b ≡ shard_bytes g → shard_answer g (length img) t r (length kept) b ≡ Done
+    → (b : ℕ) → b ≡ shard_bytes g → shard_answer g (length img) t r (length kept) b ≡ Ok tt
 unfolding shard_answer part_of
 fetch_goes g k img there kept t r h b hb =
     simp (

@@ -1,12 +1,11 @@
 -- Write: when it is refused, the state with which it begins, and what it leaves in the work area. Assumes nothing.
-use Rattle.std.specs.Prelude.{◌≡◌, Bool, true, false, List, ◌++◌, ℕ, ◌+◌, ◌*◌, ◌<◌, ◌/◌, ◌%◌, ltb, length, take, drop}
+use Rattle.std.specs.Prelude.{◌≡◌, Bool, true, false, List, ◌++◌, ℕ, ◌+◌, ◌*◌, ◌<◌, ◌/◌, ◌%◌, ltb, length, take, drop, Ok, Err}
 use Rattle.std.proofs.Common.{sym, ap, subst, ◌∙◌, arith, length-take-le, take_at, drop_at, ltb-true, lt-ltb, eq-eqb}
 use Rattle.disk.specs.Limits.{sector_bytes}
 use Rattle.disk.specs.Geometry.{stripes_of, blocks_of, block_inside}
 use Rattle.disk.specs.Image.{fits_image}
 use Rattle.disk.specs.declared.geometry.Geometry.{Geometry}
-use Rattle.disk.specs.declared.refusal.Outcome.{Outcome}
-use Rattle.disk.specs.declared.refusal.Outcome.TheVariants.{Done, Refused}
+use Rattle.disk.specs.Refusal.{Outcome}
 use Rattle.disk.specs.declared.refusal.Refusal.TheVariants.{NotNow, BadImage}
 use Rattle.label.specs.Fields.{geometry_of}
 use Rattle.label.proofs.Fits.{fits_says}
@@ -84,17 +83,17 @@ pub record Written (s : State) (block : ℕ) (bytes img work : List ℕ) (s' : S
   pub becomes : s' ≡ changing s (block / s.now.k) (changed_shards (s.now.k + s.now.m) s.now.k (block % s.now.k) all)
 
 abbrev pub AfterWrite : Outcome → State → ℕ → List ℕ → List ℕ → List ℕ → State → List ℕ → Type 0
-AfterWrite Done s block bytes img work s' after = Written s block bytes img work s' after
-AfterWrite (Refused why) s block bytes img work s' after = (s' ≡ s) × (after ≡ work)
+AfterWrite (Ok tt) s block bytes img work s' after = Written s block bytes img work s' after
+AfterWrite (Err why) s block bytes img work s' after = (s' ≡ s) × (after ≡ work)
 
 -- ---- what the tests of a write that is not refused say
 
-pub ready_image : (l : Label) (kind : Kind) (absent : ℕ) (img : List ℕ) → ready_of l kind absent img ≡ Done → fits_image (geometry_of l) (length img) ≡ true
+pub ready_image : (l : Label) (kind : Kind) (absent : ℕ) (img : List ℕ) → ready_of l kind absent img ≡ Ok tt → fits_image (geometry_of l) (length img) ≡ true
 unfolding ready_of
 ready_image l kind absent img e = (passed (fits_image (geometry_of l) (length img)) _ BadImage (passed (has_shelf l kind) _ NotNow e).1).0
 
 pub write_done : (l : Label) (kind : Kind) (absent count : ℕ) (img : List ℕ) (block : ℕ) (bytes work : List ℕ)
-    → write_answer l kind absent count img block (length bytes) (length work) ≡ Done → Shows l absent img work block bytes × (count < most_count)
+    → write_answer l kind absent count img block (length bytes) (length work) ≡ Ok tt → Shows l absent img work block bytes × (count < most_count)
 unfolding block_answer stamp_left
 write_done l kind absent count img block bytes work e =
     let p = first_done (ready_of l kind absent img) (block_answer l absent (is_idle kind) (stamp_left count) block (length bytes) (length work)) e in (
@@ -103,7 +102,7 @@ write_done l kind absent count img block bytes work e =
     )
 
 plain : (l : Label) (absent : ℕ) (img work : List ℕ) (block : ℕ) (bytes : List ℕ) → Shows l absent img work block bytes → (a : ℕ) → a ≡ (l.k + l.m) * (l.c * sector_bytes)
-    → prepare_answer (geometry_of l) l.k (length img) (block / l.k) (block % l.k) (there (geometry_of l) l absent (block / l.k)) (length bytes) a ≡ Done
+    → prepare_answer (geometry_of l) l.k (length img) (block / l.k) (block % l.k) (there (geometry_of l) l absent (block / l.k)) (length bytes) a ≡ Ok tt
 unfolding prepare_answer
 plain l absent img work block bytes h a ae =
     let z = shows_block l absent img work block bytes h in
@@ -122,7 +121,7 @@ plain l absent img work block bytes h a ae =
 -- then no preparation is refused
 pub prepare_goes : (l : Label) (absent : ℕ) (img work : List ℕ) (block : ℕ) (bytes : List ℕ) → Shows l absent img work block bytes → (g : Geometry) (d a : ℕ)
     → g ≡ geometry_of l → d ≡ there g l absent (block / l.k) → a ≡ g.n * shard_bytes g
-    → prepare_answer g l.k (length img) (block / l.k) (block % l.k) d (length bytes) a ≡ Done
+    → prepare_answer g l.k (length img) (block / l.k) (block % l.k) d (length bytes) a ≡ Ok tt
 prepare_goes l absent img work block bytes h g d a ge de ae =
     ap (λ (y : ℕ). prepare_answer g l.k (length img) (block / l.k) (block % l.k) y (length bytes) a) de
     ∙ ap (λ (x : Geometry). prepare_answer x l.k (length img) (block / l.k) (block % l.k) (there x l absent (block / l.k)) (length bytes) a) ge

@@ -1,72 +1,63 @@
 // What the requests of blocks and stripes are refused for, in the document's order.
 ghost use Rattle.std.specs.Prelude.{◌≡◌, true, ◌≤◌, ltb};
 ghost use Rattle.disk.specs.Limits.{most_c};
-ghost use Rattle.disk.specs.Geometry.{in_range, in_range_with, stripes_of, blocks_of};
+ghost use Rattle.disk.specs.Geometry.{in_range_with, blocks_of};
 ghost use Rattle.label.specs.Fields.{fits_of};
 ghost use Rattle.blocks.specs.Answers.{serves, look_answer, answered, sizes, block_answer, sized_of, stripe_answer};
 
-use crate::of_label::geometry;
 use crate::slots::too_few;
-use disk::geometry::{Found, Geometry, Placed, place, strip};
+use disk::geometry::{Geometry, place};
 use disk::limits::SECTOR;
-use disk::refusal::{Outcome, Refusal};
+use disk::refusal::Refusal;
 use disk::sector::fits_image;
 use label::fields::Label;
 use requests::begun::work_bytes;
 use requests::ready::has_shelf;
 use stages::state::Kind;
+use strips::seen::has_stripe;
 
 // Whether reads are served: create or start-up, if there was one, has answered.
 pub(crate) fn is_served(kind: Kind) -> bool
     ensures { result ≡ serves kind }
 {
-    match kind {
-        Kind::Nothing => false,
-        Kind::Idle => true,
-        Kind::Creating => false,
-        Kind::Starting => false,
-        Kind::Labelling => true,
-        Kind::Writing => true,
-        Kind::Beginning => true,
-        Kind::Filling => true,
-    }
+    !matches!(kind, Kind::Nothing | Kind::Creating | Kind::Starting)
 }
 
 // What a request that changes nothing is refused for first: no shelf is started, or the slice is not its image.
-pub(crate) fn look_answer(l: Label, kind: Kind, len: usize) -> Outcome
+pub(crate) fn look_answer(l: Label, kind: Kind, len: usize) -> Result<(), Refusal>
     ensures { result ≡ look_answer l kind len }
 {
     if !has_shelf(l, kind) {
-        return Outcome::Refused(Refusal::NotNow);
+        return Err(Refusal::NotNow);
     }
-    let g = geometry(l);
+    let g = l.geometry();
     if !fits_image(g, len) {
-        return Outcome::Refused(Refusal::BadImage);
+        return Err(Refusal::BadImage);
     }
-    Outcome::Done
+    Ok(())
 }
 
 // The refusals that follow, by their tests: more than m slots missing; the block or stripe is there; nothing is under way; the
 // request makes sense; the buffers have their sizes.
-fn by_tests(few: bool, inside: bool, idle: bool, sense: bool, sized: bool) -> Outcome
+fn by_tests(few: bool, inside: bool, idle: bool, sense: bool, sized: bool) -> Result<(), Refusal>
     ensures { result ≡ answered few inside idle sense sized }
 {
     if few {
-        return Outcome::Refused(Refusal::TooFew);
+        return Err(Refusal::TooFew);
     }
     if !inside {
-        return Outcome::Refused(Refusal::BadBlock);
+        return Err(Refusal::BadBlock);
     }
     if !idle {
-        return Outcome::Refused(Refusal::Busy);
+        return Err(Refusal::Busy);
     }
     if !sense {
-        return Outcome::Refused(Refusal::NotNow);
+        return Err(Refusal::NotNow);
     }
     if !sized {
-        return Outcome::Refused(Refusal::BadBuffer);
+        return Err(Refusal::BadBuffer);
     }
-    Outcome::Done
+    Ok(())
 }
 
 // Whether the shelf has the block.
@@ -74,25 +65,16 @@ fn has_block(g: Geometry, k: usize, block: usize) -> bool
     requires { in_range_with g k ≡ true }
     ensures { result ≡ ltb block (blocks_of g k) }
 {
-    let found = place(g, k, block);
-    match found {
-        Placed::Shard {
-            stripe: _,
-            shard: _,
-        } => true,
-        Placed::Refused(_) => false,
-    }
+    place(g, k, block).is_ok()
 }
 
 // Whether the data is a block, and the work area has its size.
+#[tactic(auto, unfolding(crate::specs::Answers::sizes))]
 fn block_sized(n: usize, c: usize, bytes: usize, room: usize) -> bool
     requires { c ≤ most_c }
     ensures { result ≡ sizes n c bytes room }
 {
-    if room != work_bytes(n, c) {
-        return false;
-    }
-    bytes == c * SECTOR
+    room == work_bytes(n, c) && bytes == c * SECTOR
 }
 
 // The refusals of a read or a write of a block.
@@ -104,27 +86,15 @@ pub(crate) fn block_answer(
     block: usize,
     bytes: usize,
     room: usize,
-) -> Outcome
+) -> Result<(), Refusal>
     requires { fits_of l ≡ true }
     ensures { result ≡ block_answer l absent idle sense block bytes room }
 {
-    let g = geometry(l);
+    let g = l.geometry();
     let few = too_few(l, absent);
     let inside = has_block(g, l.k, block);
     let sized = block_sized(g.n, g.c, bytes, room);
     by_tests(few, inside, idle, sense, sized)
-}
-
-// Whether the shelf has the stripe.
-fn has_stripe(g: Geometry, t: usize) -> bool
-    requires { in_range g ≡ true }
-    ensures { result ≡ ltb t (stripes_of g) }
-{
-    let found = strip(g, t);
-    match found {
-        Found::At(_) => true,
-        Found::Refused(_) => false,
-    }
 }
 
 // Whether the work area has its size.
@@ -143,11 +113,11 @@ pub(crate) fn stripe_answer(
     sense: bool,
     sized: bool,
     t: usize,
-) -> Outcome
+) -> Result<(), Refusal>
     requires { fits_of l ≡ true }
     ensures { result ≡ stripe_answer l absent idle sense sized t }
 {
-    let g = geometry(l);
+    let g = l.geometry();
     let few = too_few(l, absent);
     let inside = has_stripe(g, t);
     by_tests(few, inside, idle, sense, sized)

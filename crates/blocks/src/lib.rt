@@ -3,7 +3,6 @@
 #![tactic(auto)]
 
 mod answers;
-mod of_label;
 pub mod read;
 pub mod repair;
 pub mod scrub;

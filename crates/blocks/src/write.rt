@@ -2,21 +2,20 @@
 ghost use Rattle.std.specs.Prelude.{◌≡◌, true, ◌<◌, length};
 ghost use Rattle.label.specs.Fields.{fits_of};
 ghost use Rattle.blocks.specs.Read.{Shows};
+ghost use Rattle.requests.specs.Begun.{outcome_of, state_of};
 ghost use Rattle.blocks.specs.Write.{most_count, stamp_left, write_answer, write_marks, stamped_with, changing, PreparedIn, AfterWrite};
 
 use crate::answers::block_answer;
-use crate::of_label::geometry;
 use crate::slots::{changed_shards, changed_slots, slots_there};
 use disk::limits::SECTOR;
-use disk::refusal::Outcome;
+use disk::refusal::Refusal;
 use label::fields::Label;
-use requests::begun::Begun;
 use requests::ready::{is_idle, ready};
 use stages::state::{Cursor, Kind, Marks, State};
-use strips::whole::prepare;
+use strips::seen::Source;
 
 // The greatest count of a stamp.
-pub const MOST_COUNT: u64 = 18446744073709551615;
+pub const MOST_COUNT: u64 = u64::MAX;
 
 // Whether there is a stamp left for one more write.
 pub(crate) fn stamp_left(count: u64) -> bool
@@ -26,6 +25,7 @@ pub(crate) fn stamp_left(count: u64) -> bool
 }
 
 // The first refusal that applies to a write.
+#[tactic(auto, using(requests::specs::Accepted::ready_done))]
 fn write_answer(
     l: Label,
     kind: Kind,
@@ -35,22 +35,19 @@ fn write_answer(
     block: usize,
     bytes: usize,
     room: usize,
-) -> Outcome
+) -> Result<(), Refusal>
     ensures { result ≡ write_answer l kind absent count image.now block bytes room }
 {
-    let answer = ready(l, kind, absent, image);
-    match answer {
-        Outcome::Refused(why) => Outcome::Refused(why),
-        Outcome::Done => block_answer(
-            l,
-            absent,
-            is_idle(kind),
-            stamp_left(count),
-            block,
-            bytes,
-            room,
-        ),
-    }
+    ready(l, kind, absent, image)?;
+    block_answer(
+        l,
+        absent,
+        is_idle(kind),
+        stamp_left(count),
+        block,
+        bytes,
+        room,
+    )
 }
 
 // What a write goes by: the shards that it changes, their slots that are there, and the stripe.
@@ -58,14 +55,10 @@ pub(crate) fn write_marks(parts: u64, redo: u64, stripe: usize) -> Marks
     ensures { result ≡ write_marks parts redo stripe }
 {
     Marks {
-        present: 0,
-        parts: parts,
-        late: 0,
-        prep: 0,
-        zeroed: 0,
-        redo: redo,
-        stripe: stripe,
-        forward: false,
+        parts,
+        redo,
+        stripe,
+        ..Marks::NONE
     }
 }
 
@@ -74,20 +67,13 @@ pub(crate) fn stamped(s: State, marks: Marks) -> State
     requires { s.count < most_count }
     ensures { result ≡ stamped_with s marks }
 {
-    let now = s.now;
     State {
-        now: now,
-        next: now,
-        absent: s.absent,
-        epoch: s.epoch,
+        next: s.now,
         count: s.count + 1,
-        marks: marks,
+        marks,
         kind: Kind::Writing,
-        cursor: Cursor {
-            stage: 0,
-            slot: 0,
-            sector: 0,
-        },
+        cursor: Cursor::START,
+        ..s
     }
 }
 
@@ -96,9 +82,9 @@ fn begin_change(s: State, t: usize, parts: u64) -> State
     requires { (fits_of s.now ≡ true) × (s.count < most_count) }
     ensures { result ≡ changing s t parts }
 {
-    let now = s.now;
-    let g = geometry(now);
-    let redo = changed_slots(g.n, t, slots_there(g, now, s.absent, t), parts);
+    let l = s.now;
+    let g = l.geometry();
+    let redo = changed_slots(g.n, t, slots_there(g, l, s.absent, t), parts);
     stamped(s, write_marks(parts, redo, t))
 }
 
@@ -114,54 +100,45 @@ fn prepare_in(
     requires { Shows l absent image.now work.old block bytes.now }
     ensures { PreparedIn l absent image.now block bytes.now work.old result work.new }
 {
-    let g = geometry(l);
+    let g = l.geometry();
     let t = block / l.k;
     let there = slots_there(g, l, absent, t);
     let half = g.n * (g.c * SECTOR);
-    let made = prepare(
+    let from = Source {
         image,
         g,
-        l.k,
         there,
-        t,
-        block % l.k,
-        bytes,
-        &mut work[..half],
-    );
-    made.all
+        over: 0,
+        kept: &[],
+    };
+    from.prepare(l.k, t, block % l.k, bytes, &mut work[..half])
+        .unwrap()
 }
 
 // Begins to write a block. Refused, in this order: no shelf is started NOT_NOW; another image BAD_IMAGE; a present disk whose label is not
 // the state's NO_LABEL; more than m slots missing TOO_FEW; no such block BAD_BLOCK; a request under way BUSY; no stamp left NOT_NOW; data that
 // is no block, or another work area, BAD_BUFFER. A refusal changes nothing.
-pub fn write(s: State, block: usize, bytes: &[u8], image: &[u8], work: &mut [u8]) -> Begun
-    ensures { (result.outcome ≡ write_answer s.now s.kind s.absent s.count image.now block (length bytes.now) (length work.old)) × AfterWrite result.outcome s block bytes.now image.now work.old result.state work.new }
+pub fn write(
+    s: State,
+    block: usize,
+    bytes: &[u8],
+    image: &[u8],
+    work: &mut [u8],
+) -> Result<State, Refusal>
+    ensures { (outcome_of result ≡ write_answer s.now s.kind s.absent s.count image.now block (length bytes.now) (length work.old)) × AfterWrite (outcome_of result) s block bytes.now image.now work.old (state_of s result) work.new }
 {
     let l = s.now;
-    let kind = s.kind;
-    let answer = write_answer(
+    write_answer(
         l,
-        kind,
+        s.kind,
         s.absent,
         s.count,
         image,
         block,
         bytes.len(),
         work.len(),
-    );
-    match answer {
-        Outcome::Refused(why) => Begun {
-            state: s,
-            outcome: Outcome::Refused(why),
-        },
-        Outcome::Done => {
-            let all = prepare_in(image, l, s.absent, block, bytes, work);
-            let parts = changed_shards(l.k + l.m, l.k, block % l.k, all);
-            let first = begin_change(s, block / l.k, parts);
-            Begun {
-                state: first,
-                outcome: Outcome::Done,
-            }
-        }
-    }
+    )?;
+    let all = prepare_in(image, l, s.absent, block, bytes, work);
+    let parts = changed_shards(l.k + l.m, l.k, block % l.k, all);
+    Ok(begin_change(s, block / l.k, parts))
 }

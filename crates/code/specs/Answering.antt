@@ -1,40 +1,47 @@
 -- Each way out of encode, rebuild and repair meets its contract. Assumes nothing.
-use Rattle.std.specs.Prelude.{◌≡◌, refl, true, false, List, [], ◌∷◌, ℕ, zero, suc, ◌+◌, ◌≤◌, ◌<◌, length, get_or, take}
-use Rattle.std.proofs.Common.{sym, ◌∙◌, subst, arith, get_or-take, le-leb}
+use Rattle.std.specs.Prelude.{◌≡◌, refl, true, false, List, [], ◌∷◌, ℕ, zero, suc, ◌+◌, ◌≤◌, ◌<◌, length, get_or, take, Ok, Err}
+use Rattle.std.specs.Result.{IsOk}
+use Rattle.std.proofs.Common.{sym, ◌∙◌, subst, arith, get_or-take, le-leb, true≢false}
 use Rattle.std.proofs.lemmas.Bool.{lt-leb}
 use Rattle.codeword.specs.Unique.{AllBytes}
 use Rattle.codeword.specs.Stripe.{InRange, has}
 use Rattle.codeword.specs.Named.{has_none}
-use Rattle.field.specs.declared.Answer.TheVariants.{Done, Refused}
+use Rattle.field.specs.declared.Refusal.{Refusal}
 use Rattle.field.specs.declared.Refusal.TheVariants.{BadShape, TooMany, BadShard}
+use Rattle.field.specs.Refusal.{Answer}
 use Rattle.solve.specs.Lost.{shards_of, Lost}
 use Rattle.code.specs.Shape.{shaped_of, rebuild_answer}
 use Rattle.solve.specs.Lists.{shards_lost}
 use Rattle.code.specs.Lists.{shaped_means}
-use Rattle.code.specs.Stripes.{Encoded, Rebuilt}
+use Rattle.code.specs.Stripes.{Said, Says, Encoded, Rebuilt}
 use Rattle.code.specs.Blame.{Filled}
 use Rattle.code.specs.Filling.{filled_rebuilt, filled_sound, filled_goes_by}
 
-not_done : {A : Type 0} (x : _) → Refused x ≡ Done → A
+not_done : {A : Type 0} (x : Refusal) → ◌≡◌ {A = Answer} (Err x) (Ok tt) → A
 not_done x e = absurd (let z : ◌≡◌ {A = ℕ} 0 1 = cc in omega arith)
 
+-- where there is such a stripe, a scrub is not refused
+pub scrub_done : (k m len : ℕ) (s : List ℕ) (v : Said) → shaped_of k m len (length s) ≡ true → Says k m len s v → IsOk v
+scrub_done k m len s (Ok v) e h = refl
+scrub_done k m len s (Err x) e h = absurd (true≢false (sym e ∙ h.0))
+
 module _ (k m len : ℕ) (missing s : List ℕ) where
-  refused_is : (x : _) → Refused x ≡ rebuild_answer k m len (length s) missing → Rebuilt k m len missing (Refused x) s s
+  refused_is : (x : _) → Err x ≡ rebuild_answer k m len (length s) missing → Rebuilt k m len missing (Err x) s s
   refused_is x e =
       record { answers = e; same = refl; refused = λ y q. refl; survivors = λ q. not_done x q; rebuilt = λ q. not_done x q; sound = λ q. not_done x q; goes_by = λ q. not_done x q }
 
-  pub rebuilt_shape : shaped_of k m len (length s) ≡ false → Rebuilt k m len missing (Refused BadShape) s s
+  pub rebuilt_shape : shaped_of k m len (length s) ≡ false → Rebuilt k m len missing (Err BadShape) s s
   rebuilt_shape e = refused_is BadShape (simp e)
 
-  pub rebuilt_many : shaped_of k m len (length s) ≡ true → m < length missing → Rebuilt k m len missing (Refused TooMany) s s
+  pub rebuilt_many : shaped_of k m len (length s) ≡ true → m < length missing → Rebuilt k m len missing (Err TooMany) s s
   rebuilt_many e h = refused_is TooMany (simp (e, lt-leb (length missing) m h))
 
   pub rebuilt_shard : shaped_of k m len (length s) ≡ true → length missing ≤ m → shards_of (k + m) missing ≡ false
-      → Rebuilt k m len missing (Refused BadShard) s s
+      → Rebuilt k m len missing (Err BadShard) s s
   rebuilt_shard e h q = refused_is BadShard (simp (e, le-leb (length missing) m h, q))
 
   pub rebuilt_done : (t : List ℕ) → shaped_of k m len (length s) ≡ true → length missing ≤ m → shards_of (k + m) missing ≡ true → AllBytes s → AllBytes t
-      → Filled k m len missing s t → Rebuilt k m len missing Done s t
+      → Filled k m len missing s t → Rebuilt k m len missing (Ok tt) s t
   rebuilt_done t e h q bs b f =
       record {
         answers = simp (e, le-leb (length missing) m h, q);
@@ -87,12 +94,12 @@ parities_off k m r g h =
     ))
 
 module _ (k m len : ℕ) (s : List ℕ) where
-  pub encoded_shape : shaped_of k m len (length s) ≡ false → Encoded k m len (Refused BadShape) s s
+  pub encoded_shape : shaped_of k m len (length s) ≡ false → Encoded k m len (Err BadShape) s s
   encoded_shape e =
       record { answers = simp e; same = refl; refused = λ x q. refl; kept = λ q. not_done BadShape q; sound = λ q. not_done BadShape q }
 
   pub encoded_done : (t : List ℕ) → shaped_of k m len (length s) ≡ true → InRange k m → AllBytes t → Filled k m len (parities k m) s t
-      → Encoded k m len Done s t
+      → Encoded k m len (Ok tt) s t
   encoded_done t e g b f =
       record {
         answers = simp e;

@@ -24,14 +24,12 @@ Blamed k m len s r false = Accuses k m len s r → ⊥
 
 -- the first shard that is accused, or none is
 abbrev pub Located : ℕ → ℕ → ℕ → List ℕ → Verdict → Type 0
-Located k m len s (verdict.Refused x) = ⊥
 Located k m len s verdict.Sound = ⊥
 Located k m len s (verdict.Accused r) = Accuses k m len s r
 Located k m len s verdict.Unsound = (r : ℕ) → Accuses k m len s r → ⊥
 
 -- a verdict on a stripe of the right shape
 abbrev pub Judged : ℕ → ℕ → ℕ → List ℕ → Verdict → Type 0
-Judged k m len s (verdict.Refused x) = ⊥
 Judged k m len s verdict.Sound = Sound k m len s
 Judged k m len s (verdict.Accused r) = (Sound k m len s → ⊥) × (2 ≤ m) × Accuses k m len s r
 Judged k m len s verdict.Unsound = (Sound k m len s → ⊥) × (2 ≤ m → (r : ℕ) → Accuses k m len s r → ⊥)

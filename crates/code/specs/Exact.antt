@@ -1,7 +1,7 @@
 -- The scrub's and the repair's answers in the other direction: what is so of a stripe is what is said of it. A shard is accused
 -- exactly where some sound stripe has the other shards; so at most one is, and two wrong shards of three parities accuse nobody.
 -- Assumes nothing.
-use Rattle.std.specs.Prelude.{◌≡◌, refl, Bool, true, false, cond, List, [], ◌∷◌, ◌≢◌, ℕ, zero, suc, ◌+◌, ◌*◌, ◌≤◌, ◌<◌, eqb, length, set}
+use Rattle.std.specs.Prelude.{◌≡◌, refl, Bool, true, false, cond, List, [], ◌∷◌, ◌≢◌, ℕ, zero, suc, ◌+◌, ◌*◌, ◌≤◌, ◌<◌, eqb, length, set, Ok, Err}
 use Rattle.std.proofs.Common.{sym, ap, ◌∙◌, arith, lit<, eqb-true}
 use Rattle.std.proofs.lemmas.Bool.{eqb-false}
 use Rattle.codeword.specs.Stripe.{byte_at, Sound, AgreeOff, Agree}
@@ -14,8 +14,7 @@ use Rattle.codeword.proofs.Laid.{laid_sound, holds_ext}
 use Rattle.codeword.specs.Mend.{put, put_at, put_off, put_bytes}
 use Rattle.code.specs.Shape.{shaped_of, Shaped}
 use Rattle.code.specs.Lists.{shaped_means}
-use Rattle.code.specs.Stripes.{Accuses, Says, Repaired}
-use Rattle.code.specs.declared.Verdict.{Verdict}
+use Rattle.code.specs.Stripes.{Said, Accuses, Says, Repaired}
 use Rattle.code.specs.declared.Verdict.TheVariants as verdict
 
 module _ (k m len : ℕ) (s : List ℕ) (r : ℕ) where
@@ -69,11 +68,11 @@ module _ (k m len : ℕ) (s : List ℕ) (fits : shaped_of k m len (length s) ≡
   shape : Shaped k m len (length s)
   shape = shaped_means k m len (length s) fits
 
-  pub scrub_sound : (v : Verdict) → Says k m len s v → Sound k m len s → v ≡ verdict.Sound
-  scrub_sound verdict.Sound h g = refl
-  scrub_sound (verdict.Accused r) h g = absurd (h.1 g)
-  scrub_sound verdict.Unsound h g = absurd (h.1 g)
-  scrub_sound (verdict.Refused x) h g = never (sym fits ∙ h.0)
+  pub scrub_sound : (v : Said) → Says k m len s v → Sound k m len s → v ≡ Ok verdict.Sound
+  scrub_sound (Ok verdict.Sound) h g = refl
+  scrub_sound (Ok (verdict.Accused r)) h g = absurd (h.1 g)
+  scrub_sound (Ok verdict.Unsound) h g = absurd (h.1 g)
+  scrub_sound (Err x) h g = never (sym fits ∙ h.0)
 
   pub at_most_one : 2 ≤ m → (Sound k m len s → ⊥) → (r q : ℕ) → Accuses k m len s r → Accuses k m len s q → r ≡ q
   at_most_one hm n r q ar aq =
@@ -81,17 +80,17 @@ module _ (k m len : ℕ) (s : List ℕ) (fits : shaped_of k m len (length s) ≡
       let u = remedy k m len s q shape.len_least b aq in
       one_accused k m len shape.range hm r q s t.0 u.0 n t.1 u.1 t.2 u.2 t.3 u.3
 
-  pub scrub_accused : (v : Verdict) → Says k m len s v → 2 ≤ m → (Sound k m len s → ⊥) → (r : ℕ) → Accuses k m len s r → v ≡ verdict.Accused r
-  scrub_accused verdict.Sound h hm n r a = absurd (n h.1)
-  scrub_accused (verdict.Accused q) h hm n r a = ap verdict.Accused (at_most_one hm n q r h.3 a)
-  scrub_accused verdict.Unsound h hm n r a = absurd (h.2 hm r a)
-  scrub_accused (verdict.Refused x) h hm n r a = never (sym fits ∙ h.0)
+  pub scrub_accused : (v : Said) → Says k m len s v → 2 ≤ m → (Sound k m len s → ⊥) → (r : ℕ) → Accuses k m len s r → v ≡ Ok (verdict.Accused r)
+  scrub_accused (Ok verdict.Sound) h hm n r a = absurd (n h.1)
+  scrub_accused (Ok (verdict.Accused q)) h hm n r a = ap (λ (i : ℕ). Ok (verdict.Accused i)) (at_most_one hm n q r h.3 a)
+  scrub_accused (Ok verdict.Unsound) h hm n r a = absurd (h.2 hm r a)
+  scrub_accused (Err x) h hm n r a = never (sym fits ∙ h.0)
 
-  pub scrub_unsound : (v : Verdict) → Says k m len s v → (Sound k m len s → ⊥) → (2 ≤ m → (r : ℕ) → Accuses k m len s r → ⊥) → v ≡ verdict.Unsound
-  scrub_unsound verdict.Sound h n u = absurd (n h.1)
-  scrub_unsound (verdict.Accused q) h n u = absurd (u h.2 q h.3)
-  scrub_unsound verdict.Unsound h n u = refl
-  scrub_unsound (verdict.Refused x) h n u = never (sym fits ∙ h.0)
+  pub scrub_unsound : (v : Said) → Says k m len s v → (Sound k m len s → ⊥) → (2 ≤ m → (r : ℕ) → Accuses k m len s r → ⊥) → v ≡ Ok verdict.Unsound
+  scrub_unsound (Ok verdict.Sound) h n u = absurd (n h.1)
+  scrub_unsound (Ok (verdict.Accused q)) h n u = absurd (u h.2 q h.3)
+  scrub_unsound (Ok verdict.Unsound) h n u = refl
+  scrub_unsound (Err x) h n u = never (sym fits ∙ h.0)
 
   -- two wrong shards, three parities: nobody is accused
   pub two_liars : 3 ≤ m → (a c : ℕ) → a < k + m → c < k + m → a ≢ c → (o : List ℕ) → AllBytes o → Sound k m len o
@@ -101,7 +100,7 @@ module _ (k m len : ℕ) (s : List ℕ) (fits : shaped_of k m len (length s) ≡
       innocent k m len shape.range hm a c ha hc q s o bo so ag da dc r t.0 t.1 t.2 t.3
 
   -- the repaired stripe is the only sound one with these other shards
-  pub repaired_only : (r : ℕ) (t u : List ℕ) → Repaired k m len (verdict.Accused r) s t → AllBytes t → AllBytes u → Sound k m len u
+  pub repaired_only : (r : ℕ) (t u : List ℕ) → Repaired k m len (Ok (verdict.Accused r)) s t → AllBytes t → AllBytes u → Sound k m len u
       → AgreeOff (k + m) len (r ∷ []) s u → Agree (k + m) len t u
   repaired_only r t u w bt bu su au =
       repaired_once k m len shape.range r s t u bt bu w.mends.2 su w.mends.1 au

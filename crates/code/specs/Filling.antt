@@ -1,5 +1,5 @@
 -- From rows of a table to stripes: what filling in, scrubbing and mending come to. Assumes nothing.
-use Rattle.std.specs.Prelude.{◌≡◌, refl, Bool, true, false, cond, List, [], ◌∷◌, ◌≢◌, ◌⊎◌, ℕ, ◌+◌, ◌*◌, ◌≤◌, ◌<◌, eqb, length, get_or}
+use Rattle.std.specs.Prelude.{◌≡◌, refl, Bool, true, false, cond, List, [], ◌∷◌, ◌≢◌, ◌⊎◌, ℕ, ◌+◌, ◌*◌, ◌≤◌, ◌<◌, eqb, length, get_or, Ok}
 use Rattle.std.proofs.Common.{sym, ap, ◌∙◌, subst, inl, inr, ⊎_elim, suc-mul, mul-le-mul_right, eq-or-lt_of_le, eq-zero-or-pos, arith, lit<, eqb-true}
 use Rattle.std.proofs.lemmas.Bool.{eqb-false}
 use Rattle.field.specs.Field.{mul_of}
@@ -38,13 +38,11 @@ sound_no k m len e s q b z h =
     z.3.2 (q.forth (byte_at len s p) (λ r. b (r * len + p)) (h p z.3.1) z.0 z.2)
 
 pub judged : (k m len : ℕ) (s : List ℕ) (v : Verdict) → (Sound k m len s → ⊥) → 2 ≤ m → Located k m len s v → Judged k m len s v
-judged k m len s (verdict.Refused x) n h l = l
 judged k m len s verdict.Sound n h l = absurd l
 judged k m len s (verdict.Accused r) n h l = (n, h, l)
 judged k m len s verdict.Unsound n h l = (n, λ g. l)
 
-pub says : (k m len : ℕ) (s : List ℕ) (v : Verdict) → shaped_of k m len (length s) ≡ true → Judged k m len s v → Says k m len s v
-says k m len s (verdict.Refused x) e j = absurd j
+pub says : (k m len : ℕ) (s : List ℕ) (v : Verdict) → shaped_of k m len (length s) ≡ true → Judged k m len s v → Says k m len s (Ok v)
 says k m len s verdict.Sound e j = (e, j)
 says k m len s (verdict.Accused r) e j = (e, j.0, j.1, j.2)
 says k m len s verdict.Unsound e j = (e, j.0, j.1)
@@ -221,7 +219,7 @@ filled_sound k m len lost before after b q f p hp =
 
 -- an accused shard filled in from the others
 pub filled_mends : (k m len r : ℕ) (before after : List ℕ) → 1 ≤ m → AllBytes before → AllBytes after → Accuses k m len before r
-    → Filled k m len (r ∷ []) before after → Mends k m len (verdict.Accused r) before after
+    → Filled k m len (r ∷ []) before after → Mends k m len (Ok (verdict.Accused r)) before after
 filled_mends k m len r before after hm bb ba a f = (f.same, λ q hq n p hp. sym (f.survivors q hq n p hp), sound)
   where
     e : List ℕ

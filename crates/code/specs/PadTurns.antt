@@ -1,29 +1,18 @@
--- The turns of the loops that pad a list. Assumes nothing.
-use Rattle.std.specs.Prelude.{◌≡◌, Bool, true, false, cond, not, List, [], ◌∷◌, ◌++◌, ◌⊎◌, ℕ, suc, ◌+◌, ◌-◌, ◌≤◌, ◌<◌, length, get_or, take, set}
-use Rattle.std.proofs.Common.{sym, ap, ap₂, ◌∙◌, append_assoc, append-nil, inl, inr, add-one, arith, length-set, take_all, take-suc, take-suc-set, length-take-le}
+-- The turns of the loop that pads a list. Assumes nothing.
+use Rattle.std.specs.Prelude.{◌≡◌, Bool, true, false, cond, not, List, [], ◌∷◌, ◌++◌, ◌⊎◌, ℕ, suc, ◌+◌, ◌-◌, ◌≤◌, ◌<◌, length, take, drop, set, get_or}
+use Rattle.std.proofs.Common.{sym, ap, ap₂, ◌∙◌, subst, append_assoc, append-nil, inl, inr, add-one, arith, length-set, length-append, length-drop, take_all, take-suc-set, length-take-le, take-suc}
 use Rattle.std.proofs.Math.Seq.{take-nil}
+use Rattle.std.proofs.lemmas.List.{take_at}
 use Rattle.codeword.specs.Stripe.{has}
 use Rattle.solve.specs.Lost.{Lost}
 use Rattle.code.specs.Lists.{below_or_not}
 use Rattle.code.specs.Padded.{unnamed, padded, padded_is, padded_length}
 
--- ---- copy: the first i are there
-
+-- ---- the lost shards are copied
 -- the one list stands at the beginning of the other
 pub record Copied (from to after : List ℕ) : Type 0 where
   pub same : length after ≡ length to
   pub front : take (length from) after ≡ from
-
-pub copy_turn : (from to : List ℕ) (i : ℕ) → i < length from → i < length to → take i to ≡ take i from
-    → take (i + 1) (set to i (get_or from i 0)) ≡ take (i + 1) from
-copy_turn from to i h g e =
-    ap (λ (n : ℕ). take n (set to i (get_or from i 0))) (add-one i) ∙ take-suc-set to i (get_or from i 0) g
-    ∙ ap (λ (t : List ℕ). t ++ (get_or from i 0 ∷ [])) e ∙ sym (take-suc from i 0 h) ∙ ap (λ (n : ℕ). take n from) (sym (add-one i))
-
-pub copy_done : (from to : List ℕ) (i : ℕ) → i ≤ length from → length from ≤ i → take i to ≡ take i from → take (length from) to ≡ from
-copy_done from to i h g e =
-    let q : length from ≡ i = omega arith in
-    ap (λ (n : ℕ). take n to) q ∙ e ∙ take_all i from g
 
 -- ---- pad: c are there, and the others below k + m + 1 - i are to come
 
@@ -110,3 +99,52 @@ padding_done k m lost c i all p h =
     let q : m - c ≡ 0 = omega arith in
     sym (append-nil all)
     ∙ ap₂ (λ (t : List ℕ) (n : ℕ). t ++ take n (unnamed lost (k + m + 1 - i))) (sym (take_all c all (omega (arith, p.size)))) (sym q) ∙ p.rest
+
+-- ---- the same with the next shard's number a - 1: the others below a are to come
+
+module _ (k m : ℕ) (lost : List ℕ) (l : Lost k m lost) where
+  pub padding_start : (all new : List ℕ) → length all ≡ m → new ≡ lost → Padding k m lost (length lost) (k + m + 1 - (k + m)) (new ++ drop (length lost) all)
+  padding_start all new s e =
+      let size : length (new ++ drop (length lost) all) ≡ length all =
+      length-append new (drop (length lost) all) ∙ omega (arith, ap length e, length-drop (length lost) all, l.few) in
+      let one : 1 ≡ k + m + 1 - (k + m) = omega arith in
+      subst (λ (i : ℕ). Padding k m lost (length lost) i (new ++ drop (length lost) all)) one
+      (padding_first k m lost (new ++ drop (length lost) all) all l s
+      (record { same = size; front = take_at new (drop (length lost) all) (length lost) (ap length e) ∙ e }))
+
+  module _ (c a : ℕ) (all : List ℕ) (h : 0 < a) (g : a ≤ k + m) (p : Padding k m lost c (k + m + 1 - a) all) where
+    this : k + m - (k + m + 1 - a) ≡ a - 1
+    this = omega arith
+
+    below : k + m + 1 - a + 1 ≡ k + m + 1 - (a - 1)
+    below = omega arith
+
+    pub padding_put : c < m → has lost (a - 1) ≡ false → Padding k m lost (c + 1) (k + m + 1 - (a - 1)) (set all c (a - 1))
+    padding_put f n =
+        subst (λ (i : ℕ). Padding k m lost (c + 1) i (set all c (a - 1))) below
+        (subst (λ (x : ℕ). Padding k m lost (c + 1) (k + m + 1 - a + 1) (set all c x)) this
+        (padding_turn k m lost l c (k + m + 1 - a) all p f (ap (has lost) this ∙ n)))
+
+    pub padding_past : c < m → has lost (a - 1) ≡ true → Padding k m lost c (k + m + 1 - (a - 1)) all
+    padding_past f n =
+        subst (λ (i : ℕ). Padding k m lost c i all) below (padding_skip k m lost l c (k + m + 1 - a) all p f (ap (has lost) this ∙ n))
+
+  pub padding_end : (c a : ℕ) (all : List ℕ) → a ≤ 0 → Padding k m lost c (k + m + 1 - a) all → all ≡ padded k m lost
+  padding_end c a all z p = go (below_or_not c m)
+    where
+      go : (c < m) ⊎ (m ≤ c) → all ≡ padded k m lost
+      go (inl f) = absurd (omega (arith, padding_more k m lost l c (k + m + 1 - a) all p f))
+      go (inr f) = padding_done k m lost c (k + m + 1 - a) all p f
+
+-- ---- a copy, byte by byte: the first i are there
+
+pub copy_turn : (from to : List ℕ) (i : ℕ) → i < length from → i < length to → take i to ≡ take i from
+    → take (i + 1) (set to i (get_or from i 0)) ≡ take (i + 1) from
+copy_turn from to i h g e =
+    ap (λ (n : ℕ). take n (set to i (get_or from i 0))) (add-one i) ∙ take-suc-set to i (get_or from i 0) g
+    ∙ ap (λ (t : List ℕ). t ++ (get_or from i 0 ∷ [])) e ∙ sym (take-suc from i 0 h) ∙ ap (λ (n : ℕ). take n from) (sym (add-one i))
+
+pub copy_done : (from to : List ℕ) (i : ℕ) → i ≤ length from → length from ≤ i → take i to ≡ take i from → take (length from) to ≡ from
+copy_done from to i h g e =
+    let q : length from ≡ i = omega arith in
+    ap (λ (n : ℕ). take n to) q ∙ e ∙ take_all i from g

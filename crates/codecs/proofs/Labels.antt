@@ -1,7 +1,7 @@
 -- The protocol's labels as the bytes of a real sector: the codec that document 03's table gives, and its laws. The
 -- protocol writes n where no slot is being rebuilt, the table 255; a sector that tells of another shelf is no label.
 -- Assumes nothing.
-use Rattle.std.specs.Prelude.{◌≡◌, ◌⊎◌, ◌≢◌, List, [], ◌∷◌, Bool, ◌&&◌, eqb, ltb, leb}
+use Rattle.std.specs.Prelude.{◌≡◌, ◌⊎◌, ◌≢◌, List, [], ◌∷◌, Bool, ◌&&◌, eqb, ltb, leb, Some, None}
 use Rattle.std.proofs.Math.Path.{refl, sym, ap, fun_ext}
 use Rattle.std.proofs.Common.{◌∙◌, subst, eq-or-lt_of_le, eq-zero-or-pos, arith}
 use Rattle.std.proofs.Math.Logic.{⊎_elim}
@@ -21,8 +21,7 @@ use Rattle.label.specs.Bytes.{table, label_bytes, sealed, written}
 use Rattle.label.specs.Valid.{label_at, decode_of}
 use Rattle.label.specs.Newest.{same_shelf}
 use Rattle.label.specs.declared.fields.Label as bytes
-use Rattle.label.specs.declared.codec.Decoded.{Decoded}
-use Rattle.label.specs.declared.codec.Decoded.TheVariants.{Valid, Nothing}
+use Rattle.label.specs.Fields.{Decoded}
 use Rattle.label.proofs.Build.{length_sealed}
 use Rattle.label.proofs.Fits.{Fits, fits_says}
 use Rattle.label.proofs.Laws.{decode_encode, zeros_nothing, decode_says}
@@ -61,8 +60,8 @@ module _ (z : Shelf) where
   told d b x = by (decode_of x.bytes d (sector_of b)) refl
     where
       by : (r : Decoded) → decode_of x.bytes d (sector_of b) ≡ r → 0 < (meant z r).generation → (Told z) d b x
-      by Nothing e p = absurd (omega arith)
-      by (Valid a) e p = go (ours z a) refl p
+      by None e p = absurd (omega arith)
+      by (Some a) e p = go (ours z a) refl p
         where
           go : (s : Bool) → ours z a ≡ s → 0 < (cond s (label_of z a) (no_label z)).generation → (Told z) d b x
           go true q p =
@@ -225,7 +224,7 @@ module _ (z : Shelf) where
   -- ---- strange labels
 
   -- a sector with a label of some shelf, read with the slot number that it carries
-  self_read : (d : ℕ) (b : Bool) (x : Sector) (a : bytes.Label) → decode_of x.bytes d (sector_of b) ≡ Valid a → decode_of x.bytes (label_at x.bytes).slot (sector_of b) ≡ Valid a
+  self_read : (d : ℕ) (b : Bool) (x : Sector) (a : bytes.Label) → decode_of x.bytes d (sector_of b) ≡ Some a → decode_of x.bytes (label_at x.bytes).slot (sector_of b) ≡ Some a
   self_read d b x a e =
       let m = decode_says x.bytes d (sector_of b) a e in
       let q : (label_at x.bytes).slot ≡ d = ap (λ (l : bytes.Label). l.slot) (sym m.is) ∙ m.own in

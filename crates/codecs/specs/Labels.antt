@@ -1,7 +1,7 @@
 -- The protocol's labels as the bytes of a real sector: the codec that document 03's table gives, and its laws. The
 -- protocol writes n where no slot is being rebuilt, the table 255; a sector that tells of another shelf is no label.
 -- Assumes nothing.
-use Rattle.std.specs.Prelude.{◌≡◌, Bool, not, ◌&&◌, eqb}
+use Rattle.std.specs.Prelude.{◌≡◌, Bool, not, ◌&&◌, eqb, Some, None}
 use Rattle.std.proofs.Math.Path.{refl}
 use Rattle.std.proofs.Common.{arith}
 use Rattle.std.proofs.Math.Bool.{true, false, cond}
@@ -13,8 +13,7 @@ use Rattle.label.specs.Fields.{no_slot, most_generation}
 use Rattle.label.specs.Valid.{label_at, decode_of}
 use Rattle.label.specs.Newest.{same_shelf}
 use Rattle.label.specs.declared.fields.Label as bytes
-use Rattle.label.specs.declared.codec.Decoded.{Decoded}
-use Rattle.label.specs.declared.codec.Decoded.TheVariants.{Valid, Nothing}
+use Rattle.label.specs.Fields.{Decoded}
 use Rattle.label.proofs.Laws.{Meant}
 use Rattle.protocol.specs.Label.{Label}
 use Rattle.protocol.specs.Program.{Proper}
@@ -68,8 +67,8 @@ ours z a = same_shelf (fields_of z 0 (no_label z)) a
 
 -- a valid label of this shelf, or none
 abbrev pub meant : Shelf → Decoded → Label
-meant z Nothing = no_label z
-meant z (Valid a) = cond (ours z a) (label_of z a) (no_label z)
+meant z None = no_label z
+meant z (Some a) = cond (ours z a) (label_of z a) (no_label z)
 
 unfoldable pub decode_label : Shelf → ℕ → Bool → Sector → Label
 decode_label z d b x = meant z (decode_of x.bytes d (sector_of b))
@@ -82,8 +81,8 @@ own z d a = ours z a && eqb a.slot d
 
 -- the generation of a label that is not
 abbrev pub strange_in : Shelf → ℕ → Decoded → ℕ
-strange_in z d Nothing = 0
-strange_in z d (Valid a) = cond (own z d a) 0 a.generation
+strange_in z d None = 0
+strange_in z d (Some a) = cond (own z d a) 0 a.generation
 
 -- valid with the slot number that it carries itself, in the sector that its generation calls for
 unfoldable pub strange_label : Shelf → ℕ → Bool → Sector → ℕ
@@ -110,7 +109,7 @@ module _ (z : Shelf) where
     pub fields : bytes.Label
     pub same : ours z fields ≡ true
     pub means : Meant x.bytes d (sector_of b) fields
-    pub read : decode_of x.bytes d (sector_of b) ≡ Valid fields
+    pub read : decode_of x.bytes d (sector_of b) ≡ Some fields
     pub is : decode_label z d b x ≡ label_of z fields
 
   -- what the bytes tell of a rebuild

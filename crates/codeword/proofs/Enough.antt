@@ -1,5 +1,5 @@
 -- There are as many rows as shards to find, where at most m are lost. Assumes nothing.
-use Rattle.std.specs.Prelude.{◌≡◌, Bool, false, List, ℕ, ◌+◌, ◌≤◌, ◌<◌, length}
+use Rattle.std.specs.Prelude.{◌≡◌, false, List, ℕ, ◌+◌, ◌≤◌, ◌<◌, length}
 use Rattle.std.proofs.Common.{arith}
 use Rattle.codeword.specs.Stripe.{Holds, Bytes, has}
 use Rattle.codeword.specs.Chosen.{chosen_length, count_split, count_not, has_few}

@@ -8,7 +8,7 @@ use Rattle.field.proofs.Bytes.{bytes}
 use Rattle.codeword.specs.Sum.{total_ext, total_zero, total_add}
 use Rattle.codeword.specs.Stripe.{InRange, coef, Holds, Bytes, byte_at, Sound, has, AgreeOff, Agree}
 use Rattle.codeword.specs.Unit.{sum_zero}
-use Rattle.codeword.specs.Chosen.{over, chosen_falls, chosen_all, chosen_at, chosen_sum, chosen_length, count_split, count_not, has_few}
+use Rattle.codeword.specs.Chosen.{over, chosen_falls, chosen_all, chosen_at, chosen_sum}
 use Rattle.codeword.specs.Minors.{Minors}
 use Rattle.codeword.proofs.Minors.{minors}
 use Rattle.codeword.specs.Unique.{sum, shards, kept, rows, AllBytes}

@@ -1,117 +1,75 @@
-// CRC-32C by a table, sixteen bytes a turn. The table is copied once at each call.
+// CRC-32C by a table, sixteen bytes a turn.
 #![tactic(auto)]
 
 mod table;
 
-ghost use Rattle.std.specs.Prelude.{◌≡◌, ◌+◌, ◌%◌, ◌≤◌, ◌<◌, length, drop};
+ghost use Rattle.std.specs.Prelude.{◌≡◌, ◌+◌, ◌≤◌, ◌<◌};
 ghost use Rattle.std.specs.Int.Bits.{bit_xor};
 ghost use Rattle.crc32c.specs.Crc.{all_ones, steps, run, crc_of};
-ghost use Rattle.crc32c.specs.Table.{entry, Filled, word_at};
+ghost use Rattle.crc32c.specs.Table.{entry, Filled};
 
 use crate::table::TABLE;
 
 const ALL_ONES: u32 = 0xffffffff;
 
-fn wide(x: u8) -> u32
-    ensures { (result ≡ x) × (result < 256) }
-{
-    x as u32
-}
-
-fn low(x: u32) -> usize
-    ensures { result ≡ x % 256 }
-{
-    (x % 256) as usize
-}
-
-// One byte into the register.
-fn byte_in(t: &[u32], c: u32, x: u8) -> u32
-    requires { Filled t.now }
-    ensures { result ≡ steps 8 (bit_xor c x) }
-{
-    (c / 256) ^ t[16 * low(c ^ wide(x))]
-}
-
-// Four bytes as a number, lowest first.
-fn word(bytes: &[u8], at: usize) -> u32
-    requires { at + 4 ≤ length bytes.now }
-    ensures { result ≡ word_at bytes.now at }
-{
-    wide(bytes[at])
-        + 256 * wide(bytes[at + 1])
-        + 65536 * wide(bytes[at + 2])
-        + 16777216 * wide(bytes[at + 3])
-}
-
-// What a word becomes in the steps of entry j + 3: its lowest byte goes furthest.
-fn word_in(t: &[u32], w: u32, j: usize) -> u32
-    requires { Filled t.now × (j + 4 ≤ 16) }
-    ensures { result ≡ entry w (j + 3) }
-{
-    t[16 * low(w / 16777216) + j]
-        ^ t[16 * low(w / 65536) + (j + 1)]
-        ^ t[16 * low(w / 256) + (j + 2)]
-        ^ t[16 * low(w) + (j + 3)]
-}
-
-// Sixteen bytes into the register. The words that don't wait for it come first.
-fn turn(t: &[u32], c: u32, bytes: &[u8], at: usize) -> u32
-    requires { Filled t.now × (at + 16 ≤ length bytes.now) }
-    ensures { run c (drop at bytes.now) ≡ run result (drop (at + 16) bytes.now) }
-{
-    let early = word_in(t, word(bytes, at + 12), 0)
-        ^ word_in(t, word(bytes, at + 8), 4)
-        ^ word_in(t, word(bytes, at + 4), 8);
-    early ^ word_in(t, c ^ word(bytes, at), 12)
-}
-
+// A table that says of each byte what it becomes.
 #[derive(Clone, Copy)]
-struct Part {
-    c: u32,
-    at: usize,
+struct Steps<'a> {
+    entries: &'a [u32; 4096],
+    ghost filled: { Filled entries.now },
 }
 
-// Sixteen bytes a turn, while there are sixteen: the register, and where the rest begins.
-fn turns(t: &[u32], c: u32, bytes: &[u8]) -> Part
-    requires { Filled t.now }
-    ensures { (result.at ≤ length bytes.now) × (run result.c (drop result.at bytes.now) ≡ run c bytes.now) }
-{
-    let mut r = c;
-    let mut i = 0;
-    while 16 <= bytes.len() - i {
-        r = turn(t, r, bytes, i);
-        i += 16;
+impl<'a> Steps<'a> {
+    // What a byte becomes in the steps of entry j.
+    fn after(&self, x: u8, j: usize) -> u32
+        requires { j < 16 }
+        ensures { result ≡ entry x j }
+    {
+        self.entries[16 * usize::from(x) + j]
     }
-    Part { c: r, at: i }
-}
 
-// The register after the bytes from `at` on.
-fn rest(t: &[u32], c: u32, bytes: &[u8], at: usize) -> u32
-    requires { Filled t.now × (at ≤ length bytes.now) }
-    ensures { result ≡ run c (drop at bytes.now) }
-{
-    let mut r = c;
-    let mut i = at;
-    while i < bytes.len() {
-        r = byte_in(t, r, bytes[i]);
-        i += 1;
+    // One byte into the register.
+    fn byte_in(&self, c: u32, x: u8) -> u32
+        ensures { result ≡ steps 8 (bit_xor c x) }
+    {
+        let [low, ..] = (c ^ u32::from(x)).to_le_bytes();
+        (c / 256) ^ self.after(low, 0)
     }
-    r
-}
 
-// The register after all bytes.
-fn register(t: &[u32], bytes: &[u8]) -> u32
-    requires { Filled t.now }
-    ensures { result ≡ run all_ones bytes.now }
-{
-    let part = turns(t, ALL_ONES, bytes);
-    rest(t, part.c, bytes, part.at)
+    // What a word becomes in the steps of entry j + 3: its lowest byte goes furthest.
+    fn word_in(&self, w: u32, j: usize) -> u32
+        requires { j + 4 ≤ 16 }
+        ensures { result ≡ entry w (j + 3) }
+    {
+        let [s, r, q, p] = w.to_le_bytes();
+        self.after(p, j) ^ self.after(q, j + 1) ^ self.after(r, j + 2) ^ self.after(s, j + 3)
+    }
+
+    // Sixteen bytes into the register. The words that don't wait for it come first.
+    fn turn(&self, c: u32, bytes: &[u8; 16]) -> u32
+        ensures { result ≡ run c bytes.now }
+    {
+        let (words, _) = bytes.as_chunks::<4>();
+        let early = self.word_in(u32::from_le_bytes(words[3]), 0)
+            ^ self.word_in(u32::from_le_bytes(words[2]), 4)
+            ^ self.word_in(u32::from_le_bytes(words[1]), 8);
+        early ^ self.word_in(c ^ u32::from_le_bytes(words[0]), 12)
+    }
+
+    // The register after all bytes: sixteen a turn, and those that are left one by one.
+    fn register(&self, bytes: &[u8]) -> u32
+        ensures { result ≡ run all_ones bytes.now }
+    {
+        let (turns, rest) = bytes.as_chunks::<16>();
+        let c = turns.iter().fold(ALL_ONES, |c, turn| self.turn(c, turn));
+        rest.iter().fold(c, |c, x| self.byte_in(c, *x))
+    }
 }
 
 // The CRC-32C of the bytes.
 pub fn crc32c(bytes: &[u8]) -> u32
     ensures { result ≡ crc_of bytes.now }
 {
-    let t = TABLE;
-    register(&t, bytes) ^ ALL_ONES
+    let steps = Steps { entries: &TABLE };
+    steps.register(bytes) ^ ALL_ONES
 }

@@ -1,7 +1,7 @@
 -- The lent image: sector s of slot d begins at (d * S + s) * 512. Reading a sector, putting one, and the laws that later
 -- proofs live on: after a put that sector is the new one; every other sector of every slot, the length, and every byte
 -- outside the 512 are as before. They hold for every n and S. Assumes nothing.
-use Rattle.std.specs.Prelude.{◌≡◌, ◌⊎◌, get_or}
+use Rattle.std.specs.Prelude.{◌≡◌, ◌⊎◌, true, get_or}
 use Rattle.std.proofs.Common.{sym, ◌∙◌, ⊎_elim, arith, length-drop, length-take-le, drop_at}
 use Rattle.std.proofs.Math.Path.{ap}
 use Rattle.std.proofs.Math.Logic.{inl, inr}
@@ -11,11 +11,19 @@ use Rattle.std.proofs.Math.Arith.{digits_lt, digits_div, digits_mod}
 use Rattle.std.proofs.Math.ListN.{length, take, drop}
 use Rattle.std.proofs.Math.Seq.{paste, length-paste, take_at, take_all}
 use Rattle.disk.specs.Limits.{sector_bytes}
-use Rattle.disk.specs.Image.{place, sector, put_sector, Shape, lt_or_ge, get_or_paste_other, part_ext}
+use Rattle.disk.specs.Image.{place, sector, put_sector, Shape, fits_image, on_shelf, fits_image_lem, on_shelf_lem, lt_or_ge, get_or_paste_other, part_ext}
+use Rattle.disk.specs.declared.geometry.Geometry.{Geometry}
 
 -- a sector in range lies within the image
 pub place_fits : (n S d s : ℕ) → d < n → s < S → place S d s + sector_bytes ≤ n * S * sector_bytes
 place_fits n S d s hd hs = let h : d * S + s < n * S = digits_lt hd hs in omega arith
+
+pub sector_fits : (g : Geometry) (img : List ℕ) (d s : ℕ) → fits_image g (length img) ≡ true → on_shelf g d s ≡ true
+    → place g.sectors d s + sector_bytes ≤ length img
+unfolding Shape
+sector_fits g img d s e f =
+    let h = on_shelf_lem g d s f in
+    omega (arith, (fits_image_lem g img e).1, place_fits g.n g.sectors d s h.0 h.1)
 
 -- ---- sectors
 

@@ -1,3 +1,4 @@
 pub mod GeometryLaws
 pub mod Image
 pub mod NumberLaws
+pub mod Search

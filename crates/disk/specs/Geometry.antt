@@ -1,7 +1,7 @@
 -- Where things lie on a shelf, in the words of the document: n slots, S sectors a disk, strips of c sectors, k data
 -- shards a stripe. The laws: strips lie apart, behind the log and within the disk; for each stripe shards and slots are
 -- one to one; blocks and data shards are one to one. Assumes nothing.
-use Rattle.std.specs.Prelude.{◌≡◌, refl, Bool, true, false, ◌&&◌, ◌||◌, cond, ℕ, ◌+◌, ◌*◌, ◌-◌, ◌≤◌, ◌<◌, ◌/◌, ◌%◌, leb, eqb}
+use Rattle.std.specs.Prelude.{◌≡◌, refl, Bool, true, false, ◌&&◌, ◌||◌, cond, ℕ, ◌+◌, ◌*◌, ◌-◌, ◌≤◌, ◌<◌, ◌/◌, ◌%◌, leb, eqb, Ok, Err, Result}
 use Rattle.std.proofs.Common.{sym, ◌∙◌, le_trans, mul-le-mul_left, mul-le-mul_right, div-le_self, le-div_iff_mul-le, one-mul, mod-eq_of_lt, div-lt_iff_lt-mul, leb-true, eqb-true}
 use Rattle.std.proofs.Math.Path.{ap}
 use Rattle.std.proofs.Math.Nat.{mod-lt, mod-add-mod, add-mod_right, div-add-mod', add-mul-mod_self_right}
@@ -11,9 +11,8 @@ use Rattle.disk.specs.Limits.{least_k, most_k, least_m, most_m, least_n, most_n,
 use Rattle.disk.specs.Tests.{and_left, and_right}
 use Rattle.disk.specs.declared.refusal.Refusal.TheVariants.{BadImage, BadBlock}
 use Rattle.disk.specs.declared.geometry.Geometry.{Geometry}
-use Rattle.disk.specs.declared.geometry.Found.{Found}
-use Rattle.disk.specs.declared.geometry.Found.TheVariants.{At, Refused}
-use Rattle.disk.specs.declared.geometry.Placed as declared
+use Rattle.disk.specs.declared.refusal.Refusal.{Refusal}
+use Rattle.disk.specs.declared.geometry.DataShard.{DataShard}
 
 -- ---- ranges
 
@@ -66,12 +65,20 @@ block_of k t r = t * k + r
 
 -- ---- answers: BAD_IMAGE where the first test fails, BAD_BLOCK where the second does
 
-abbrev pub found : Bool → Bool → ℕ → Found
-found range there x = cond range (cond there (At x) (Refused BadBlock)) (Refused BadImage)
+-- a number, or why there is none
+abbrev pub Found : Type 0
+Found = Result ℕ Refusal
 
-abbrev pub placed : Bool → Bool → ℕ → ℕ → declared.Placed
+-- a data shard of a stripe, or why there is none
+abbrev pub Placed : Type 0
+Placed = Result DataShard Refusal
+
+abbrev pub found : Bool → Bool → ℕ → Found
+found range there x = cond range (cond there (Ok x) (Err BadBlock)) (Err BadImage)
+
+abbrev pub placed : Bool → Bool → ℕ → ℕ → Placed
 placed range there t r =
-    cond range (cond there (declared.TheVariants.Shard t r) (declared.TheVariants.Refused BadBlock)) (declared.TheVariants.Refused BadImage)
+    cond range (cond there (Ok (record { stripe = t; shard = r })) (Err BadBlock)) (Err BadImage)
 
 -- ---- what the tests say
 

@@ -1,7 +1,7 @@
 -- The lent image: sector s of slot d begins at (d * S + s) * 512. Reading a sector, putting one, and the laws that later
 -- proofs live on: after a put that sector is the new one; every other sector of every slot, the length, and every byte
 -- outside the 512 are as before. They hold for every n and S. Assumes nothing.
-use Rattle.std.specs.Prelude.{◌≡◌, ◌⊎◌, Bool, true, ◌&&◌, cond, ltb, eqb, get_or}
+use Rattle.std.specs.Prelude.{◌≡◌, ◌⊎◌, Bool, true, ◌&&◌, cond, ltb, eqb, get_or, Ok, Err}
 use Rattle.std.proofs.Common.{sym, ap₂, ◌∙◌, ⊎_elim, eq-zero-or-pos, arith, length-drop, drop_of_length-le, take-append-drop, length-take-le, get_or-take, get_or-drop, ext_get_or, get_or-append-add, drop-drop, ltb-true, eqb-true}
 use Rattle.std.proofs.Math.Path.{ap}
 use Rattle.std.proofs.Math.Logic.{inl, inr}
@@ -16,8 +16,7 @@ use Rattle.disk.specs.Tests.{and_left, and_right}
 use Rattle.disk.specs.Geometry.{in_range, image_bytes, InRange, in_range_lem}
 use Rattle.disk.specs.declared.geometry.Geometry.{Geometry}
 use Rattle.disk.specs.declared.refusal.Refusal.TheVariants.{BadImage, BadBlock, BadBuffer}
-use Rattle.disk.specs.declared.refusal.Outcome.{Outcome}
-use Rattle.disk.specs.declared.refusal.Outcome.TheVariants.{Done, Refused}
+use Rattle.disk.specs.Refusal.{Outcome}
 
 -- where sector s of slot d begins
 abbrev pub place : ℕ → ℕ → ℕ → ℕ
@@ -52,12 +51,12 @@ read_of g img d s = cond (fits_image g (length img) && on_shelf g d s) (sector g
 -- a put of `m` bytes: the first refusal that applies
 unfoldable pub put_answer : Geometry → ℕ → ℕ → ℕ → ℕ → Outcome
 put_answer g len d s m =
-    cond (fits_image g len) (cond (on_shelf g d s) (cond (eqb m sector_bytes) Done (Refused BadBuffer)) (Refused BadBlock)) (Refused BadImage)
+    cond (fits_image g len) (cond (on_shelf g d s) (cond (eqb m sector_bytes) (Ok tt) (Err BadBuffer)) (Err BadBlock)) (Err BadImage)
 
 -- and what it leaves
 abbrev pub after_put : Outcome → Geometry → List ℕ → ℕ → ℕ → List ℕ → List ℕ
-after_put Done g img d s v = put_sector g.sectors img d s v
-after_put (Refused why) g img d s v = img
+after_put (Ok tt) g img d s v = put_sector g.sectors img d s v
+after_put (Err why) g img d s v = img
 
 -- what the tests say
 pub fits_image_lem : (g : Geometry) (img : List ℕ) → fits_image g (length img) ≡ true → InRange g × Shape g.n g.sectors img

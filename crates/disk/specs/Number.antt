@@ -18,6 +18,11 @@ unfoldable pub with_number : ℕ → List ℕ → ℕ → ℕ → List ℕ
 with_number zero b at x = b
 with_number (suc w) b at x = with_number w (set b at (x % 256)) (at + 1) (x / 256)
 
+-- b with the bytes ys at `at`; past the end nothing is written
+unfoldable pub with_bytes : List ℕ → ℕ → List ℕ → List ℕ
+with_bytes b at [] = b
+with_bytes b at (y ∷ ys) = with_bytes (set b at y) (at + 1) ys
+
 -- ---- laws
 
 pub pow_some : (w : ℕ) → 0 < 256 ^ w

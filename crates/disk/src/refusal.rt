@@ -2,35 +2,21 @@
 ghost use Rattle.std.specs.Prelude.{◌≡◌};
 ghost use Rattle.disk.specs.Refusal.{number_of};
 
-#[derive(Clone, Copy)]
+// Each has its fixed code.
+#[derive(Clone, Copy, PartialEq, Eq, Debug)]
 pub enum Refusal {
-    BadImage,
-    NoLabel,
-    TooFew,
-    BadBlock,
-    Busy,
-    NotNow,
-    BadBuffer,
-}
-
-// A request was carried out, or why not.
-#[derive(Clone, Copy)]
-pub enum Outcome {
-    Done,
-    Refused(Refusal),
+    BadImage = 10,
+    NoLabel = 11,
+    TooFew = 12,
+    BadBlock = 13,
+    Busy = 14,
+    NotNow = 15,
+    BadBuffer = 16,
 }
 
 // The refusal's code.
 pub fn number(r: Refusal) -> u32
     ensures { result ≡ number_of r }
 {
-    match r {
-        Refusal::BadImage => 10,
-        Refusal::NoLabel => 11,
-        Refusal::TooFew => 12,
-        Refusal::BadBlock => 13,
-        Refusal::Busy => 14,
-        Refusal::NotNow => 15,
-        Refusal::BadBuffer => 16,
-    }
+    r as u32
 }

@@ -4,28 +4,24 @@ ghost use Rattle.std.specs.Prelude.{◌≡◌, ◌+◌, ◌≤◌, length, repli
 ghost use Rattle.disk.specs.Limits.{sector_bytes};
 ghost use Rattle.disk.specs.Image.{place, sector, put_sector, fits_image, on_shelf, read_of, put_answer, after_put};
 
-use crate::geometry::{Geometry, in_range};
+use crate::geometry::{Geometry, image_len};
 use crate::limits::SECTOR;
-use crate::refusal::{Outcome, Refusal};
+use crate::refusal::Refusal;
 
 // Whether a slice of len bytes is the image of such a shelf.
+#[tactic(auto, unfolding(crate::specs::Image::fits_image))]
 pub fn fits_image(g: Geometry, len: usize) -> bool
     ensures { result ≡ fits_image g len }
 {
-    if !in_range(g) {
-        return false;
-    }
-    len == g.n * g.sectors * SECTOR
+    image_len(g) == Ok(len)
 }
 
 // Whether the shelf has a slot d, and its disk a sector s.
+#[tactic(auto, unfolding(crate::specs::Image::on_shelf))]
 pub fn on_shelf(g: Geometry, d: usize, s: usize) -> bool
     ensures { result ≡ on_shelf g d s }
 {
-    if g.n <= d {
-        return false;
-    }
-    s < g.sectors
+    d < g.n && s < g.sectors
 }
 
 // Sector s of slot d, which lies within the image.
@@ -34,8 +30,7 @@ fn get_sector(image: &[u8], sectors: usize, d: usize, s: usize) -> &[u8]
     ensures { result.now ≡ sector sectors image.now d s }
 {
     let at = (d * sectors + s) * SECTOR;
-    let e = at + SECTOR;
-    &image[at..e]
+    &image[at..at + SECTOR]
 }
 
 // Puts a sector's bytes at sector s of slot d, which lies within the image.
@@ -44,44 +39,42 @@ fn put_sector(image: &mut [u8], sectors: usize, d: usize, s: usize, bytes: &[u8]
     ensures { image.new ≡ put_sector sectors image.old d s bytes.now }
 {
     let at = (d * sectors + s) * SECTOR;
-    let e = at + SECTOR;
-    image[at..e].copy_from_slice(bytes);
+    image[at..at + SECTOR].copy_from_slice(bytes);
 }
 
 // Sector s of slot d, a part of the image; the empty part where the image is not this shelf's, or has no such sector.
+#[tactic(auto, unfolding(crate::specs::Image::read_of))]
 pub fn read(image: &[u8], g: Geometry, d: usize, s: usize) -> &[u8]
     ensures { result.now ≡ read_of g image.now d s }
 {
-    if !fits_image(g, image.len()) {
-        return &image[..0];
+    if fits_image(g, image.len()) && on_shelf(g, d, s) {
+        get_sector(image, g.sectors, d, s)
+    } else {
+        &[]
     }
-    if !on_shelf(g, d, s) {
-        return &image[..0];
-    }
-    get_sector(image, g.sectors, d, s)
 }
 
 // Puts a sector's bytes at sector s of slot d. A refusal changes nothing.
-pub fn put(image: &mut [u8], g: Geometry, d: usize, s: usize, bytes: &[u8]) -> Outcome
+#[tactic(auto, unfolding(crate::specs::Image::put_answer))]
+pub fn put(image: &mut [u8], g: Geometry, d: usize, s: usize, bytes: &[u8]) -> Result<(), Refusal>
     ensures { (result ≡ put_answer g (length image.old) d s (length bytes.now)) × (image.new ≡ after_put result g image.old d s bytes.now) }
 {
     if !fits_image(g, image.len()) {
-        return Outcome::Refused(Refusal::BadImage);
+        return Err(Refusal::BadImage);
     }
     if !on_shelf(g, d, s) {
-        return Outcome::Refused(Refusal::BadBlock);
+        return Err(Refusal::BadBlock);
     }
     if bytes.len() != SECTOR {
-        return Outcome::Refused(Refusal::BadBuffer);
+        return Err(Refusal::BadBuffer);
     }
     put_sector(image, g.sectors, d, s, bytes);
-    Outcome::Done
+    Ok(())
 }
 
 // Fills sector s of slot d with zeros. A refusal changes nothing.
-pub fn clear(image: &mut [u8], g: Geometry, d: usize, s: usize) -> Outcome
+pub fn clear(image: &mut [u8], g: Geometry, d: usize, s: usize) -> Result<(), Refusal>
     ensures { (result ≡ put_answer g (length image.old) d s sector_bytes) × (image.new ≡ after_put result g image.old d s (replicate sector_bytes 0)) }
 {
-    let zeros = [0u8; SECTOR];
-    put(image, g, d, s, &zeros)
+    put(image, g, d, s, &[0; SECTOR])
 }

@@ -1,16 +1,15 @@
 -- What a division answers: refused for a divisor 0; else the one byte whose product with the divisor is the dividend.
 -- Assumes nothing.
-use Rattle.std.specs.Prelude.{◌≡◌, refl, ◌≢◌, ℕ, zero, suc, ◌<◌}
+use Rattle.std.specs.Prelude.{◌≡◌, refl, ◌≢◌, ℕ, zero, suc, ◌<◌, Ok}
 use Rattle.std.proofs.Common.{sym, ap, ◌∙◌}
 use Rattle.field.specs.Field.{mul_of, inverse_of}
 use Rattle.field.proofs.Bytes.{bytes}
 use Rattle.field.proofs.InverseLaws.{cancel}
-use Rattle.field.specs.declared.Quotient.TheVariants.{Value}
 use Rattle.field.specs.Quotient.{quotient_of}
 
-pub quotient_of_lem : (a b q : ℕ) → b ≢ 0 → q ≡ mul_of a (inverse_of b) → Value q ≡ quotient_of a b
+pub quotient_of_lem : (a b q : ℕ) → b ≢ 0 → q ≡ mul_of a (inverse_of b) → Ok q ≡ quotient_of a b
 quotient_of_lem a zero q n e = absurd (n refl)
-quotient_of_lem a (suc b) q n e = ap Value e
+quotient_of_lem a (suc b) q n e = ap Ok e
 
 -- b times the quotient of a and b is a
 pub quotient_times : (a b : ℕ) → b ≢ 0 → a < 256 → b < 256 → mul_of b (mul_of a (inverse_of b)) ≡ a

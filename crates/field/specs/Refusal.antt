@@ -1,8 +1,12 @@
 -- The codes of document 01, section 7. Assumes nothing.
-use Rattle.std.specs.Prelude.{ℕ, ◌≤◌}
+use Rattle.std.specs.Prelude.{ℕ, ◌≤◌, Result}
 use Rattle.std.proofs.Common.{lit≤}
 use Rattle.field.specs.declared.Refusal as declared
 use Rattle.field.specs.declared.Refusal.TheVariants.{BadShape, TooMany, BadShard, Zero}
+
+-- what became of a request that changes a slice
+abbrev pub Answer : Type 0
+Answer = Result (Unit {0}) declared.Refusal
 
 abbrev pub number_of : declared.Refusal → ℕ
 number_of BadShape = 1

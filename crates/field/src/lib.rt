@@ -7,44 +7,25 @@ ghost use Rattle.std.specs.Int.Bits.{bit_xor};
 ghost use Rattle.field.specs.Field.{pick, mul_of, g, power_of, inverse_of};
 ghost use Rattle.field.specs.Refusal.{number_of};
 ghost use Rattle.field.specs.Quotient.{quotient_of};
-ghost use Rattle.field.specs.Each.{Each, Combined};
+ghost use Rattle.field.specs.Each.{Changed, Combined};
 
 // x^8 modulo the field's polynomial.
 const REDUCTION: u8 = 0x1d;
 
-// Why a request of the parity layer is refused.
-#[derive(Clone, Copy)]
+// Why a request of the parity layer is refused. Each refusal has its fixed code.
+#[derive(Clone, Copy, PartialEq, Eq, Debug)]
 pub enum Refusal {
-    BadShape,
-    TooMany,
-    BadShard,
-    Zero,
+    BadShape = 1,
+    TooMany = 2,
+    BadShard = 3,
+    Zero = 4,
 }
 
 // A refusal's fixed code.
 pub fn number(x: Refusal) -> u32
     ensures { result ≡ number_of x }
 {
-    match x {
-        Refusal::BadShape => 1,
-        Refusal::TooMany => 2,
-        Refusal::BadShard => 3,
-        Refusal::Zero => 4,
-    }
-}
-
-// What became of a request that changes a slice.
-#[derive(Clone, Copy)]
-pub enum Answer {
-    Done,
-    Refused(Refusal),
-}
-
-// What became of a division.
-#[derive(Clone, Copy)]
-pub enum Quotient {
-    Value(u8),
-    Refused(Refusal),
+    x as u32
 }
 
 // Twice a byte.
@@ -68,12 +49,10 @@ pub fn mul(a: u8, b: u8) -> u8
     let mut sum: u8 = 0;
     let mut x = a;
     let mut y = b;
-    let mut n: usize = 8;
-    while 0 < n {
-        sum = sum ^ select(y % 2, x);
+    for _ in 0..u8::BITS {
+        sum ^= select(y % 2, x);
         x = double(x);
-        y = y / 2;
-        n -= 1;
+        y /= 2;
     }
     sum
 }
@@ -95,13 +74,13 @@ fn inverse(a: u8) -> u8
 }
 
 // The quotient. A division by 0 is refused.
-pub fn div(a: u8, b: u8) -> Quotient
+pub fn div(a: u8, b: u8) -> Result<u8, Refusal>
     ensures { result ≡ quotient_of a b }
 {
     if b == 0 {
-        return Quotient::Refused(Refusal::Zero);
+        return Err(Refusal::Zero);
     }
-    Quotient::Value(mul(a, inverse(b)))
+    Ok(mul(a, inverse(b)))
 }
 
 // g to the power n, in at most 254 doublings, since exponents count modulo 255.
@@ -109,82 +88,52 @@ pub fn power_of_g(n: usize) -> u8
     ensures { result ≡ power_of n }
 {
     let mut x: u8 = 1;
-    let mut left = n % 255;
-    while 0 < left {
+    for _ in 0..n % 255 {
         x = double(x);
-        left -= 1;
     }
     x
 }
 
-fn add_each(dst: &mut [u8], src: &[u8])
-    requires { length dst.old ≡ length src.now }
-    ensures { Each (λ d s. bit_xor d s) dst.old src.now dst.new }
+// Makes each byte of `dst` what `f` makes of it and of the byte of `src` at its place.
+fn change_each<F: Fn(u8, u8) -> u8>(dst: &mut [u8], src: &[u8], f: F)
+    requires same { length dst.old ≡ length src.now }
+    requires callable { F.IsAlwaysCallable f }
+    ensures { Changed (λ d s r. F.post f d s r) dst.old src.now dst.new }
 {
-    let mut i = 0;
-    while i < dst.len() {
-        let d = dst[i];
-        let s = src[i];
-        dst[i] = d ^ s;
-        i += 1;
+    for i in 0..dst.len() {
+        dst[i] = f(dst[i], src[i]);
     }
 }
 
 // Adds each byte of `src` to the byte of `dst` at its place.
-pub fn add(dst: &mut [u8], src: &[u8]) -> Answer
+pub fn add(dst: &mut [u8], src: &[u8]) -> Result<(), Refusal>
     ensures { Combined (λ d s. bit_xor d s) result dst.old src.now dst.new }
 {
     if dst.len() != src.len() {
-        return Answer::Refused(Refusal::BadShape);
+        return Err(Refusal::BadShape);
     }
-    add_each(dst, src);
-    Answer::Done
-}
-
-fn mul_add_each(dst: &mut [u8], src: &[u8], c: u8)
-    requires { length dst.old ≡ length src.now }
-    ensures { Each (λ d s. bit_xor d (mul_of c s)) dst.old src.now dst.new }
-{
-    let mut i = 0;
-    while i < dst.len() {
-        let d = dst[i];
-        let s = src[i];
-        dst[i] = d ^ mul(c, s);
-        i += 1;
-    }
+    change_each(dst, src, |d, s| d ^ s);
+    Ok(())
 }
 
 // Adds `c` times each byte of `src` to the byte of `dst` at its place.
-pub fn mul_add(dst: &mut [u8], src: &[u8], c: u8) -> Answer
+pub fn mul_add(dst: &mut [u8], src: &[u8], c: u8) -> Result<(), Refusal>
     ensures { Combined (λ d s. bit_xor d (mul_of c s)) result dst.old src.now dst.new }
 {
     if src.len() != dst.len() {
-        return Answer::Refused(Refusal::BadShape);
+        return Err(Refusal::BadShape);
     }
-    mul_add_each(dst, src, c);
-    Answer::Done
-}
-
-fn double_add_each(sum: &mut [u8], next: &[u8])
-    requires { length sum.old ≡ length next.now }
-    ensures { Each (λ s n. bit_xor (mul_of g s) n) sum.old next.now sum.new }
-{
-    let mut i = 0;
-    while i < sum.len() {
-        let s = sum[i];
-        let n = next[i];
-        sum[i] = double(s) ^ n;
-        i += 1;
-    }
+    change_each(dst, src, |d, s| d ^ mul(c, s));
+    Ok(())
 }
 
 // Doubles each byte of `sum` and adds the byte of `next` at its place: a step of Horner's rule.
-pub fn double_add(sum: &mut [u8], next: &[u8]) -> Answer
+pub fn double_add(sum: &mut [u8], next: &[u8]) -> Result<(), Refusal>
     ensures { Combined (λ s n. bit_xor (mul_of g s) n) result sum.old next.now sum.new }
 {
     if sum.len() != next.len() {
-        return Answer::Refused(Refusal::BadShape);
+        return Err(Refusal::BadShape);
     }
-    double_add_each(sum, next);
-    Answer::Done
+    change_each(sum, next, |s, n| double(s) ^ n);
+    Ok(())
 }

@@ -1,6 +1,6 @@
 -- A row's sum in steps. A list of steps makes a number from 0: a step below n adds the byte of that shard, any other step
 -- doubles. So the bits of the coefficients are taken from the highest down. Assumes nothing.
-use Rattle.std.specs.Prelude.{◌≡◌, Bool, true, false, cond, List, ◌≢◌, ℕ, zero, suc, ◌+◌, ◌*◌, ◌/◌, ◌%◌, ◌≤◌, ◌<◌, ltb, length, get_or}
+use Rattle.std.specs.Prelude.{◌≡◌, Bool, true, false, cond, List, ◌≢◌, ℕ, zero, suc, ◌+◌, ◌-◌, ◌*◌, ◌/◌, ◌%◌, ◌≤◌, ◌<◌, ltb, min, length, get_or}
 use Rattle.std.specs.Int.Bits.{bit_xor}
 use Rattle.field.specs.Field.{mul_of, g, pick}
 use Rattle.codeword.specs.Sum.{total}
@@ -42,13 +42,22 @@ chosen n table at a bit x = total n (λ r. pick (weight table at a r / bit % 2) 
 abbrev pub Plan : ℕ → List ℕ → ℕ → ℕ → List ℕ → ℕ → Type 0
 Plan n table at a steps m = (x : ℕ → ℕ) → Bytes x → made_by n steps x m ≡ total n (λ r. mul_of (weight table at a r) (x r))
 
--- a block that has position p and ends within len starts at q
-pub record Start (p len q : ℕ) : Type 0 where
-  pub low : q ≤ p
-  pub has : p < q + columns
-  pub fits : q + columns ≤ len
+-- where block i starts: behind the others, but it ends within len
+abbrev pub start_of : ℕ → ℕ → ℕ
+start_of i len = min (i * columns) (len - columns)
 
 -- whether the first k bytes are all 0; if not, there is one that isn't
 abbrev pub Zeros : Bool → ℕ → List ℕ → Type 0
 Zeros true k y = (j : ℕ) → j < k → get_or y j 0 ≡ 0
 Zeros false k y = (j : ℕ) × (j < k) × (get_or y j 0 ≢ 0)
+
+-- whether f is 0 at each position of the block at q; if not, there is one where it isn't
+abbrev pub BlockZero : Bool → ℕ → (ℕ → ℕ) → Type 0
+BlockZero true q f = (j : ℕ) → j < columns → f (q + j) ≡ 0
+BlockZero false q f = (j : ℕ) × (j < columns) × (f (q + j) ≢ 0)
+
+-- a block that has position p and ends within len starts at q
+pub record Start (p len q : ℕ) : Type 0 where
+  pub low : q ≤ p
+  pub has : p < q + columns
+  pub fits : q + columns ≤ len

@@ -1,21 +1,26 @@
 // Rows of a table over the bytes of a stripe: one shard as the sum of the others, each times its coefficient, and whether a row's sum is 0 at
 // every position. A stripe is n shards of `len` bytes, one behind the other, at the start of a slice. Both functions take any numbers and
-// any slices; where these don't fit they do nothing.
+// any slices; where these don't fit they do nothing. Short shards are walked byte by byte, longer ones block by block; one walk writes and the
+// other tests, so each has its own, and what they share is `Weighed` and the steps.
 #![tactic(auto)]
 
-ghost use Rattle.std.specs.Prelude.{◌≡◌, ◌&&◌, ◌+◌, ◌*◌, ◌≤◌, ◌<◌, ltb, length};
-ghost use Rattle.kernel.specs.Kernel.{fits_of, Shards, Combined, RowZero, Combines, Tests};
+ghost use Rattle.std.specs.Prelude.{◌≡◌, ◌&&◌, ltb, length};
+ghost use Rattle.kernel.specs.Kernel.{fits_of, Combines, Tests};
 
 mod blocks;
 mod bytes;
+mod weighed;
+
+use crate::weighed::Weighed;
 
 // The most shards that the room for a row's steps is made for.
 const N_MOST: usize = 64;
 
 // The limit of document 01, section 2.
-const LEN_MOST: usize = 4096;
+pub const LEN_MOST: usize = 4096;
 
-// Whether a slice of `size` bytes has n shards of `len`, and a table of `room` bytes a row of n at `at`.
+// Whether a slice of `size` bytes has n shards of `len`, and a table of `room` bytes a row of n at `at`. (One test after the other: as one
+// expression it was tried, and the proof of its joins didn't close.)
 fn fits(n: usize, len: usize, size: usize, at: usize, room: usize) -> bool
     ensures { result ≡ fits_of n len size at room }
 {
@@ -34,18 +39,6 @@ fn fits(n: usize, len: usize, size: usize, at: usize, room: usize) -> bool
     at <= room - n
 }
 
-// What `combine` does where all fits.
-fn combine_fitting(buf: &mut [u8], n: usize, len: usize, a: usize, table: &[u8], at: usize)
-    requires { Shards n len (length buf.old) × (a < n) × (at + n ≤ length table.now) }
-    ensures { Combined n len a table.now at buf.old buf.new }
-{
-    if len < blocks::COLUMNS {
-        bytes::combine_bytes(buf, n, len, a, table, at);
-    } else {
-        blocks::combine_blocks(buf, n, len, a, table, at);
-    }
-}
-
 // Makes shard a the sum of the others, each times its coefficient in the row at `at` of a table. Where the slices don't fit, or there is no
 // shard a, nothing changes.
 pub fn combine(buf: &mut [u8], n: usize, len: usize, a: usize, table: &[u8], at: usize)
@@ -57,18 +50,11 @@ pub fn combine(buf: &mut [u8], n: usize, len: usize, a: usize, table: &[u8], at:
     if n <= a {
         return;
     }
-    combine_fitting(buf, n, len, a, table, at);
-}
-
-// What `row_zero` says where all fits.
-fn row_zero_fitting(stripe: &[u8], n: usize, len: usize, table: &[u8], at: usize) -> bool
-    requires { Shards n len (length stripe.now) × (at + n ≤ length table.now) }
-    ensures { RowZero result n len stripe.now table.now at }
-{
+    let row = &table[at..at + n];
     if len < blocks::COLUMNS {
-        bytes::row_zero_bytes(stripe, n, len, table, at)
+        bytes::combine_bytes(buf, len, a, row);
     } else {
-        blocks::row_zero_blocks(stripe, n, len, table, at)
+        blocks::combine_blocks(buf, len, a, row);
     }
 }
 
@@ -80,5 +66,11 @@ pub fn row_zero(stripe: &[u8], n: usize, len: usize, table: &[u8], at: usize) ->
     if !fits(n, len, stripe.len(), at, table.len()) {
         return false;
     }
-    row_zero_fitting(stripe, n, len, table, at)
+    let row = &table[at..at + n];
+    let shards = Weighed { row, stripe, len };
+    if len < blocks::COLUMNS {
+        bytes::row_zero_bytes(&shards)
+    } else {
+        blocks::row_zero_blocks(&shards)
+    }
 }

@@ -10,7 +10,9 @@ use native.Mathlib.Numerals.{add-one}
 use native.Mathlib.Omega.{arith}
 use lib.Dec.{ltb, eqb}
 use borrow.Author.Tests.{ltb-true, ltb-false, eqb-true}
-use Rattle.disk.specs.Tests.{and_left, and_right, both}
+use Rattle.std.specs.Prelude.{Some, None}
+use Rattle.std.specs.List.{fold, range_with_len}
+use Rattle.disk.specs.Tests.{and_left, and_right}
 use lib.ListN.{length}
 use Rattle.disk.specs.Image.{fits_image, read_of}
 use Rattle.disk.specs.Mask.{in_mask}
@@ -19,18 +21,17 @@ use Rattle.label.specs.Fields.{fits_of}
 use Rattle.label.specs.Newest.{newer, newest_of, copy_of, disk_label, present_label, shelf_label, same_shelf, agreeing, standing, all_of, agreed}
 use Rattle.label.proofs.Laws.{Meant, decode_says}
 use Rattle.label.specs.declared.fields.Label.{Label}
-use Rattle.label.specs.declared.codec.Decoded.{Decoded}
-use Rattle.label.specs.declared.codec.Decoded.TheVariants.{Valid, Nothing}
+use Rattle.label.specs.Fields.{Decoded}
 
 -- ---- one more
 
-pub newest_turn : (f : ℕ → Decoded) (n : ℕ) → newer (newest_of f n) (f n) ≡ newest_of f (n + 1)
+-- from the newest of the first a over n more
+pub newest_on : (f : ℕ → Decoded) (a n : ℕ) → fold (λ x d. newer x (f d)) (newest_of f a) (range_with_len a n) ≡ newest_of f (a + n)
 unfolding newest_of
-newest_turn f n = ap (newest_of f) (sym (add-one n))
-
-pub all_turn : (p : ℕ → Bool) (n : ℕ) → all_of p n ≡ true → p n ≡ true → all_of p (n + 1) ≡ true
-unfolding all_of
-all_turn p n e h = ap (all_of p) (add-one n) ∙ both (all_of p n) (p n) e h
+newest_on f a zero = ap (newest_of f) (let e : a ≡ a + 0 = omega arith in e)
+newest_on f a (suc n) =
+    ap (λ (x : Decoded). fold (λ x d. newer x (f d)) x (range_with_len (a + 1) n)) (ap (newest_of f) (sym (add-one a)))
+    ∙ newest_on f (a + 1) n ∙ ap (newest_of f) (let e : a + 1 + n ≡ a + suc n = omega arith in e)
 
 -- ---- a test that holds of all, and one that fails
 
@@ -55,16 +56,16 @@ all_not p n d h e = by (all_of p n) refl
 pub record Newest (f : ℕ → Decoded) (n : ℕ) (l : Label) : Type 0 where
   pub whose : ℕ
   pub among : whose < n
-  pub is : f whose ≡ Valid l
-  pub greatest : (d : ℕ) (x : Label) → d < n → f d ≡ Valid x → x.generation ≤ l.generation
+  pub is : f whose ≡ Some l
+  pub greatest : (d : ℕ) (x : Label) → d < n → f d ≡ Some x → x.generation ≤ l.generation
 
 -- what a step of the search makes of the newest so far
 newest_step : (f : ℕ → Decoded) (n : ℕ) (old new : Decoded) → f n ≡ new
-    → ((l : Label) → old ≡ Valid l → Newest f n l)
-    → (old ≡ Nothing → (d : ℕ) (x : Label) → d < n → f d ≡ Valid x → ⊥)
-    → (l : Label) → newer old new ≡ Valid l → Newest f (suc n) l
-newest_step f n Nothing Nothing e some none l q = absurd (let z : ◌≡◌ {A = ℕ} 0 1 = cc in omega arith)
-newest_step f n Nothing (Valid b) e some none l q =
+    → ((l : Label) → old ≡ Some l → Newest f n l)
+    → (old ≡ None → (d : ℕ) (x : Label) → d < n → f d ≡ Some x → ⊥)
+    → (l : Label) → newer old new ≡ Some l → Newest f (suc n) l
+newest_step f n None None e some none l q = absurd (let z : ◌≡◌ {A = ℕ} 0 1 = cc in omega arith)
+newest_step f n None (Some b) e some none l q =
     record {
       whose = n;
       among = omega arith;
@@ -74,7 +75,7 @@ newest_step f n Nothing (Valid b) e some none l q =
           ⊎_elim (λ (p : d ≡ n). let g : x ≡ l = cc in omega (arith, ap (λ (y : Label). y.generation) g)) (λ (p : d < n). absurd (none refl d x p r))
           (eq-or-lt_of_le k);
     }
-newest_step f n (Valid a) Nothing e some none l q =
+newest_step f n (Some a) None e some none l q =
     let s = some l q in
     record {
       whose = s.whose;
@@ -84,9 +85,9 @@ newest_step f n (Valid a) Nothing e some none l q =
           let k : d ≤ n = omega arith in
           ⊎_elim (λ (p : d ≡ n). absurd (let z : ◌≡◌ {A = ℕ} 0 1 = cc in omega arith)) (λ (p : d < n). s.greatest d x p r) (eq-or-lt_of_le k);
     }
-newest_step f n (Valid a) (Valid b) e some none l q = by (ltb a.generation b.generation) refl q
+newest_step f n (Some a) (Some b) e some none l q = by (ltb a.generation b.generation) refl q
   where
-    by : (t : Bool) → ltb a.generation b.generation ≡ t → cond t (Valid b) (Valid a) ≡ Valid l → Newest f (suc n) l
+    by : (t : Bool) → ltb a.generation b.generation ≡ t → cond t (Some b) (Some a) ≡ Some l → Newest f (suc n) l
     by true t q =
         let s = some a refl in
         let w : b ≡ l = cc in
@@ -114,18 +115,18 @@ newest_step f n (Valid a) (Valid b) e some none l q = by (ltb a.generation b.gen
               (λ (p : d < n). s.greatest d x p r) (eq-or-lt_of_le k);
         }
 
-newer_nothing : (old new : Decoded) → newer old new ≡ Nothing → (old ≡ Nothing) × (new ≡ Nothing)
-newer_nothing Nothing Nothing q = (refl, refl)
-newer_nothing Nothing (Valid b) q = absurd (let z : ◌≡◌ {A = ℕ} 0 1 = cc in omega arith)
-newer_nothing (Valid a) Nothing q = absurd (let z : ◌≡◌ {A = ℕ} 0 1 = cc in omega arith)
-newer_nothing (Valid a) (Valid b) q = by (ltb a.generation b.generation) q
+newer_nothing : (old new : Decoded) → newer old new ≡ None → (old ≡ None) × (new ≡ None)
+newer_nothing None None q = (refl, refl)
+newer_nothing None (Some b) q = absurd (let z : ◌≡◌ {A = ℕ} 0 1 = cc in omega arith)
+newer_nothing (Some a) None q = absurd (let z : ◌≡◌ {A = ℕ} 0 1 = cc in omega arith)
+newer_nothing (Some a) (Some b) q = by (ltb a.generation b.generation) q
   where
-    by : (t : Bool) → cond t (Valid b) (Valid a) ≡ Nothing → (Valid a ≡ Nothing) × (Valid b ≡ Nothing)
+    by : (t : Bool) → cond t (Some b) (Some a) ≡ None → (Some a ≡ None) × (Some b ≡ None)
     by true q = absurd (let z : ◌≡◌ {A = ℕ} 0 1 = cc in omega arith)
     by false q = absurd (let z : ◌≡◌ {A = ℕ} 0 1 = cc in omega arith)
 
 -- there is no newest only where there is none at all
-pub newest_none : (f : ℕ → Decoded) (n : ℕ) → newest_of f n ≡ Nothing → (d : ℕ) (x : Label) → d < n → f d ≡ Valid x → ⊥
+pub newest_none : (f : ℕ → Decoded) (n : ℕ) → newest_of f n ≡ None → (d : ℕ) (x : Label) → d < n → f d ≡ Some x → ⊥
 unfolding newest_of
 newest_none f zero q d x h r = omega arith
 newest_none f (suc n) q d x h r =
@@ -134,7 +135,7 @@ newest_none f (suc n) q d x h r =
     let below = newest_none f n p.0 d x in
     ⊎_elim (λ (e : d ≡ n). let z : ◌≡◌ {A = ℕ} 0 1 = cc p.1 in omega arith) (λ (l : d < n). below l r) (eq-or-lt_of_le k)
 
-pub newest_is : (f : ℕ → Decoded) (n : ℕ) (l : Label) → newest_of f n ≡ Valid l → Newest f n l
+pub newest_is : (f : ℕ → Decoded) (n : ℕ) (l : Label) → newest_of f n ≡ Some l → Newest f n l
 unfolding newest_of
 newest_is f zero l q = absurd (let z : ◌≡◌ {A = ℕ} 0 1 = cc in omega arith)
 newest_is f (suc n) l q = newest_step f n (newest_of f n) (f n) refl (newest_is f n) (newest_none f n) l q
@@ -142,36 +143,36 @@ newest_is f (suc n) l q = newest_step f n (newest_of f n) (f n) refl (newest_is 
 -- ---- a disk's label and the shelf's
 
 -- a disk's label is a valid copy of that slot
-pub disk_says : (g : Geometry) (img : List ℕ) (d : ℕ) (l : Label) → disk_label g img d ≡ Valid l → Newest (copy_of g img d) 2 l
+pub disk_says : (g : Geometry) (img : List ℕ) (d : ℕ) (l : Label) → disk_label g img d ≡ Some l → Newest (copy_of g img d) 2 l
 unfolding disk_label
 disk_says g img d l e = newest_is (copy_of g img d) 2 l e
 
-pub copy_says : (g : Geometry) (img : List ℕ) (d s : ℕ) (l : Label) → copy_of g img d s ≡ Valid l → Meant (read_of g img d s) d s l
+pub copy_says : (g : Geometry) (img : List ℕ) (d s : ℕ) (l : Label) → copy_of g img d s ≡ Some l → Meant (read_of g img d s) d s l
 unfolding copy_of
 copy_says g img d s l e = decode_says (read_of g img d s) d s l e
 
-pub disk_own : (g : Geometry) (img : List ℕ) (d : ℕ) (l : Label) → disk_label g img d ≡ Valid l → (l.slot ≡ d) × (fits_of l ≡ true)
+pub disk_own : (g : Geometry) (img : List ℕ) (d : ℕ) (l : Label) → disk_label g img d ≡ Some l → (l.slot ≡ d) × (fits_of l ≡ true)
 disk_own g img d l e =
     let n = disk_says g img d l e in
     let m = copy_says g img d n.whose l n.is in
     (m.own, m.fit)
 
-pub shelf_says : (g : Geometry) (img : List ℕ) (absent : ℕ) (l : Label) → shelf_label g img absent ≡ Valid l
+pub shelf_says : (g : Geometry) (img : List ℕ) (absent : ℕ) (l : Label) → shelf_label g img absent ≡ Some l
     → Newest (present_label g img absent) g.n l
 unfolding shelf_label
 shelf_says g img absent l e = by (fits_image g (length img)) e
   where
-    by : (b : Bool) → cond b (newest_of (present_label g img absent) g.n) Nothing ≡ Valid l → Newest (present_label g img absent) g.n l
+    by : (b : Bool) → cond b (newest_of (present_label g img absent) g.n) None ≡ Some l → Newest (present_label g img absent) g.n l
     by true q = newest_is (present_label g img absent) g.n l q
     by false q = absurd (let z : ◌≡◌ {A = ℕ} 0 1 = cc in omega arith)
 
 -- the label of a present disk
-pub present_says : (g : Geometry) (img : List ℕ) (absent d : ℕ) (l : Label) → present_label g img absent d ≡ Valid l
-    → (in_mask absent d ≡ false) × (disk_label g img d ≡ Valid l)
+pub present_says : (g : Geometry) (img : List ℕ) (absent d : ℕ) (l : Label) → present_label g img absent d ≡ Some l
+    → (in_mask absent d ≡ false) × (disk_label g img d ≡ Some l)
 unfolding present_label
 present_says g img absent d l = by (in_mask absent d)
   where
-    by : (b : Bool) → cond b Nothing (disk_label g img d) ≡ Valid l → (b ≡ false) × (disk_label g img d ≡ Valid l)
+    by : (b : Bool) → cond b None (disk_label g img d) ≡ Some l → (b ≡ false) × (disk_label g img d ≡ Some l)
     by true q = absurd (let z : ◌≡◌ {A = ℕ} 0 1 = cc in omega arith)
     by false q = (refl, q)
 
@@ -201,7 +202,7 @@ same_says x y e =
 -- a disk's label that agrees with l
 pub record Stands (g : Geometry) (img : List ℕ) (l : Label) (d : ℕ) : Type 0 where
   pub label : Label
-  pub is : disk_label g img d ≡ Valid label
+  pub is : disk_label g img d ≡ Some label
   pub same : SameShelf l label
 
 -- each present disk has a label, and it agrees with l
@@ -214,5 +215,5 @@ agreed_says g img absent l e d h p =
   where
     by : (b : Bool) → b ≡ false → (x : Decoded) → disk_label g img d ≡ x → (b || agreeing l x) ≡ true → Stands g img l d
     by true p x q t = absurd (let z : ◌≡◌ {A = ℕ} 0 1 = cc in omega arith)
-    by false p Nothing q t = absurd (let z : ◌≡◌ {A = ℕ} 0 1 = cc in omega arith)
-    by false p (Valid x) q t = record { label = x; is = q; same = same_says l x t }
+    by false p None q t = absurd (let z : ◌≡◌ {A = ℕ} 0 1 = cc in omega arith)
+    by false p (Some x) q t = record { label = x; is = q; same = same_says l x t }

@@ -8,7 +8,8 @@ use borrow.Author.Tests.{leb-true, ltb-true, eqb-true}
 use Rattle.disk.specs.Limits.{most_k, most_m}
 use Rattle.disk.specs.Tests.{and_left, and_right}
 use Rattle.disk.specs.Mask.{in_mask}
-use Rattle.disk.specs.Geometry.{in_range_with, stripes_of, InRange, Splits, in_range_with_lem}
+use Rattle.disk.specs.declared.geometry.Geometry.{Geometry}
+use Rattle.disk.specs.Geometry.{in_range, splits, in_range_with, stripes_of, InRange, Splits, in_range_with_lem}
 use Rattle.label.specs.Fields.{no_slot, most_generation, geometry_of, rebuild_fits, fits_of}
 use Rattle.label.specs.declared.fields.Label.{Label}
 
@@ -24,6 +25,10 @@ pub record Fits (l : Label) : Type 0 where
   pub slot_small : l.rebuilding ≤ no_slot
   pub mark_below : l.mark ≤ stripes_of (geometry_of l)
   pub rebuild : rebuild_fits l ≡ true
+
+pub range_of : (g : Geometry) (k : ℕ) → in_range_with g k ≡ true → in_range g ≡ true
+unfolding in_range_with
+range_of g k e = and_left (in_range g) (splits g.n k) e
 
 rebuild_says : (l : Label) → l.k + l.m ≤ 255 → rebuild_fits l ≡ true → (l.rebuilding ≤ no_slot) × (l.mark ≤ stripes_of (geometry_of l))
 unfolding rebuild_fits

@@ -10,6 +10,7 @@ use lib.Dec.{eqb}
 use lib.Pow.{pow_mono}
 use lib.ListN.{length, get_or, take, replicate}
 use borrow.Author.Tests.{eq-eqb, eqb-true}
+use Rattle.std.specs.Prelude.{Some, None}
 use Rattle.crc32c.specs.Crc.{crc_of}
 use Rattle.crc32c.proofs.Laws.{crc_lt}
 use Rattle.disk.specs.Tests.{and_left, and_right, both}
@@ -19,7 +20,6 @@ use Rattle.label.specs.Fields.{geometry_of, fits_of}
 use Rattle.label.specs.Bytes.{letters, version, written, table, label_bytes, sealed, all_zero}
 use Rattle.label.specs.Valid.{label_at, zeros_of, valid_of, decode_of}
 use Rattle.label.specs.declared.fields.Label.{Label}
-use Rattle.label.specs.declared.codec.Decoded.TheVariants.{Valid, Nothing}
 use Rattle.label.proofs.Build.{length_sealed}
 use Rattle.label.proofs.Fits.{Fits, fits_says}
 
@@ -117,7 +117,7 @@ sum_read l = value_back 4 (crc_of (label_bytes l)) (sum_lt l)
 
 -- a label that fits is valid in its own slot, in the sector that its generation calls for, and comes back from there
 pub decode_encode : (l : Label) → fits_of l ≡ true → l.shelf < 18446744073709551616
-    → decode_of (sealed l) l.slot (l.generation % 2) ≡ Valid l
+    → decode_of (sealed l) l.slot (l.generation % 2) ≡ Some l
 unfolding valid_of decode_of
 decode_encode l e h =
     let q : label_at (sealed l) ≡ l = label_back l (fits_says l e) h in
@@ -129,10 +129,10 @@ decode_encode l e h =
     (both _ _ (ap fits_of q ∙ e)
     (both _ _ (eq-eqb _ _ (ap (λ (x : Label). x.slot) q))
     (both _ _ (eq-eqb _ _ (sum_read l)) (eq-eqb _ _ (ap (λ (x : Label). x.generation % 2) q)))))))) in
-    ap₂ (λ (b : Bool) (x : Label). cond b (Valid x) Nothing) v q
+    ap₂ (λ (b : Bool) (x : Label). cond b (Some x) None) v q
 
 -- a sector of zeros is no label, of no slot and in no sector
-pub zeros_nothing : (d s : ℕ) → decode_of (replicate 512 0) d s ≡ Nothing
+pub zeros_nothing : (d s : ℕ) → decode_of (replicate 512 0) d s ≡ None
 unfolding number_at valid_of decode_of
 zeros_nothing d s = refl
 
@@ -160,10 +160,10 @@ valid_says b d s e =
       place = eqb-true ((label_at b).generation % 2) s e7;
     }
 
-pub decode_says : (b : List ℕ) (d s : ℕ) (l : Label) → decode_of b d s ≡ Valid l → Meant b d s l
+pub decode_says : (b : List ℕ) (d s : ℕ) (l : Label) → decode_of b d s ≡ Some l → Meant b d s l
 unfolding decode_of
 decode_says b d s l = by (valid_of b d s) refl
   where
-    by : (v : Bool) → valid_of b d s ≡ v → cond v (Valid (label_at b)) Nothing ≡ Valid l → Meant b d s l
+    by : (v : Bool) → valid_of b d s ≡ v → cond v (Some (label_at b)) None ≡ Some l → Meant b d s l
     by true e q = let p : label_at b ≡ l = cc in subst (Meant b d s) p (valid_says b d s e)
     by false e q = absurd (let z : ◌≡◌ {A = ℕ} 0 1 = cc in omega arith)

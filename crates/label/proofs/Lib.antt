@@ -1,6 +1,5 @@
 pub mod Zeros
 pub mod Build
-pub mod Told
 pub mod Fits
 pub mod Laws
 pub mod Counts

@@ -9,6 +9,7 @@ use lib.Dec.{eqb, lit≤}
 use lib.ListN.{length, get_or, take, drop, drop_of_length-le, take-append-drop, length-drop}
 use lib.Seq.{drop-cons, drop-drop, length-take-le}
 use borrow.Author.Tests.{eqb-true}
+use Rattle.std.specs.Prelude.{Some, None}
 use Rattle.crc32c.specs.Crc.{crc_of}
 use Rattle.disk.specs.Tests.{and_left, and_right}
 use Rattle.disk.specs.Number.{number_at, bytes_of}
@@ -16,7 +17,6 @@ use Rattle.label.specs.Fields.{fits_of}
 use Rattle.label.specs.Bytes.{letters, version, label_bytes, sealed, all_zero}
 use Rattle.label.specs.Valid.{label_at, zeros_of, valid_of, decode_of}
 use Rattle.label.specs.declared.fields.Label.{Label}
-use Rattle.label.specs.declared.codec.Decoded.TheVariants.{Valid, Nothing}
 
 -- bytes are the low bytes of their number
 part_number : (w : ℕ) (b : List ℕ) (at : ℕ) → ((k : ℕ) → get_or b k 0 < 256) → at + w ≤ length b → take w (drop at b) ≡ bytes_of w (number_at w b at)
@@ -96,10 +96,10 @@ valid_bytes b d s small e =
     ∙ ap (put 4 (crc_of (take 508 b))) (drop_of_length-le b {i = 512} (omega arith))))))))))))))))) in
     is ∙ ap (λ (x : ℕ). label_bytes l ++ bytes_of 4 x) (ap crc_of (ap (take 508) is ∙ before_any l (crc_of (take 508 b))))
 
-pub decode_bytes : (b : List ℕ) (d s : ℕ) (l : Label) → ((k : ℕ) → get_or b k 0 < 256) → decode_of b d s ≡ Valid l → b ≡ sealed l
+pub decode_bytes : (b : List ℕ) (d s : ℕ) (l : Label) → ((k : ℕ) → get_or b k 0 < 256) → decode_of b d s ≡ Some l → b ≡ sealed l
 unfolding decode_of
 decode_bytes b d s l small = by (valid_of b d s) refl
   where
-    by : (v : Bool) → valid_of b d s ≡ v → cond v (Valid (label_at b)) Nothing ≡ Valid l → b ≡ sealed l
+    by : (v : Bool) → valid_of b d s ≡ v → cond v (Some (label_at b)) None ≡ Some l → b ≡ sealed l
     by true e q = let p : label_at b ≡ l = cc in valid_bytes b d s small e ∙ ap sealed p
     by false e q = absurd (let z : ◌≡◌ {A = ℕ} 0 1 = cc in omega arith)

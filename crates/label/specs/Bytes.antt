@@ -1,11 +1,10 @@
 -- The bytes of a label: the document's table, row by row, then the checksum of what stands before it. Assumes nothing.
-use Rattle.std.specs.Prelude.{Bool, true, ◌&&◌, cond, List, [], ◌∷◌, ◌++◌, ℕ, eqb, replicate}
+use Rattle.std.specs.Prelude.{Bool, true, ◌&&◌, cond, List, [], ◌∷◌, ◌++◌, ℕ, eqb, replicate, Ok, Err}
 use Rattle.crc32c.specs.Crc.{crc_of}
 use Rattle.disk.specs.Limits.{sector_bytes}
 use Rattle.disk.specs.Number.{bytes_of}
 use Rattle.disk.specs.declared.refusal.Refusal.TheVariants.{BadImage}
-use Rattle.disk.specs.declared.refusal.Outcome.{Outcome}
-use Rattle.disk.specs.declared.refusal.Outcome.TheVariants.{Done, Refused}
+use Rattle.disk.specs.Refusal.{Outcome}
 use Rattle.label.specs.Fields.{fits_of}
 use Rattle.label.specs.declared.fields.Label.{Label}
 
@@ -49,9 +48,9 @@ all_zero (x ∷ l) = eqb x 0 && all_zero l
 
 -- BAD_IMAGE where the sector is not 512 bytes or a number is out of range
 unfoldable pub encode_answer : Label → ℕ → Outcome
-encode_answer l len = cond (eqb len sector_bytes && fits_of l) Done (Refused BadImage)
+encode_answer l len = cond (eqb len sector_bytes && fits_of l) (Ok tt) (Err BadImage)
 
 -- and what it leaves
 abbrev pub after_encode : Outcome → Label → List ℕ → List ℕ
-after_encode Done l b = sealed l
-after_encode (Refused why) l b = b
+after_encode (Ok tt) l b = sealed l
+after_encode (Err why) l b = b

@@ -1,10 +1,14 @@
 -- The numbers of a label, and which of them can be. Assumes nothing.
-use Rattle.std.specs.Prelude.{Bool, ◌&&◌, cond, ℕ, ◌+◌, ◌^◌, leb, ltb, eqb}
+use Rattle.std.specs.Prelude.{Bool, not, ◌&&◌, cond, ℕ, ◌+◌, ◌^◌, leb, ltb, eqb, Option}
 use Rattle.disk.specs.Limits.{most_k, most_m}
 use Rattle.disk.specs.Geometry.{in_range_with, stripes_of}
 use Rattle.disk.specs.Mask.{in_mask}
 use Rattle.disk.specs.declared.geometry.Geometry.{Geometry}
 use Rattle.label.specs.declared.fields.Label.{Label}
+
+-- what a sector is, as a label
+abbrev pub Decoded : Type 0
+Decoded = Option Label
 
 -- no slot is being rebuilt
 abbrev pub no_slot : ℕ
@@ -17,6 +21,10 @@ most_generation = 9223372036854775807
 -- n, c and S
 abbrev pub geometry_of : Label → Geometry
 geometry_of l = record { n = l.k + l.m; c = l.c; sectors = l.sectors }
+
+-- slot d is out, and it is not the one being rebuilt
+unfoldable pub calls_out : Label → ℕ → Bool
+calls_out l d = in_mask l.out d && not (eqb d l.rebuilding)
 
 -- no slot is being rebuilt, and the mark is 0; or it is a slot that is out, and the mark is at most T
 unfoldable pub rebuild_fits : Label → Bool

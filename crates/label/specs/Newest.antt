@@ -1,22 +1,21 @@
 -- Which label counts, of a disk and of the shelf, and when labels disagree. Assumes nothing.
-use Rattle.std.specs.Prelude.{Bool, true, false, ◌&&◌, ◌||◌, cond, List, ℕ, zero, suc, ltb, eqb, length}
+use Rattle.std.specs.Prelude.{Bool, true, false, ◌&&◌, ◌||◌, cond, List, ℕ, zero, suc, ltb, eqb, length, Some, None}
 use Rattle.disk.specs.Image.{fits_image, read_of}
 use Rattle.disk.specs.Mask.{in_mask}
 use Rattle.disk.specs.declared.geometry.Geometry.{Geometry}
 use Rattle.label.specs.Valid.{decode_of}
 use Rattle.label.specs.declared.fields.Label.{Label}
-use Rattle.label.specs.declared.codec.Decoded.{Decoded}
-use Rattle.label.specs.declared.codec.Decoded.TheVariants.{Valid, Nothing}
+use Rattle.label.specs.Fields.{Decoded}
 
 -- the newer of two; the first where they are of one generation
 abbrev pub newer : Decoded → Decoded → Decoded
-newer Nothing y = y
-newer (Valid a) Nothing = Valid a
-newer (Valid a) (Valid b) = cond (ltb a.generation b.generation) (Valid b) (Valid a)
+newer None y = y
+newer (Some a) None = Some a
+newer (Some a) (Some b) = cond (ltb a.generation b.generation) (Some b) (Some a)
 
 -- the newest of the first n: see `newest_is`
 unfoldable pub newest_of : (ℕ → Decoded) → ℕ → Decoded
-newest_of f zero = Nothing
+newest_of f zero = None
 newest_of f (suc n) = newer (newest_of f n) (f n)
 
 -- what stands in sector s of slot d, as a label
@@ -29,11 +28,11 @@ disk_label g img d = newest_of (copy_of g img d) 2
 
 -- of a present disk
 unfoldable pub present_label : Geometry → List ℕ → ℕ → ℕ → Decoded
-present_label g img absent d = cond (in_mask absent d) Nothing (disk_label g img d)
+present_label g img absent d = cond (in_mask absent d) None (disk_label g img d)
 
 -- the shelf's label: the greatest among its present disks
 unfoldable pub shelf_label : Geometry → List ℕ → ℕ → Decoded
-shelf_label g img absent = cond (fits_image g (length img)) (newest_of (present_label g img absent) g.n) Nothing
+shelf_label g img absent = cond (fits_image g (length img)) (newest_of (present_label g img absent) g.n) None
 
 -- two labels agree in k, m, c, S and the shelf number; all valid labels are of version 1
 unfoldable pub same_shelf : Label → Label → Bool
@@ -42,8 +41,8 @@ same_shelf x y =
 
 -- there is a label, and it agrees with l
 abbrev pub agreeing : Label → Decoded → Bool
-agreeing l (Valid x) = same_shelf l x
-agreeing l Nothing = false
+agreeing l (Some x) = same_shelf l x
+agreeing l None = false
 
 -- slot d is absent, or its disk has a label that agrees with l
 unfoldable pub standing : Geometry → List ℕ → ℕ → Label → ℕ → Bool

@@ -1,13 +1,12 @@
 -- What a sector says as a label: the meaning of valid, clause by clause. Assumes nothing.
-use Rattle.std.specs.Prelude.{Bool, ◌&&◌, cond, List, ℕ, ◌%◌, eqb, length, get_or, take, drop}
+use Rattle.std.specs.Prelude.{Bool, ◌&&◌, cond, List, ℕ, ◌%◌, eqb, length, get_or, take, drop, Some, None}
 use Rattle.crc32c.specs.Crc.{crc_of}
 use Rattle.disk.specs.Limits.{sector_bytes}
 use Rattle.disk.specs.Number.{number_at}
 use Rattle.label.specs.Fields.{fits_of}
 use Rattle.label.specs.Bytes.{letters, version, checksum_at, all_zero}
 use Rattle.label.specs.declared.fields.Label.{Label}
-use Rattle.label.specs.declared.codec.Decoded.{Decoded}
-use Rattle.label.specs.declared.codec.Decoded.TheVariants.{Valid, Nothing}
+use Rattle.label.specs.Fields.{Decoded}
 
 -- the fields at their offsets
 unfoldable pub label_at : List ℕ → Label
@@ -41,4 +40,4 @@ valid_of b d s =
     && (eqb (label_at b).slot d && (eqb (number_at 4 b checksum_at) (crc_of (take checksum_at b)) && eqb ((label_at b).generation % 2) s))))))
 
 unfoldable pub decode_of : List ℕ → ℕ → ℕ → Decoded
-decode_of b d s = cond (valid_of b d s) (Valid (label_at b)) Nothing
+decode_of b d s = cond (valid_of b d s) (Some (label_at b)) None

@@ -7,14 +7,7 @@ ghost use Rattle.label.specs.Valid.{label_at, zeros_of, decode_of};
 use crate::fields::{Label, fits};
 use disk::limits::SECTOR;
 use disk::number::{byte_at, put_u16, put_u32, put_u64, u16_at, u32_at, u64_at};
-use disk::refusal::{Outcome, Refusal};
-
-// What a sector is, as a label.
-#[derive(Clone, Copy)]
-pub enum Decoded {
-    Valid(Label),
-    Nothing,
-}
+use disk::refusal::Refusal;
 
 // The letters SHELFRS1, lowest byte first.
 const LETTERS: u64 = 0x315352464c454853;
@@ -28,21 +21,14 @@ const CHECKSUM: usize = 508;
 pub fn is_zero(bytes: &[u8]) -> bool
     ensures { result ≡ all_zero bytes.now }
 {
-    let mut i = 0;
-    while i < bytes.len() {
-        if bytes[i] != 0 {
-            return false;
-        }
-        i += 1;
-    }
-    true
+    bytes.iter().all(|b| *b == 0)
 }
 
 // The label's bytes, with zeros for the checksum.
-fn unsealed_of(l: Label) -> [u8; 512]
+fn unsealed_of(l: Label) -> [u8; SECTOR]
     ensures { result ≡ unsealed l }
 {
-    let mut b = [0u8; 512];
+    let mut b = [0; SECTOR];
     put_u64(&mut b, 0, LETTERS);
     put_u16(&mut b, 8, VERSION);
     b[10] = (l.k % 256) as u8;
@@ -59,20 +45,18 @@ fn unsealed_of(l: Label) -> [u8; 512]
 }
 
 // Writes the label to a sector, or refuses and changes nothing.
-pub fn encode(l: Label, sector: &mut [u8]) -> Outcome
+#[tactic(auto, unfolding(crate::specs::Bytes::encode_answer))]
+pub fn encode(l: Label, sector: &mut [u8]) -> Result<(), Refusal>
     ensures { (result ≡ encode_answer l (length sector.old)) × (sector.new ≡ after_encode result l sector.old) }
 {
-    if sector.len() != SECTOR {
-        return Outcome::Refused(Refusal::BadImage);
-    }
-    if !fits(l) {
-        return Outcome::Refused(Refusal::BadImage);
+    if sector.len() != SECTOR || !fits(l) {
+        return Err(Refusal::BadImage);
     }
     let mut b = unsealed_of(l);
     let checksum = crc32c::crc32c(&b[..CHECKSUM]);
-    put_u32(&mut b, CHECKSUM, checksum as u64);
+    put_u32(&mut b, CHECKSUM, u64::from(checksum));
     sector.copy_from_slice(&b);
-    Outcome::Done
+    Ok(())
 }
 
 // The fields at their offsets.
@@ -94,47 +78,29 @@ fn label_at(b: &[u8]) -> Label
 }
 
 // Whether the bytes that a label leaves at 0 are 0.
+#[tactic(auto, unfolding(crate::specs::Valid::zeros_of))]
 fn zeros(sector: &[u8]) -> bool
     requires { length sector.now ≡ sector_bytes }
     ensures { result ≡ zeros_of sector.now }
 {
-    if !is_zero(&sector[14..16]) {
-        return false;
-    }
-    if !is_zero(&sector[41..44]) {
-        return false;
-    }
-    is_zero(&sector[48..CHECKSUM])
+    is_zero(&sector[14..16]) && is_zero(&sector[41..44]) && is_zero(&sector[48..CHECKSUM])
 }
 
 // The label that a sector's bytes are, if they are a valid one of slot `slot` in sector `place`.
-pub fn decode(sector: &[u8], slot: usize, place: u64) -> Decoded
+#[tactic(auto, unfolding(crate::specs::Valid::valid_of, crate::specs::Valid::decode_of))]
+pub fn decode(sector: &[u8], slot: usize, place: u64) -> Option<Label>
     ensures { result ≡ decode_of sector.now slot place }
 {
     if sector.len() != SECTOR {
-        return Decoded::Nothing;
-    }
-    if u64_at(sector, 0) != LETTERS {
-        return Decoded::Nothing;
-    }
-    if u16_at(sector, 8) != VERSION {
-        return Decoded::Nothing;
-    }
-    if !zeros(sector) {
-        return Decoded::Nothing;
+        return None;
     }
     let l = label_at(sector);
-    if !fits(l) {
-        return Decoded::Nothing;
-    }
-    if l.slot != slot {
-        return Decoded::Nothing;
-    }
-    if u32_at(sector, CHECKSUM) != crc32c::crc32c(&sector[..CHECKSUM]) as u64 {
-        return Decoded::Nothing;
-    }
-    if l.generation % 2 != place {
-        return Decoded::Nothing;
-    }
-    Decoded::Valid(l)
+    let valid = u64_at(sector, 0) == LETTERS
+        && u16_at(sector, 8) == VERSION
+        && zeros(sector)
+        && fits(l)
+        && l.slot == slot
+        && u32_at(sector, CHECKSUM) == u64::from(crc32c::crc32c(&sector[..CHECKSUM]))
+        && l.generation % 2 == place;
+    valid.then_some(l)
 }

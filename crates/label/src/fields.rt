@@ -1,14 +1,14 @@
 // The numbers of a label, and which of them can be.
-ghost use Rattle.std.specs.Prelude.{◌≡◌, true, ◌≤◌};
+ghost use Rattle.std.specs.Prelude.{◌≡◌, true, ◌+◌, ◌^◌, ◌≤◌, ◌<◌};
 ghost use Rattle.disk.specs.Limits.{most_k, most_m};
 ghost use Rattle.disk.specs.Geometry.{in_range, stripes_of};
-ghost use Rattle.label.specs.Fields.{geometry_of, fits_of, rebuild_fits};
+ghost use Rattle.label.specs.Fields.{geometry_of, calls_out, fits_of, rebuild_fits};
 
-use disk::geometry::{Found, Geometry, in_range_with, stripes};
+use disk::geometry::{Geometry, in_range_with, stripes};
 use disk::limits::{MOST_K, MOST_M};
 use disk::mask::{all_below, has};
 
-#[derive(Clone, Copy)]
+#[derive(Clone, Copy, PartialEq, Eq)]
 pub struct Label {
     pub k: usize,
     pub m: usize,
@@ -27,31 +27,29 @@ pub const NO_SLOT: usize = 255;
 
 pub const MOST_GENERATION: u64 = 9223372036854775807;
 
-// n, c and S.
-fn geometry_of(l: Label) -> Geometry
-    requires { (l.k ≤ most_k) × (l.m ≤ most_m) }
-    ensures { result ≡ geometry_of l }
-{
-    Geometry {
-        n: l.k + l.m,
-        c: l.c,
-        sectors: l.sectors,
+impl Label {
+    // n, c and S. Any label is taken, also one of so many shards that no number counts them.
+    pub fn geometry(self) -> Geometry
+        ensures { self.k + self.m < 2 ^ 64 → result ≡ geometry_of self }
+    {
+        Geometry {
+            n: self.k.saturating_add(self.m),
+            c: self.c,
+            sectors: self.sectors,
+        }
     }
-}
 
-// T of a geometry in range.
-fn stripes_of(g: Geometry) -> usize
-    requires { in_range g ≡ true }
-    ensures { result ≡ stripes_of g }
-{
-    let found = stripes(g);
-    match found {
-        Found::At(t) => t,
-        Found::Refused(_) => 0,
+    // Whether the label calls slot d out, and it is not the one being rebuilt.
+    #[tactic(auto, unfolding(crate::specs::Fields::calls_out))]
+    pub fn calls_out(self, d: usize) -> bool
+        ensures { result ≡ calls_out self d }
+    {
+        has(self.out, d) && d != self.rebuilding
     }
 }
 
 // Whether the slot being rebuilt, and the mark, can be.
+#[tactic(auto, unfolding(crate::specs::Fields::rebuild_fits))]
 fn rebuild_fits(l: Label) -> bool
     requires { (l.k ≤ most_k) × (l.m ≤ most_m) × (in_range (geometry_of l) ≡ true) }
     ensures { result ≡ rebuild_fits l }
@@ -59,39 +57,21 @@ fn rebuild_fits(l: Label) -> bool
     if l.rebuilding == NO_SLOT {
         return l.mark == 0;
     }
-    if l.k + l.m <= l.rebuilding {
-        return false;
-    }
-    if !has(l.out, l.rebuilding) {
-        return false;
-    }
-    l.mark <= stripes_of(geometry_of(l))
+    l.rebuilding < l.k + l.m
+        && has(l.out, l.rebuilding)
+        && stripes(l.geometry()).is_ok_and(|t| l.mark <= t)
 }
 
 // Whether the numbers are those of a label.
+#[tactic(auto, using(crate::proofs::Fits::range_of), unfolding(crate::specs::Fields::fits_of))]
 pub fn fits(l: Label) -> bool
     ensures { result ≡ fits_of l }
 {
-    if MOST_K < l.k {
-        return false;
-    }
-    if MOST_M < l.m {
-        return false;
-    }
-    if !in_range_with(geometry_of(l), l.k) {
-        return false;
-    }
-    if l.k + l.m <= l.slot {
-        return false;
-    }
-    if l.generation < 1 {
-        return false;
-    }
-    if MOST_GENERATION < l.generation {
-        return false;
-    }
-    if !all_below(l.out, l.k + l.m) {
-        return false;
-    }
-    rebuild_fits(l)
+    l.k <= MOST_K
+        && l.m <= MOST_M
+        && in_range_with(l.geometry(), l.k)
+        && l.slot < l.k + l.m
+        && (1..=MOST_GENERATION).contains(&l.generation)
+        && all_below(l.out, l.k + l.m)
+        && rebuild_fits(l)
 }

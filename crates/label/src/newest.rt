@@ -1,29 +1,27 @@
 // Which label counts: a disk's is its valid copy of the greatest generation, the shelf's the greatest among the present
 // disks. And whether the labels of the present disks are all there and agree.
 ghost use Rattle.std.specs.Prelude.{◌≡◌};
-ghost use Rattle.label.specs.Newest.{newer, disk_label, present_label, shelf_label, same_shelf, agreeing, standing, agreed};
+ghost use Rattle.label.specs.Newest.{newer, disk_label, present_label, shelf_label, same_shelf, standing, agreed};
 
-use crate::codec::{Decoded, decode};
+use crate::codec::decode;
 use crate::fields::Label;
 use disk::geometry::Geometry;
 use disk::mask::has;
 use disk::sector::{fits_image, read};
 
 // The newer of two labels; the first where they are of one generation.
-fn newer_of(x: Decoded, y: Decoded) -> Decoded
+fn newer_of(x: Option<Label>, y: Option<Label>) -> Option<Label>
     ensures { result ≡ newer x y }
 {
-    match x {
-        Decoded::Nothing => y,
-        Decoded::Valid(a) => match y {
-            Decoded::Nothing => x,
-            Decoded::Valid(b) => { if a.generation < b.generation { y } else { x } }
-        },
+    match (x, y) {
+        (Some(a), Some(b)) if a.generation < b.generation => y,
+        (Some(_), _) => x,
+        (None, _) => y,
     }
 }
 
 // The label of the disk in slot d.
-pub fn disk_label(image: &[u8], g: Geometry, d: usize) -> Decoded
+pub fn disk_label(image: &[u8], g: Geometry, d: usize) -> Option<Label>
     ensures { result ≡ disk_label g image.now d }
 {
     let even = decode(read(image, g, d, 0), d, 0);
@@ -32,84 +30,51 @@ pub fn disk_label(image: &[u8], g: Geometry, d: usize) -> Decoded
 }
 
 // The label of the disk in slot d, if it is present.
-pub fn present_label(image: &[u8], g: Geometry, absent: u64, d: usize) -> Decoded
+#[tactic(auto, unfolding(crate::specs::Newest::present_label))]
+pub fn present_label(image: &[u8], g: Geometry, absent: u64, d: usize) -> Option<Label>
     ensures { result ≡ present_label g image.now absent d }
 {
     if has(absent, d) {
-        return Decoded::Nothing;
+        None
+    } else {
+        disk_label(image, g, d)
     }
-    disk_label(image, g, d)
 }
 
 // The shelf's label.
-pub fn shelf_label(image: &[u8], g: Geometry, absent: u64) -> Decoded
+#[tactic(auto, unfolding(crate::specs::Newest::shelf_label))]
+pub fn shelf_label(image: &[u8], g: Geometry, absent: u64) -> Option<Label>
     ensures { result ≡ shelf_label g image.now absent }
 {
     if !fits_image(g, image.len()) {
-        return Decoded::Nothing;
+        return None;
     }
-    let mut newest = Decoded::Nothing;
-    let mut d = 0;
-    while d < g.n {
-        let next = present_label(image, g, absent, d);
-        newest = newer_of(newest, next);
-        d += 1;
-    }
-    newest
+    (0..g.n).fold(
+        None,
+        |newest, d| newer_of(newest, present_label(image, g, absent, d)),
+    )
 }
 
-// Whether two labels are of one shelf: they agree in k, m, c, S and the shelf number.
+// Whether two labels are of one shelf: they agree in k, m, c, S and the shelf number (half of a label's fields: the derived == compares
+// all).
+#[tactic(auto, unfolding(crate::specs::Newest::same_shelf))]
 pub fn same_shelf(x: Label, y: Label) -> bool
     ensures { result ≡ same_shelf x y }
 {
-    if x.k != y.k {
-        return false;
-    }
-    if x.m != y.m {
-        return false;
-    }
-    if x.c != y.c {
-        return false;
-    }
-    if x.sectors != y.sectors {
-        return false;
-    }
-    x.shelf == y.shelf
-}
-
-// Whether a disk has a label, and it agrees with l.
-fn agrees(l: Label, x: Decoded) -> bool
-    ensures { result ≡ agreeing l x }
-{
-    match x {
-        Decoded::Valid(y) => same_shelf(l, y),
-        Decoded::Nothing => false,
-    }
+    x.k == y.k && x.m == y.m && x.c == y.c && x.sectors == y.sectors && x.shelf == y.shelf
 }
 
 // Whether slot d is absent, or its disk has a label that agrees with l.
+#[tactic(auto, unfolding(crate::specs::Newest::standing))]
 fn stands(image: &[u8], g: Geometry, absent: u64, l: Label, d: usize) -> bool
     ensures { result ≡ standing g image.now absent l d }
 {
-    if has(absent, d) {
-        return true;
-    }
-    agrees(l, disk_label(image, g, d))
+    has(absent, d) || disk_label(image, g, d).is_some_and(|x| same_shelf(l, x))
 }
 
 // Whether each present disk has a label, and it agrees with l.
 pub fn all_agree(image: &[u8], g: Geometry, absent: u64, l: Label) -> bool
     ensures { result ≡ agreed g image.now absent l }
 {
-    if !fits_image(g, image.len()) {
-        return false;
-    }
-    let mut d = 0;
-    while d < g.n {
-        if !stands(image, g, absent, l, d) {
-            return false;
-        }
-        d += 1;
-    }
-    true
+    fits_image(g, image.len()) && (0..g.n).all(|d| stands(image, g, absent, l, d))
 }

@@ -1,10 +1,9 @@
 -- A state as bytes, 8 for each of its numbers, and any bytes as a state. What is written reads back. Assumes nothing.
-use Rattle.std.specs.Prelude.{◌≡◌, cond, List, [], ◌++◌, ℕ, ◌*◌, eqb, length}
+use Rattle.std.specs.Prelude.{◌≡◌, cond, List, [], ◌++◌, ℕ, ◌*◌, eqb, length, Ok, Err}
 use Rattle.std.proofs.Common.{sym, ap, ap₂, ◌∙◌, append-nil, arith, drop_of_length-le}
 use Rattle.disk.specs.declared.refusal.Refusal.{Refusal}
 use Rattle.disk.specs.declared.refusal.Refusal.TheVariants.{BadBuffer}
-use Rattle.disk.specs.declared.refusal.Outcome.{Outcome}
-use Rattle.disk.specs.declared.refusal.Outcome.TheVariants.{Done, Refused}
+use Rattle.disk.specs.Refusal.{Outcome}
 use Rattle.stages.specs.declared.state.State.{State}
 use Rattle.memory.specs.Words.{words, numbers_at, with_words, length_words, words_append, numbers_append}
 use Rattle.memory.specs.Numbers.{number_count, label_numbers, rest_numbers, numbers_of, state_of, StateFits, length_numbers, numbers_back}
@@ -23,12 +22,12 @@ state_bytes s = words (numbers_of s)
 
 -- BAD_BUFFER where the slice has another length
 unfoldable pub write_answer : ℕ → Outcome
-write_answer len = cond (eqb len state_length) Done (Refused BadBuffer)
+write_answer len = cond (eqb len state_length) (Ok tt) (Err BadBuffer)
 
 -- and what it leaves
 abbrev pub after_write : Outcome → State → List ℕ → List ℕ
-after_write Done s b = state_bytes s
-after_write (Refused why) s b = b
+after_write (Ok tt) s b = state_bytes s
+after_write (Err why) s b = b
 
 -- ---- laws
 
@@ -60,5 +59,5 @@ whole s b h el ex em ey er ez =
     ∙ ap (λ (u : List ℕ). words (numbers_of s) ++ u) (drop_of_length-le b {i = 8 * length (numbers_of s)} (omega arith))
     ∙ append-nil (words (numbers_of s))
 
-pub not_done : {why : Refusal} → Refused why ≡ Done → ⊥
+pub not_done : {why : Refusal} → ◌≡◌ {A = Outcome} (Err why) (Ok tt) → ⊥
 not_done e = let z : ◌≡◌ {A = ℕ} 0 1 = cc in omega arith

@@ -2,13 +2,12 @@
 // state, lowest byte first. Any content is taken: whatever the bytes are, they are a state.
 #![tactic(auto)]
 
-ghost use Rattle.std.specs.Prelude.{◌≡◌, length};
-ghost use Rattle.disk.specs.declared.refusal.Outcome.TheVariants.{Done};
+ghost use Rattle.std.specs.Prelude.{◌≡◌, length, Ok};
 ghost use Rattle.memory.specs.Bytes.{state_length, state_at, write_answer, after_write};
 
-use crate::numbers::{label_numbers, rest_numbers, state_of};
+use crate::numbers::{NEXT, NOW, REST, label_numbers, rest_numbers, state_of};
 use crate::words::{NUMBERS, WORD, numbers_at, put_numbers};
-use disk::refusal::{Outcome, Refusal};
+use disk::refusal::Refusal;
 use stages::state::State;
 
 mod numbers;
@@ -27,21 +26,18 @@ pub fn state_bytes() -> usize
 pub fn read(bytes: &[u8]) -> State
     ensures { result ≡ state_at bytes.now }
 {
-    let a = numbers_at(bytes);
-    state_of(a)
+    state_of(numbers_at(bytes))
 }
 
 // Writes the state: the slice then reads as it. A slice of another length is refused and not changed.
-pub fn write(s: State, bytes: &mut [u8]) -> Outcome
-    ensures { (result ≡ write_answer (length bytes.old)) × (bytes.new ≡ after_write result s bytes.old) × (result ≡ Done → state_at bytes.new ≡ s) }
+pub fn write(s: State, bytes: &mut [u8]) -> Result<(), Refusal>
+    ensures { (result ≡ write_answer (length bytes.old)) × (bytes.new ≡ after_write result s bytes.old) × (result ≡ (Ok tt) → state_at bytes.new ≡ s) }
 {
     if bytes.len() != STATE_BYTES {
-        return Outcome::Refused(Refusal::BadBuffer);
+        return Err(Refusal::BadBuffer);
     }
-    let now = s.now;
-    let next = s.next;
-    put_numbers(bytes, 0, &label_numbers(now));
-    put_numbers(bytes, 10, &label_numbers(next));
-    put_numbers(bytes, 20, &rest_numbers(s));
-    Outcome::Done
+    put_numbers(bytes, NOW, &label_numbers(s.now));
+    put_numbers(bytes, NEXT, &label_numbers(s.next));
+    put_numbers(bytes, REST, &rest_numbers(s));
+    Ok(())
 }

@@ -1,28 +1,26 @@
 // A state as a row of numbers, in the order of its declaration.
 ghost use Rattle.std.specs.Prelude.{◌≡◌, ◌≤◌};
-ghost use Rattle.memory.specs.Numbers.{kind_number, kind_of, bool_number, label_numbers, rest_numbers, label_of, marks_of, state_of};
+ghost use Rattle.memory.specs.Numbers.{kind_of, label_numbers, rest_numbers, label_of, marks_of, state_of};
 
 use crate::words::NUMBERS;
 use label::fields::Label;
 use stages::state::{Cursor, Kind, Marks, State};
 
-// The number of a kind.
-fn kind_number(kind: Kind) -> u64
-    ensures { result ≡ kind_number kind }
-{
-    match kind {
-        Kind::Nothing => 0,
-        Kind::Idle => 1,
-        Kind::Creating => 2,
-        Kind::Starting => 3,
-        Kind::Labelling => 4,
-        Kind::Writing => 5,
-        Kind::Beginning => 6,
-        Kind::Filling => 7,
-    }
-}
+// Where the parts of a state begin in its row: its two labels, what is behind them, its marks, its kind and its cursor.
+pub(crate) const NOW: usize = 0;
+
+pub(crate) const NEXT: usize = 10;
+
+pub(crate) const REST: usize = 20;
+
+const MARKS: usize = 23;
+
+const KIND: usize = 31;
+
+const CURSOR: usize = 32;
 
 // The kind that a number is. A number that is no kind's is Nothing's.
+// Not a `From` of Kind's: only in a state's bytes does every number count as a kind.
 fn kind_of(x: u64) -> Kind
     ensures { result ≡ kind_of x }
 {
@@ -36,13 +34,6 @@ fn kind_of(x: u64) -> Kind
         7 => Kind::Filling,
         _ => Kind::Nothing,
     }
-}
-
-// 1 for true, 0 for false.
-fn bool_number(b: bool) -> u64
-    ensures { result ≡ bool_number b }
-{
-    if b { 1 } else { 0 }
 }
 
 // The numbers of a label.
@@ -67,25 +58,22 @@ pub(crate) fn label_numbers(l: Label) -> [u64; 10]
 pub(crate) fn rest_numbers(s: State) -> [u64; 15]
     ensures { result ≡ rest_numbers s }
 {
-    let marks = s.marks;
-    let kind = s.kind;
-    let cursor = s.cursor;
     [
         s.absent,
         s.epoch,
         s.count,
-        marks.present,
-        marks.parts,
-        marks.late,
-        marks.prep,
-        marks.zeroed,
-        marks.redo,
-        marks.stripe as u64,
-        bool_number(marks.forward),
-        kind_number(kind),
-        cursor.stage as u64,
-        cursor.slot as u64,
-        cursor.sector as u64,
+        s.marks.present,
+        s.marks.parts,
+        s.marks.late,
+        s.marks.prep,
+        s.marks.zeroed,
+        s.marks.redo,
+        s.marks.stripe as u64,
+        u64::from(s.marks.forward),
+        s.kind as u64,
+        s.cursor.stage as u64,
+        s.cursor.slot as u64,
+        s.cursor.sector as u64,
     ]
 }
 
@@ -113,14 +101,14 @@ fn marks_of(a: [u64; NUMBERS]) -> Marks
     ensures { result ≡ marks_of a }
 {
     Marks {
-        present: a[23],
-        parts: a[24],
-        late: a[25],
-        prep: a[26],
-        zeroed: a[27],
-        redo: a[28],
-        stripe: a[29] as usize,
-        forward: a[30] != 0,
+        present: a[MARKS],
+        parts: a[MARKS + 1],
+        late: a[MARKS + 2],
+        prep: a[MARKS + 3],
+        zeroed: a[MARKS + 4],
+        redo: a[MARKS + 5],
+        stripe: a[MARKS + 6] as usize,
+        forward: a[MARKS + 7] != 0,
     }
 }
 
@@ -129,17 +117,17 @@ pub(crate) fn state_of(a: [u64; NUMBERS]) -> State
     ensures { result ≡ state_of a }
 {
     State {
-        now: label_of(a, 0),
-        next: label_of(a, 10),
-        absent: a[20],
-        epoch: a[21],
-        count: a[22],
+        now: label_of(a, NOW),
+        next: label_of(a, NEXT),
+        absent: a[REST],
+        epoch: a[REST + 1],
+        count: a[REST + 2],
         marks: marks_of(a),
-        kind: kind_of(a[31]),
+        kind: kind_of(a[KIND]),
         cursor: Cursor {
-            stage: a[32] as usize,
-            slot: a[33] as usize,
-            sector: a[34] as usize,
+            stage: a[CURSOR] as usize,
+            slot: a[CURSOR + 1] as usize,
+            sector: a[CURSOR + 2] as usize,
         },
     }
 }

@@ -16,10 +16,8 @@ pub(crate) fn numbers_at(bytes: &[u8]) -> [u64; NUMBERS]
     ensures { result ≡ numbers_at number_count bytes.now 0 }
 {
     let mut a = [0u64; NUMBERS];
-    let mut i = 0;
-    while i < NUMBERS {
+    for i in 0..NUMBERS {
         a[i] = u64_at(bytes, WORD * i);
-        i += 1;
     }
     a
 }
@@ -29,9 +27,7 @@ pub(crate) fn put_numbers(bytes: &mut [u8], from: usize, a: &[u64])
     requires { (from ≤ number_count) × (length a.now ≤ number_count) }
     ensures { (bytes.new ≡ with_words a.now bytes.old (8 * from)) × Fit a.now }
 {
-    let mut i = 0;
-    while i < a.len() {
+    for i in 0..a.len() {
         put_u64(bytes, WORD * (from + i), a[i]);
-        i += 1;
     }
 }

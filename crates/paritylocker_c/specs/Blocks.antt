@@ -1,17 +1,15 @@
 -- What the C functions of blocks and stripes answer, and what they leave in the lent state and work area. Assumes nothing.
-use Rattle.std.specs.Prelude.{◌≡◌, refl, Bool, cond, List, ℕ, eqb, length}
+use Rattle.std.specs.Prelude.{◌≡◌, refl, Bool, cond, List, ℕ, eqb, length, Ok, Err}
 use Rattle.std.proofs.Common.{sym, ap, subst, ◌∙◌, eq-eqb, ne_eqb}
 use Rattle.code.specs.declared.Verdict.{Verdict}
 use Rattle.disk.specs.Refusal.{number_of}
-use Rattle.disk.specs.declared.refusal.Outcome.{Outcome}
-use Rattle.disk.specs.declared.refusal.Outcome.TheVariants.{Done, Refused}
+use Rattle.disk.specs.Refusal.{Outcome}
 use Rattle.disk.specs.declared.refusal.Refusal.TheVariants.{BadBuffer}
 use Rattle.memory.specs.Bytes as memory
 use Rattle.memory.specs.Bytes.{state_length, state_at, state_bytes}
-use Rattle.requests.specs.declared.begun.Begun.{Begun}
+use Rattle.requests.specs.Begun.{Begun, outcome_of, state_of}
 use Rattle.stages.specs.declared.state.State.{State}
-use Rattle.strips.specs.declared.whole.Scrubbed.{Scrubbed}
-use Rattle.strips.specs.declared.whole.Scrubbed.TheVariants as scrubbed
+use Rattle.strips.specs.Whole.{Scrubbed}
 use Rattle.blocks.specs.Read.{read_answer, after_read, laid_over}
 use Rattle.blocks.specs.Write.{write_answer, Written, AfterWrite}
 use Rattle.blocks.specs.Scrub.{scrub_answer, SaysOf, ScrubbedBy}
@@ -22,7 +20,7 @@ use Rattle.paritylocker_c.specs.Shelf.{number_begun, bytes_begun}
 
 -- BAD_BUFFER where the state is of another size, before anything else; otherwise what the shelf answers
 unfoldable pub sized_or : ℕ → Outcome → Outcome
-sized_or len o = cond (eqb len state_length) o (Refused BadBuffer)
+sized_or len o = cond (eqb len state_length) o (Err BadBuffer)
 
 -- the answers on lent bytes of a state
 abbrev pub read_of : State → ℕ → ℕ → ℕ → ℕ → Outcome
@@ -53,15 +51,15 @@ pub record Kept (W : State → Type 0) (st' : List ℕ) : Type 0 where
 
 -- a refusal changes neither state nor work area
 abbrev pub Left : Outcome → (State → Type 0) → List ℕ → List ℕ → List ℕ → List ℕ → Type 0
-Left Done W st st' work after = Kept W st'
-Left (Refused why) W st st' work after = (st' ≡ st) × (after ≡ work)
+Left (Ok tt) W st st' work after = Kept W st'
+Left (Err why) W st st' work after = (st' ≡ st) × (after ≡ work)
 
 -- ---- scrub
 
 -- 256 sound; 512 + r accused; 768 more than one; or the refusal's code
 abbrev pub number_of_scrubbed : Scrubbed → ℕ
-number_of_scrubbed (scrubbed.Found v) = number_of_verdict v
-number_of_scrubbed (scrubbed.Refused why) = number_of why
+number_of_scrubbed (Ok v) = number_of_verdict v
+number_of_scrubbed (Err why) = number_of why
 
 -- what the code says of stripe t as it is seen, with the write under way laid over
 abbrev pub SaysAt : State → ℕ → List ℕ → List ℕ → Verdict → Type 0
@@ -75,8 +73,8 @@ pub record Scrubs (o : Outcome) (P : Verdict → Type 0) (r : ℕ) : Type 0 wher
 
 -- an accused shard's number is small
 abbrev pub SmallFound : Scrubbed → Type 0
-SmallFound (scrubbed.Found v) = Small v
-SmallFound (scrubbed.Refused why) = Unit {0}
+SmallFound (Ok v) = Small v
+SmallFound (Err why) = Unit {0}
 
 -- ---- repair
 
@@ -84,23 +82,23 @@ SmallFound (scrubbed.Refused why) = Unit {0}
 pub record Mends (st : List ℕ) (t : ℕ) (img work : List ℕ) (r : ℕ) (st' after : List ℕ) : Type 0 where
   pub begun : Begun
   pub repairs : length st ≡ state_length → Repairs (state_at st) t img work begun after
-  pub number : r ≡ number_of_outcome (sized_or (length st) begun.outcome)
-  pub left : Left (sized_or (length st) begun.outcome) (λ s. s ≡ begun.state) st st' work after
+  pub number : r ≡ number_of_outcome (sized_or (length st) (outcome_of begun))
+  pub left : Left (sized_or (length st) (outcome_of begun)) (λ s. s ≡ state_of (state_at st) begun) st st' work after
 
 -- ---- by cases
 
-pub sized_not : (len : ℕ) (o : Outcome) → (len ≡ state_length → ⊥) → sized_or len o ≡ Refused BadBuffer
+pub sized_not : (len : ℕ) (o : Outcome) → (len ≡ state_length → ⊥) → sized_or len o ≡ Err BadBuffer
 unfolding sized_or
-sized_not len o h = ap (λ (b : Bool). cond b o (Refused BadBuffer)) (ne_eqb len state_length h)
+sized_not len o h = ap (λ (b : Bool). cond b o (Err BadBuffer)) (ne_eqb len state_length h)
 
 pub sized_is : (len : ℕ) (o : Outcome) → len ≡ state_length → sized_or len o ≡ o
 unfolding sized_or
-sized_is len o h = ap (λ (b : Bool). cond b o (Refused BadBuffer)) (eq-eqb len state_length h)
+sized_is len o h = ap (λ (b : Bool). cond b o (Err BadBuffer)) (eq-eqb len state_length h)
 
 -- a state of the right size is written
-pub write_fits : (len : ℕ) → len ≡ state_length → memory.write_answer len ≡ Done
+pub write_fits : (len : ℕ) → len ≡ state_length → memory.write_answer len ≡ Ok tt
 unfolding memory.write_answer
-write_fits len h = ap (λ (b : Bool). cond b Done (Refused BadBuffer)) (eq-eqb len state_length h)
+write_fits len h = ap (λ (b : Bool). cond b (Ok tt) (Err BadBuffer)) (eq-eqb len state_length h)
 
 module _ (st : List ℕ) (block : ℕ) (img work buf : List ℕ) where
   pub read_short : (length st ≡ state_length → ⊥)
@@ -134,10 +132,10 @@ left_short st work o W h =
 module _ (block : ℕ) (bytes img work after st st' : List ℕ) where
   pub write_kept : (o : Outcome) (s s' : State) (r : ℕ) → length st ≡ state_length → AfterWrite o s block bytes img work s' after → r ≡ number_begun o (length st) → st' ≡ bytes_begun o s' st
       → (r ≡ number_of_outcome o) × Left o (λ x. Written s block bytes img work x after) st st' work after
-  write_kept Done s s' r h p n k =
+  write_kept (Ok tt) s s' r h p n k =
       let e = write_fits (length st) h in
       (n ∙ ap number_of_outcome e, record { state = s'; begins = p; kept = k ∙ ap (λ (x : Outcome). memory.after_write x s' st) e })
-  write_kept (Refused why) s s' r h p n k = (n, (k, p.1))
+  write_kept (Err why) s s' r h p n k = (n, (k, p.1))
 
   pub write_left : (o : Outcome) (s s' : State) (r : ℕ) → length st ≡ state_length → s ≡ state_at st → o ≡ write_of s block img (length bytes) (length work)
       → AfterWrite o s block bytes img work s' after → r ≡ number_begun o (length st) → st' ≡ bytes_begun o s' st
@@ -154,14 +152,14 @@ module _ (block : ℕ) (bytes img work after st st' : List ℕ) where
 
 -- what a scrub finds
 pub small_found : (o : Outcome) (s : State) (t : ℕ) (img work : List ℕ) (f : Scrubbed) → ScrubbedBy o (SaysAt s t img work) f → SmallFound f
-small_found o s t img work (scrubbed.Found v) p = small _ _ _ _ v p.1
-small_found o s t img work (scrubbed.Refused why) p = tt
+small_found o s t img work (Ok v) p = small _ _ _ _ (Ok v) p.1
+small_found o s t img work (Err why) p = tt
 
 module _ (st : List ℕ) (t : ℕ) (img work : List ℕ) where
   pub scrub_short : (length st ≡ state_length → ⊥) → Scrubs (scrub_with st t (length img) (length work)) (SaysAt (state_at st) t img work) 16
   scrub_short h =
       record {
-        scrubbed = scrubbed.Refused BadBuffer;
+        scrubbed = Err BadBuffer;
         number = refl;
         holds = sized_not (length st) (scrub_of (state_at st) t (length img) (length work)) h;
       }
@@ -181,29 +179,31 @@ module _ (st : List ℕ) (t : ℕ) (img work : List ℕ) where
 module _ (st : List ℕ) (t : ℕ) (img work : List ℕ) where
   pub mends_short : (length st ≡ state_length → ⊥) → Mends st t img work 16 st work
   mends_short h =
-      let z = left_short st work (Refused BadBuffer) (λ s. s ≡ state_at st) h in
+      let z = left_short st work (Err BadBuffer) (λ s. s ≡ state_at st) h in
       record {
-        begun = record { state = state_at st; outcome = Refused BadBuffer };
+        begun = Err BadBuffer;
         repairs = λ e. absurd (h e);
         number = z.0;
         left = z.1;
       }
 
-  pub mends_kept : (b : Begun) (s : State) (st' after : List ℕ) (r : ℕ) (o : Outcome) → b.outcome ≡ o → length st ≡ state_length → Repairs s t img work b after
-      → r ≡ number_begun o (length st) → st' ≡ bytes_begun o b.state st → (r ≡ number_of_outcome o) × Left o (λ x. x ≡ b.state) st st' work after
-  mends_kept b s st' after r Done q h w n k =
+  pub mends_kept : (b : Begun) (s : State) (st' after : List ℕ) (r : ℕ) (o : Outcome) → outcome_of b ≡ o → length st ≡ state_length → Repairs s t img work b after
+      → r ≡ number_begun o (length st) → st' ≡ bytes_begun o (state_of s b) st → (r ≡ number_of_outcome o) × Left o (λ x. x ≡ state_of s b) st st' work after
+  mends_kept b s st' after r (Ok tt) q h w n k =
       let e = write_fits (length st) h in
-      (n ∙ ap number_of_outcome e, record { state = b.state; begins = refl; kept = k ∙ ap (λ (x : Outcome). memory.after_write x b.state st) e })
-  mends_kept b s st' after r (Refused why) q h w n k = (n, (k, (repair_refused s t img work b after w why q).1))
+      (n ∙ ap number_of_outcome e, record { state = state_of s b; begins = refl; kept = k ∙ ap (λ (x : Outcome). memory.after_write x (state_of s b) st) e })
+  mends_kept b s st' after r (Err why) q h w n k = (n, (k, (repair_refused s t img work b after w why q).1))
 
   pub mends : (b : Begun) (s : State) (st' after : List ℕ) (r : ℕ) → length st ≡ state_length → s ≡ state_at st → Repairs s t img work b after
-      → r ≡ number_begun b.outcome (length st) → st' ≡ bytes_begun b.outcome b.state st → Mends st t img work r st' after
+      → r ≡ number_begun (outcome_of b) (length st) → st' ≡ bytes_begun (outcome_of b) (state_of s b) st → Mends st t img work r st' after
   mends b s st' after r h e w n k =
-      let z = mends_kept b s st' after r b.outcome refl h w n k in
-      let q = sym (sized_is (length st) b.outcome h) in
+      let z = mends_kept b s st' after r (outcome_of b) refl h w n k in
+      let q = sym (sized_is (length st) (outcome_of b) h) in
       record {
         begun = b;
         repairs = λ y. subst (λ (x : State). Repairs x t img work b after) e w;
         number = z.0 ∙ ap number_of_outcome q;
-        left = subst (λ (o : Outcome). Left o (λ x. x ≡ b.state) st st' work after) q z.1;
+        left =
+            subst (λ (y : State). Left (sized_or (length st) (outcome_of b)) (λ x. x ≡ state_of y b) st st' work after) e
+            (subst (λ (o : Outcome). Left o (λ x. x ≡ state_of s b) st st' work after) q z.1);
       }

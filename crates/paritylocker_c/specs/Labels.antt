@@ -1,14 +1,12 @@
 -- What the functions on labels answer and leave. Assumes nothing.
-use Rattle.std.specs.Prelude.{◌≡◌, refl, Bool, true, false, cond, ◌&&◌, List, [], ◌∷◌, ℕ, eqb, length, set}
+use Rattle.std.specs.Prelude.{◌≡◌, refl, Bool, true, false, cond, ◌&&◌, List, [], ◌∷◌, ℕ, eqb, length, set, Ok, Err, Some, None}
 use Rattle.std.proofs.Common.{ap, ◌∙◌, arith, eq-eqb, ne_eqb}
 use Rattle.disk.specs.Refusal.{number_of}
 use Rattle.disk.specs.declared.refusal.Refusal.TheVariants.{BadImage, NoLabel}
-use Rattle.disk.specs.declared.refusal.Outcome.{Outcome}
-use Rattle.disk.specs.declared.refusal.Outcome.TheVariants as outcome
+use Rattle.disk.specs.Refusal.{Outcome}
 use Rattle.label.specs.Valid.{decode_of}
 use Rattle.label.specs.declared.fields.Label.{Label}
-use Rattle.label.specs.declared.codec.Decoded.{Decoded}
-use Rattle.label.specs.declared.codec.Decoded.TheVariants.{Valid, Nothing}
+use Rattle.label.specs.Fields.{Decoded}
 
 abbrev pub label_of : ℕ → ℕ → ℕ → ℕ → ℕ → ℕ → ℕ → ℕ → ℕ → ℕ → Label
 label_of k m slot c sectors shelf generation out rebuilding mark =
@@ -27,8 +25,8 @@ label_of k m slot c sectors shelf generation out rebuilding mark =
 
 -- 0, or the refusal's code
 abbrev pub number_of_outcome : Outcome → ℕ
-number_of_outcome outcome.Done = 0
-number_of_outcome (outcome.Refused x) = number_of x
+number_of_outcome (Ok tt) = 0
+number_of_outcome (Err x) = number_of x
 
 -- k, m, c, S, shelf, generation, out, rebuilding, mark
 abbrev pub fields_of : Label → List ℕ
@@ -40,12 +38,12 @@ unfoldable pub sizes_of : ℕ → ℕ → Bool
 sizes_of sector fields = eqb sector 512 && eqb fields 9
 
 abbrev pub number_of_decoded : Decoded → ℕ
-number_of_decoded (Valid l) = 0
-number_of_decoded Nothing = number_of NoLabel
+number_of_decoded (Some l) = 0
+number_of_decoded None = number_of NoLabel
 
 abbrev pub fields_of_decoded : Decoded → List ℕ → List ℕ
-fields_of_decoded (Valid l) f = fields_of l
-fields_of_decoded Nothing f = f
+fields_of_decoded (Some l) f = fields_of l
+fields_of_decoded None f = f
 
 -- BAD_IMAGE where a size is wrong; NO_LABEL where it is no valid label of that slot in that place; else 0
 abbrev pub decode_number : ℕ → ℕ → List ℕ → ℕ → ℕ
@@ -85,10 +83,10 @@ module _ (slot place : ℕ) (s f : List ℕ) where
   pub decode_sizes : sizes_of (length s) (length f) ≡ false → (number_of BadImage ≡ decode_number slot place s (length f)) × (f ≡ after_decode slot place s f)
   decode_sizes e = (simp e, simp e)
 
-  pub decode_none : sizes_of (length s) (length f) ≡ true → decode_of s slot place ≡ Nothing
+  pub decode_none : sizes_of (length s) (length f) ≡ true → decode_of s slot place ≡ None
       → (number_of NoLabel ≡ decode_number slot place s (length f)) × (f ≡ after_decode slot place s f)
   decode_none e d = (simp (e, d), simp (e, d))
 
-  pub decode_valid : (l : Label) (g : List ℕ) → sizes_of (length s) (length f) ≡ true → decode_of s slot place ≡ Valid l → g ≡ fields_of l
+  pub decode_valid : (l : Label) (g : List ℕ) → sizes_of (length s) (length f) ≡ true → decode_of s slot place ≡ Some l → g ≡ fields_of l
       → (0 ≡ decode_number slot place s (length f)) × (g ≡ after_decode slot place s f)
   decode_valid l g e d q = (simp (e, d), q ∙ simp (e, d))

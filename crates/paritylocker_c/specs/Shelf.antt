@@ -1,15 +1,14 @@
 -- What the C functions of the shelf answer, and what they leave in the lent state. Assumes nothing.
-use Rattle.std.specs.Prelude.{◌≡◌, Bool, true, false, cond, List, [], ℕ, ◌+◌, ◌*◌, ◌%◌, eqb, length}
+use Rattle.std.specs.Prelude.{◌≡◌, refl, Bool, true, false, cond, List, [], ℕ, ◌+◌, ◌*◌, ◌%◌, eqb, length, Ok, Err}
 use Rattle.std.proofs.Common.{sym, ap, ap₂, ◌∙◌, eq-eqb, ne_eqb}
 use Rattle.disk.specs.Refusal.{number_of}
-use Rattle.disk.specs.declared.refusal.Outcome.{Outcome}
-use Rattle.disk.specs.declared.refusal.Outcome.TheVariants as outcome
+use Rattle.disk.specs.Refusal.{Outcome}
 use Rattle.memory.specs.Bytes.{state_length, state_at, write_answer, after_write}
 use Rattle.requests.specs.Status.{status_answer, after_status}
-use Rattle.requests.specs.declared.begun.Begun.{Begun}
+use Rattle.requests.specs.Begun.{Begun, outcome_of, state_of}
 use Rattle.stages.specs.declared.state.State.{State}
-use Rattle.stages.specs.declared.state.Answer.{Answer}
-use Rattle.stages.specs.declared.state.Answer.TheVariants.{Put, Flush, Done, Refused}
+use Rattle.stages.specs.Told.{Answer}
+use Rattle.stages.specs.Told.{Put, Flush, Done, Refused}
 use Rattle.paritylocker_c.specs.Labels.{number_of_outcome}
 
 -- the work area counts for nothing where the state can't be kept: a step is then BAD_BUFFER, or refused for another reason
@@ -18,19 +17,25 @@ area_of work state = cond (eqb state state_length) work []
 
 -- a request: 0 where it is under way; its refusal; BAD_BUFFER where the state can't be kept
 abbrev pub number_begun : Outcome → ℕ → ℕ
-number_begun outcome.Done len = number_of_outcome (write_answer len)
-number_begun (outcome.Refused why) len = number_of why
+number_begun (Ok tt) len = number_of_outcome (write_answer len)
+number_begun (Err why) len = number_of why
 
 abbrev pub begun_number : Begun → ℕ → ℕ
-begun_number b len = number_begun b.outcome len
+begun_number b len = number_begun (outcome_of b) len
 
 -- and the state's bytes after it: a refusal changes none
 abbrev pub bytes_begun : Outcome → State → List ℕ → List ℕ
-bytes_begun outcome.Done s bytes = after_write (write_answer (length bytes)) s bytes
-bytes_begun (outcome.Refused why) s bytes = bytes
+bytes_begun (Ok tt) s bytes = after_write (write_answer (length bytes)) s bytes
+bytes_begun (Err why) s bytes = bytes
 
 abbrev pub after_begun : Begun → List ℕ → List ℕ
-after_begun b bytes = bytes_begun b.outcome b.state bytes
+after_begun (Ok s) bytes = after_write (write_answer (length bytes)) s bytes
+after_begun (Err why) bytes = bytes
+
+-- by its outcome and the state that is held after it
+pub after_begun_is : (s : State) (b : Begun) (bytes : List ℕ) → after_begun b bytes ≡ bytes_begun (outcome_of b) (state_of s b) bytes
+after_begun_is s (Ok t) bytes = refl
+after_begun_is s (Err why) bytes = refl
 
 -- a step: kind + 256 * slot + 65536 * sector, or the number of the request that is done
 abbrev pub answer_number : ℕ → Answer → ℕ

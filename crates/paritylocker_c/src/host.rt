@@ -14,9 +14,9 @@ use blocks::read::read;
 use blocks::repair::repair_stripe;
 use blocks::scrub::scrub_stripe;
 use blocks::write::write;
-use disk::refusal::number;
+use code::Verdict;
+use disk::refusal::{Refusal, number};
 use memory::state_bytes;
-use strips::whole::Scrubbed;
 
 // Reads a block.
 #[unsafe(no_mangle)]
@@ -32,11 +32,10 @@ pub extern "C" fn pl_read(
         (state_at state.now) block image.now work.now bytes.old) }
 {
     if state.len() != state_bytes() {
-        return 16;
+        return number(Refusal::BadBuffer);
     }
     let s = memory::read(state);
-    let answer = read(s, block as usize, bytes, image, work);
-    outcome(answer)
+    outcome(read(s, block as usize, bytes, image, work))
 }
 
 // Begins to write a block.
@@ -55,7 +54,7 @@ pub extern "C" fn pl_write(
         × (image.new ≡ image.old) }
 {
     if state.len() != state_bytes() {
-        return 16;
+        return number(Refusal::BadBuffer);
     }
     let s = memory::read(state);
     let begun = write(s, block as usize, bytes, image, work);
@@ -63,13 +62,13 @@ pub extern "C" fn pl_write(
 }
 
 // The number of what a scrub found.
-fn scrubbed_number(found: Scrubbed) -> u32
+fn scrubbed_number(found: Result<Verdict, Refusal>) -> u32
     requires { SmallFound found }
     ensures { result ≡ number_of_scrubbed found }
 {
     match found {
-        Scrubbed::Found(v) => verdict(v),
-        Scrubbed::Refused(why) => number(why),
+        Ok(v) => verdict(v),
+        Err(why) => number(why),
     }
 }
 
@@ -86,7 +85,7 @@ pub extern "C" fn pl_scrub_stripe(
         × (image.new ≡ image.old) × (state.new ≡ state.old) × (work.new ≡ work.old) }
 {
     if state.len() != state_bytes() {
-        return 16;
+        return number(Refusal::BadBuffer);
     }
     let s = memory::read(state);
     let found = scrub_stripe(s, stripe as usize, image, work);
@@ -105,7 +104,7 @@ pub extern "C" fn pl_repair_stripe(
         × (image.new ≡ image.old) }
 {
     if state.len() != state_bytes() {
-        return 16;
+        return number(Refusal::BadBuffer);
     }
     let s = memory::read(state);
     let begun = repair_stripe(s, stripe as usize, image, work);

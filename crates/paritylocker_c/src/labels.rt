@@ -4,8 +4,7 @@ ghost use Rattle.crc32c.specs.Crc.{crc_of};
 ghost use Rattle.label.specs.Bytes.{encode_answer, after_encode};
 ghost use Rattle.paritylocker_c.specs.Labels.{label_of, number_of_outcome, decode_number, after_decode, fields_of};
 
-use disk::refusal::Outcome;
-use label::codec::Decoded;
+use disk::refusal::{Refusal, number};
 use label::fields::Label;
 
 // CRC-32C of the bytes.
@@ -45,12 +44,12 @@ fn label_of(
     }
 }
 
-pub(crate) fn outcome(o: Outcome) -> u32
+pub(crate) fn outcome(o: Result<(), Refusal>) -> u32
     ensures { result ≡ number_of_outcome o }
 {
     match o {
-        Outcome::Done => 0,
-        Outcome::Refused(x) => disk::refusal::number(x),
+        Ok(()) => 0,
+        Err(why) => number(why),
     }
 }
 
@@ -102,14 +101,14 @@ pub extern "C" fn pl_label_decode(slot: u8, place: u8, sector: &[u8], fields: &m
         × (fields.new ≡ after_decode slot place sector.now fields.old) }
 {
     if sector.len() != 512 {
-        return 10;
+        return number(Refusal::BadImage);
     }
     if fields.len() != 9 {
-        return 10;
+        return number(Refusal::BadImage);
     }
     match label::codec::decode(sector, slot as usize, place as u64) {
-        Decoded::Nothing => 11,
-        Decoded::Valid(l) => {
+        None => number(Refusal::NoLabel),
+        Some(l) => {
             put_fields(l, fields);
             0
         }

@@ -10,10 +10,9 @@ mod shelves;
 ghost use Rattle.std.specs.Prelude.{◌≡◌};
 ghost use Rattle.field.specs.Field.{mul_of};
 ghost use Rattle.code.specs.Stripes.{Encoded, Rebuilt, Says, Repaired};
-ghost use Rattle.paritylocker_c.specs.Answers.{div_answer, number_of_answer, number_of_verdict, Answered, Judged, Small};
+ghost use Rattle.paritylocker_c.specs.Answers.{div_answer, number_of_answer, number_of_verdict, number_of_said, Answered, Judged, Small, SmallSaid};
 
 use code::Verdict;
-use field::{Answer, Quotient};
 
 // The product in the field, 0 to 255.
 #[unsafe(no_mangle)]
@@ -29,18 +28,18 @@ pub extern "C" fn pl_div(a: u8, b: u8) -> u32
     ensures { result ≡ div_answer a b }
 {
     match field::div(a, b) {
-        Quotient::Value(q) => q as u32,
-        Quotient::Refused(x) => 256 + field::number(x),
+        Ok(q) => q as u32,
+        Err(x) => 256 + field::number(x),
     }
 }
 
 // An answer's number.
-fn number(answer: Answer) -> u32
+fn number(answer: Result<(), field::Refusal>) -> u32
     ensures { result ≡ number_of_answer answer }
 {
     match answer {
-        Answer::Done => 0,
-        Answer::Refused(x) => field::number(x),
+        Ok(()) => 0,
+        Err(x) => field::number(x),
     }
 }
 
@@ -53,7 +52,17 @@ pub(crate) fn verdict(v: Verdict) -> u32
         Verdict::Sound => 256,
         Verdict::Accused(r) => 512 + (r as u32),
         Verdict::Unsound => 768,
-        Verdict::Refused(x) => field::number(x),
+    }
+}
+
+// The number of what a scrub or a repair said.
+fn said(answer: Result<Verdict, field::Refusal>) -> u32
+    requires { SmallSaid answer }
+    ensures { result ≡ number_of_said answer }
+{
+    match answer {
+        Ok(v) => verdict(v),
+        Err(x) => field::number(x),
     }
 }
 
@@ -84,7 +93,7 @@ pub extern "C" fn pl_rebuild(
 pub extern "C" fn pl_scrub(k: usize, m: usize, len: usize, stripe: &[u8]) -> u32
     ensures { Judged (λ v. Says k m len stripe.now v) result }
 {
-    verdict(code::scrub(k, m, len, stripe))
+    said(code::scrub(k, m, len, stripe))
 }
 
 // Scrubs, and mends an accused shard.
@@ -92,5 +101,5 @@ pub extern "C" fn pl_scrub(k: usize, m: usize, len: usize, stripe: &[u8]) -> u32
 pub extern "C" fn pl_repair(k: usize, m: usize, len: usize, stripe: &mut [u8]) -> u32
     ensures { Judged (λ v. Repaired k m len v stripe.old stripe.new) result }
 {
-    verdict(code::repair(k, m, len, stripe))
+    said(code::repair(k, m, len, stripe))
 }

@@ -18,8 +18,7 @@ pub extern "C" fn pl_begin(slot: u32, image: &mut [u8], state: &mut [u8], work: 
         × (image.new ≡ image.old) × (work.new ≡ work.old) }
 {
     let s = read(state);
-    let begun = begin(s, slot as usize, image, work.len());
-    keep(begun, state)
+    keep(begin(s, slot as usize, image, work.len()), state)
 }
 
 // Rebuilds the next strips of the slot being rebuilt, at most `batch` of them and one at least.
@@ -35,6 +34,5 @@ pub extern "C" fn pl_rebuild_on(
         × (image.new ≡ image.old) × (work.new ≡ work.old) }
 {
     let s = read(state);
-    let begun = rebuild_on(s, batch as usize, image, work.len());
-    keep(begun, state)
+    keep(rebuild_on(s, batch as usize, image, work.len()), state)
 }

@@ -1,6 +1,7 @@
 // The shelf: its requests and steps. State and work area are lent bytes of which any content is taken.
 ghost use Rattle.std.specs.Prelude.{◌≡◌, length};
 ghost use Rattle.memory.specs.Bytes.{state_length, state_at};
+ghost use Rattle.stages.specs.Told.{answer_of};
 ghost use Rattle.requests.specs.Begun.{work_bytes};
 ghost use Rattle.requests.specs.Create.{create_of};
 ghost use Rattle.requests.specs.Start.{start_of};
@@ -8,19 +9,20 @@ ghost use Rattle.requests.specs.TakeOut.{take_out_of};
 ghost use Rattle.requests.specs.Step.{step_with};
 ghost use Rattle.paritylocker_c.specs.Labels.{number_of_outcome};
 ghost use Rattle.paritylocker_c.specs.Ended.{done_number};
-ghost use Rattle.paritylocker_c.specs.Shelf.{area_of, begun_number, after_begun, answer_number, is_refused, kept_after, after_answer, status_number, status_leaves};
+ghost use Rattle.paritylocker_c.specs.Shelf.{area_of, begun_number, after_begun, answer_number, after_answer, status_number, status_leaves};
 
 use crate::ended::done_number;
+use crate::labels::outcome;
 use disk::geometry::Geometry;
-use disk::refusal::{Outcome, number};
+use disk::refusal::{Refusal, number};
 use memory::{read, state_bytes, write};
-use requests::begun::{Begun, work_bytes};
+use requests::begun::work_bytes;
 use requests::create::create;
 use requests::start::start;
 use requests::status::status;
 use requests::step::step;
 use requests::take_out::take_out;
-use stages::state::{Answer, State};
+use stages::state::{Did, State};
 
 // The bytes of a state.
 #[unsafe(no_mangle)]
@@ -39,20 +41,12 @@ pub extern "C" fn pl_work_bytes(n: u8, c: u8) -> usize
 }
 
 // Keeps the state of a request that is accepted. 0, or the refusal's code.
-pub(crate) fn keep(begun: Begun, state: &mut [u8]) -> u32
+pub(crate) fn keep(begun: Result<State, Refusal>, state: &mut [u8]) -> u32
     ensures { (result ≡ begun_number begun (length state.old)) × (state.new ≡ after_begun begun state.old) }
 {
-    let outcome = begun.outcome;
-    match outcome {
-        Outcome::Refused(why) => number(why),
-        Outcome::Done => {
-            let s = begun.state;
-            let kept = write(s, state);
-            match kept {
-                Outcome::Refused(why) => number(why),
-                Outcome::Done => 0,
-            }
-        }
+    match begun {
+        Ok(first) => outcome(write(first, state)),
+        Err(why) => number(why),
     }
 }
 
@@ -68,13 +62,11 @@ pub extern "C" fn pl_create(
     state: &mut [u8],
     work: &mut [u8],
 ) -> u32
-    ensures { (result ≡ begun_number (create_of (state_at state.old) k m c sectors shelf image.old (length work.old)) (length state.old))
-        × (state.new ≡ after_begun (create_of (state_at state.old) k m c sectors shelf image.old (length work.old)) state.old)
+    ensures { (result ≡ begun_number (create_of k m c sectors shelf image.old (length work.old)) (length state.old))
+        × (state.new ≡ after_begun (create_of k m c sectors shelf image.old (length work.old)) state.old)
         × (image.new ≡ image.old) × (work.new ≡ work.old) }
 {
-    let s = read(state);
     let begun = create(
-        s,
         k as usize,
         m as usize,
         c as usize,
@@ -97,18 +89,16 @@ pub extern "C" fn pl_start(
     state: &mut [u8],
     work: &mut [u8],
 ) -> u32
-    ensures { (result ≡ begun_number (start_of (state_at state.old) (record { n = n; c = c; sectors = sectors }) absent image.old (length work.old)) (length state.old))
-        × (state.new ≡ after_begun (start_of (state_at state.old) (record { n = n; c = c; sectors = sectors }) absent image.old (length work.old)) state.old)
+    ensures { (result ≡ begun_number (start_of (record { n = n; c = c; sectors = sectors }) absent image.old (length work.old)) (length state.old))
+        × (state.new ≡ after_begun (start_of (record { n = n; c = c; sectors = sectors }) absent image.old (length work.old)) state.old)
         × (image.new ≡ image.old) × (work.new ≡ work.old) }
 {
-    let s = read(state);
     let g = Geometry {
         n: n as usize,
         c: c as usize,
         sectors: sectors as usize,
     };
-    let begun = start(s, g, absent, image, work.len());
-    keep(begun, state)
+    keep(start(g, absent, image, work.len()), state)
 }
 
 // Begins to take a slot out.
@@ -119,21 +109,19 @@ pub extern "C" fn pl_take_out(slot: u32, image: &mut [u8], state: &mut [u8], wor
         × (image.new ≡ image.old) × (work.new ≡ work.old) }
 {
     let s = read(state);
-    let begun = take_out(s, slot as usize, image, work.len());
-    keep(begun, state)
+    keep(take_out(s, slot as usize, image, work.len()), state)
 }
 
-// The number of an answer: kind + 256 * slot + 65536 * sector. done: the number of a request that is done.
-fn answer_number(answer: Answer, done: u64) -> u64
-    ensures { result ≡ answer_number done answer }
+// The number of what a step did: kind + 256 * slot + 65536 * sector. done: the number of a request that is done.
+fn did_number(did: Did, done: u64) -> u64
+    ensures { result ≡ answer_number done (answer_of did) }
 {
-    match answer {
-        Answer::Put { slot, sector } => 1
+    match did {
+        Did::Put { slot, sector } => 1
             + 256 * ((slot % 256) as u64)
             + 65536 * ((sector % 4294967296) as u64),
-        Answer::Flush { slot } => 2 + 256 * ((slot % 256) as u64),
-        Answer::Done => done,
-        Answer::Refused(why) => 256 * (number(why) as u64),
+        Did::Flush { slot } => 2 + 256 * ((slot % 256) as u64),
+        Did::Done => done,
     }
 }
 
@@ -147,27 +135,6 @@ fn area(work: &[u8], state: usize) -> &[u8]
     &work[..0]
 }
 
-fn is_refused(answer: Answer) -> bool
-    ensures { result ≡ is_refused answer }
-{
-    match answer {
-        Answer::Refused(_) => true,
-        Answer::Put { slot: _, sector: _ } => false,
-        Answer::Flush { slot: _ } => false,
-        Answer::Done => false,
-    }
-}
-
-// Keeps the state after a step, unless it was refused.
-fn keep_after(s: State, refused: bool, state: &mut [u8])
-    ensures { state.new ≡ kept_after refused s state.old }
-{
-    if refused {
-        return;
-    }
-    write(s, state);
-}
-
 // Does the next action of the request under way.
 #[unsafe(no_mangle)]
 pub extern "C" fn pl_step(image: &mut [u8], state: &mut [u8], work: &mut [u8]) -> u64
@@ -178,16 +145,14 @@ pub extern "C" fn pl_step(image: &mut [u8], state: &mut [u8], work: &mut [u8]) -
         × (work.new ≡ work.old) }
 {
     let s = read(state);
-    let now = s.now;
-    let next = s.next;
-    let marks = s.marks;
-    let kind = s.kind;
-    let end = done_number(kind, now, next, marks);
-    let done = step(s, image, area(work, state.len()));
-    let after = done.state;
-    let answer = done.answer;
-    keep_after(after, is_refused(answer), state);
-    answer_number(answer, end)
+    let end = done_number(s.kind, s.now, s.next, s.marks);
+    match step(s, image, area(work, state.len())) {
+        Err(why) => 256 * u64::from(number(why)),
+        Ok(done) => {
+            let _ = write(done.state, state);
+            did_number(done.did, end)
+        }
+    }
 }
 
 // Tells of the shelf that is started.
@@ -196,12 +161,7 @@ pub extern "C" fn pl_status(state: &[u8], fields: &mut [u64]) -> u32
     ensures { (result ≡ status_number state.now (length fields.old)) × (fields.new ≡ status_leaves state.now fields.old) }
 {
     if state.len() != state_bytes() {
-        return 16;
+        return number(Refusal::BadBuffer);
     }
-    let s = read(state);
-    let told = status(s, fields);
-    match told {
-        Outcome::Done => 0,
-        Outcome::Refused(why) => number(why),
-    }
+    outcome(status(read(state), fields))
 }

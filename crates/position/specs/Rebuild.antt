@@ -1,9 +1,8 @@
 -- What a rebuild makes of a stripe, by its contract alone, is byte by byte the position with its missing shards filled in: whatever the
 -- survivors are, also where they contradict each other. Assumes nothing.
-use Rattle.std.specs.Prelude.{◌≡◌, refl, Bool, true, false, cond, List, ℕ, ◌+◌, ◌*◌, ◌≤◌, ◌<◌, leb, length}
+use Rattle.std.specs.Prelude.{◌≡◌, refl, Bool, true, false, cond, List, ℕ, ◌+◌, ◌*◌, ◌≤◌, ◌<◌, leb, length, Ok}
 use Rattle.std.proofs.Common.{sym, ap, ◌∙◌, le-leb}
-use Rattle.field.specs.declared.Answer.{Answer}
-use Rattle.field.specs.declared.Answer.TheVariants.{Done}
+use Rattle.field.specs.Refusal.{Answer}
 use Rattle.codeword.specs.Stripe.{InRange, Holds, Bytes, byte_at, has}
 use Rattle.codeword.specs.Named.{has_index}
 use Rattle.code.specs.Padded.{padded as looked_past}
@@ -27,7 +26,7 @@ filled_found k m range missing few x y by h e r l t =
 
 -- A REBUILD FILLS IN what the search finds
 pub rebuilt_filled : (k m len : ℕ) → InRange k m → (missing : List ℕ) → length missing ≤ m → (a : Answer) (before after : List ℕ)
-    → Rebuilt k m len missing a before after → a ≡ Done
+    → Rebuilt k m len missing a before after → a ≡ Ok tt
     → (r p : ℕ) → r < k + m → p < len → byte_at len after p r ≡ filled k m missing (byte_at len before p) r
 rebuilt_filled k m len range missing few a before after w done r p hr hp = go (has missing r) refl
   where

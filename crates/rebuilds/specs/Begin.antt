@@ -1,18 +1,17 @@
 -- Begin: when it is refused, and the state with which it begins. Assumes nothing.
-use Rattle.std.specs.Prelude.{◌≡◌, Bool, true, false, cond, not, ◌&&◌, ◌||◌, List, ℕ, ◌+◌, ◌<◌, leb, eqb}
+use Rattle.std.specs.Prelude.{◌≡◌, Bool, true, false, cond, not, ◌&&◌, ◌||◌, List, ℕ, ◌+◌, ◌<◌, leb, eqb, Ok}
 use Rattle.std.proofs.Common.{true≢false, leb-false}
 use Rattle.disk.specs.Limits.{most_n}
 use Rattle.disk.specs.Mask.{in_mask, with_slot, without_slot}
 use Rattle.disk.specs.declared.geometry.Geometry.{Geometry}
-use Rattle.disk.specs.declared.refusal.Outcome.{Outcome}
-use Rattle.disk.specs.declared.refusal.Outcome.TheVariants.{Done}
+use Rattle.disk.specs.Refusal.{Outcome}
 use Rattle.label.specs.Fields.{no_slot, geometry_of, fits_of}
 use Rattle.label.specs.declared.fields.Label.{Label}
 use Rattle.requests.specs.Begun.{begun, first, slots_but}
 use Rattle.requests.specs.Ready.{is_idle, ready_of}
 use Rattle.requests.specs.Accepted.{ready_done}
 use Rattle.requests.specs.TakeOut.{next_label}
-use Rattle.requests.specs.declared.begun.Begun.{Begun}
+use Rattle.requests.specs.Begun.{Begun}
 use Rattle.stages.specs.declared.state.State.{State}
 use Rattle.stages.specs.declared.state.Marks.{Marks}
 use Rattle.stages.specs.declared.state.Kind.{Kind}
@@ -82,7 +81,7 @@ began s d img =
     (begin_marks (geometry_of s.now) img s.now (without_slot s.absent d) d)
 
 abbrev pub begin_of : State → ℕ → List ℕ → ℕ → Begun
-begin_of s d img room = begun (begin_answer s.now s.kind s.absent img d room) s (began s d img)
+begin_of s d img room = begun (begin_answer s.now s.kind s.absent img d room) (began s d img)
 
 -- ---- what is accepted
 
@@ -97,7 +96,7 @@ pub record Begins (l : Label) (d : ℕ) : Type 0 where
   pub there : d < l.k + l.m
   pub more : last_one l ≡ false
 
-pub begin_done : (l : Label) (kind : Kind) (absent : ℕ) (img : List ℕ) (d room : ℕ) → begin_answer l kind absent img d room ≡ Done → Begins l d
+pub begin_done : (l : Label) (kind : Kind) (absent : ℕ) (img : List ℕ) (d room : ℕ) → begin_answer l kind absent img d room ≡ Ok tt → Begins l d
 unfolding asked_begin cannot_begin
 begin_done l kind absent img d room e =
     let f = first_done (ready_of l kind absent img) (asked_begin l (is_idle kind) absent d room) e in

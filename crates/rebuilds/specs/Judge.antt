@@ -1,12 +1,11 @@
 -- The refusals of both requests, in the order of the table. Assumes nothing.
-use Rattle.std.specs.Prelude.{◌≡◌, refl, Bool, true, false, cond, ℕ, ◌+◌, ◌<◌, leb, ltb, eqb}
+use Rattle.std.specs.Prelude.{◌≡◌, refl, Bool, true, false, cond, ℕ, ◌+◌, ◌<◌, leb, ltb, eqb, Ok, Err}
 use Rattle.std.proofs.Common.{arith, leb-false}
 use Rattle.std.specs.Int.Bits.{bit_or}
 use Rattle.std.specs.Int.Count.{ones}
 use Rattle.disk.specs.declared.refusal.Refusal.{Refusal}
 use Rattle.disk.specs.declared.refusal.Refusal.TheVariants.{TooFew, BadBlock, Busy, NotNow, BadBuffer}
-use Rattle.disk.specs.declared.refusal.Outcome.{Outcome}
-use Rattle.disk.specs.declared.refusal.Outcome.TheVariants.{Done, Refused}
+use Rattle.disk.specs.Refusal.{Outcome}
 use Rattle.label.specs.Fields.{most_generation}
 use Rattle.label.specs.declared.fields.Label.{Label}
 use Rattle.requests.specs.Begun.{work_bytes, first}
@@ -26,8 +25,8 @@ sized l room = eqb room (work_bytes (l.k + l.m) l.c)
 -- too few: TOO_FEW; no such slot: BAD_BLOCK; another request under way: BUSY; not the time: NOT_NOW; another work area: BAD_BUFFER
 unfoldable pub judged : Bool → Bool → Bool → Bool → Bool → Outcome
 judged few beyond idle never fits =
-    cond few (Refused TooFew)
-    (cond beyond (Refused BadBlock) (cond idle (cond never (Refused NotNow) (cond fits Done (Refused BadBuffer))) (Refused Busy)))
+    cond few (Err TooFew)
+    (cond beyond (Err BadBlock) (cond idle (cond never (Err NotNow) (cond fits (Ok tt) (Err BadBuffer))) (Err Busy)))
 
 -- nothing of it applies
 pub record Passed (few beyond idle never fits : Bool) : Type 0 where
@@ -37,10 +36,10 @@ pub record Passed (few beyond idle never fits : Bool) : Type 0 where
   pub time : never ≡ false
   pub room : fits ≡ true
 
-not_done : {A : Type 0} (why : Refusal) → Refused why ≡ Done → A
+not_done : {A : Type 0} (why : Refusal) → ◌≡◌ {A = Outcome} (Err why) (Ok tt) → A
 not_done why e = let z : ◌≡◌ {A = ℕ} 0 1 = cc in absurd (omega arith)
 
-pub judged_done : (few beyond idle never fits : Bool) → judged few beyond idle never fits ≡ Done → Passed few beyond idle never fits
+pub judged_done : (few beyond idle never fits : Bool) → judged few beyond idle never fits ≡ Ok tt → Passed few beyond idle never fits
 unfolding judged
 judged_done true beyond idle never fits e = not_done TooFew e
 judged_done false true idle never fits e = not_done BadBlock e
@@ -49,9 +48,9 @@ judged_done false false true true fits e = not_done NotNow e
 judged_done false false true false false e = not_done BadBuffer e
 judged_done false false true false true e = record { enough = refl; there = refl; free = refl; time = refl; room = refl }
 
-pub first_done : (o p : Outcome) → first o p ≡ Done → (o ≡ Done) × (p ≡ Done)
-first_done Done p e = (refl, e)
-first_done (Refused why) p e = not_done why e
+pub first_done : (o p : Outcome) → first o p ≡ Ok tt → (o ≡ Ok tt) × (p ≡ Ok tt)
+first_done (Ok tt) p e = (refl, e)
+first_done (Err why) p e = not_done why e
 
 -- a generation is left
 pub one_more : (l : Label) → last_one l ≡ false → l.generation < most_generation

@@ -1,15 +1,14 @@
 -- On: when it is refused, and the state with which it begins. Assumes nothing.
-use Rattle.std.specs.Prelude.{◌≡◌, refl, Bool, true, false, cond, ◌&&◌, ◌||◌, List, ℕ, zero, suc, ◌+◌, ◌-◌, ◌≤◌, ◌<◌, leb, ltb, eqb, length}
+use Rattle.std.specs.Prelude.{◌≡◌, refl, Bool, true, false, cond, ◌&&◌, ◌||◌, List, ℕ, zero, suc, ◌+◌, ◌-◌, ◌≤◌, ◌<◌, leb, ltb, eqb, length, Ok}
 use Rattle.std.proofs.Common.{sym, ap, ◌∙◌, true≢false, arith, leb-true, leb-false, le-leb, ltb-true}
 use Rattle.std.proofs.lemmas.Bool.{lt-leb}
-use Rattle.disk.specs.Limits.{most_n, most_k, most_m}
+use Rattle.disk.specs.Limits.{most_n, most_k, most_m, most_sectors}
 use Rattle.disk.specs.Tests.{and_left, and_right}
-use Rattle.disk.specs.Geometry.{in_range, in_range_with, splits, stripes_of}
+use Rattle.disk.specs.Geometry.{in_range, in_range_with, splits, stripes_of, stripes_le}
 use Rattle.disk.specs.Image.{fits_image}
 use Rattle.disk.specs.Mask.{in_mask, without_slot}
 use Rattle.disk.specs.declared.refusal.Refusal.TheVariants.{BadImage, NotNow}
-use Rattle.disk.specs.declared.refusal.Outcome.{Outcome}
-use Rattle.disk.specs.declared.refusal.Outcome.TheVariants.{Done}
+use Rattle.disk.specs.Refusal.{Outcome}
 use Rattle.label.specs.Fields.{no_slot, geometry_of, rebuild_fits, fits_of}
 use Rattle.label.specs.declared.fields.Label.{Label}
 use Rattle.label.proofs.Fits.{fits_says}
@@ -18,7 +17,7 @@ use Rattle.position.specs.Search.{some}
 use Rattle.requests.specs.Ready.{is_idle, has_shelf, ready_of}
 use Rattle.requests.specs.Accepted.{passed, ready_done}
 use Rattle.requests.specs.TakeOut.{next_label}
-use Rattle.requests.specs.declared.begun.Begun.{Begun}
+use Rattle.requests.specs.Begun.{Begun}
 use Rattle.stages.specs.declared.state.State.{State}
 use Rattle.stages.specs.declared.state.Marks.{Marks}
 use Rattle.stages.specs.declared.state.Kind.{Kind}
@@ -97,7 +96,7 @@ abbrev pub went_on : State → ℕ → List ℕ → State
 went_on s b img = went_on_with s (on_label s.now b) (on_marks s.now s.absent b (some_contradict s.now s.absent img b))
 
 abbrev pub on_of : State → ℕ → List ℕ → ℕ → Begun
-on_of s b img room = begun (on_answer s.now s.kind s.absent img room) s (went_on s b img)
+on_of s b img room = begun (on_answer s.now s.kind s.absent img room) (went_on s b img)
 
 -- ---- what is accepted
 
@@ -132,7 +131,7 @@ neither true b c e = absurd (true≢false e)
 neither false true c e = absurd (true≢false e)
 neither false false c e = (refl, e)
 
-pub on_done : (l : Label) (kind : Kind) (absent : ℕ) (img : List ℕ) (room : ℕ) → on_answer l kind absent img room ≡ Done → GoesOn l
+pub on_done : (l : Label) (kind : Kind) (absent : ℕ) (img : List ℕ) (room : ℕ) → on_answer l kind absent img room ≡ Ok tt → GoesOn l
 unfolding asked_on cannot_go_on
 on_done l kind absent img room e =
     let f = first_done (ready_of l kind absent img) (asked_on l (is_idle kind) absent room) e in
@@ -142,7 +141,7 @@ on_done l kind absent img room e =
     record { fits = t; there = slot_of l (fits_says l t).rebuild q.0; more = q.1 }
 
 -- and the image is the shelf's
-pub on_image : (l : Label) (kind : Kind) (absent : ℕ) (img : List ℕ) (room : ℕ) → on_answer l kind absent img room ≡ Done → fits_image (geometry_of l) (length img) ≡ true
+pub on_image : (l : Label) (kind : Kind) (absent : ℕ) (img : List ℕ) (room : ℕ) → on_answer l kind absent img room ≡ Ok tt → fits_image (geometry_of l) (length img) ≡ true
 unfolding ready_of
 on_image l kind absent img room e =
     let f = first_done (ready_of l kind absent img) (asked_on l (is_idle kind) absent room) e in
@@ -174,6 +173,12 @@ left_is t m b h = by (leb t (m + b)) refl
     by false e = lt-leb (t - m) b (omega (arith, leb-false t (m + b) e))
 
 -- before the end the mark stays below T
+pub mark_within : (l : Label) → fits_of l ≡ true → l.mark ≤ stripes_of (geometry_of l)
+mark_within l e = (fits_says l e).mark_below
+
+pub stripes_few : (l : Label) → fits_of l ≡ true → stripes_of (geometry_of l) ≤ most_sectors
+stripes_few l e = omega (arith, stripes_le (geometry_of l), (fits_says l e).range.most)
+
 pub mark_fits : (l : Label) (b : ℕ) → last_batch l b ≡ false → l.mark + at_least_one b < stripes_of (geometry_of l)
 unfolding last_batch
 mark_fits l b e = leb-false (stripes_of (geometry_of l)) (l.mark + at_least_one b) e

@@ -1,5 +1,5 @@
 -- Whether the strips of a stripe that are there and believed contradict each other. Assumes nothing.
-use Rattle.std.specs.Prelude.{◌≡◌, refl, Bool, true, false, cond, not, ◌&&◌, ◌||◌, ◌⊎◌, leb, ltb, eqb, length, drop}
+use Rattle.std.specs.Prelude.{◌≡◌, refl, Bool, true, false, cond, not, ◌&&◌, ◌||◌, ◌⊎◌, leb, ltb, eqb, length, drop, Ok, Err}
 use Rattle.std.proofs.Math.Path.{sym, ap}
 use Rattle.std.proofs.Common.{◌∙◌, true≢false, inl, inr, eq-or-lt_of_le, arith, get_or-take, le-leb, lt-ltb, eq-eqb, ltb-true}
 use mathlib.Core.List.{List, []}
@@ -12,13 +12,11 @@ use Rattle.disk.specs.Tests.{and_left, both}
 use Rattle.disk.specs.Geometry.{in_range, image_bytes, stripes_of, in_range_lem, Splits}
 use Rattle.disk.specs.Image.{fits_image, Shape, fits_image_lem}
 use Rattle.disk.specs.declared.geometry.Geometry.{Geometry}
-use Rattle.disk.specs.declared.refusal.Outcome.{Outcome}
-use Rattle.disk.specs.declared.refusal.Outcome.TheVariants.{Done, Refused}
+use Rattle.disk.specs.Refusal.{Outcome}
 use Rattle.disk.specs.declared.refusal.Refusal.TheVariants.{BadImage, BadBlock, BadBuffer}
-use Rattle.field.specs.declared.Answer.{Answer}
+use Rattle.field.specs.Refusal.{Answer}
 use Rattle.codeword.specs.Stripe.{Sound, byte_at}
-use Rattle.code.specs.Stripes.{Rebuilt, Says}
-use Rattle.code.specs.declared.Verdict.{Verdict}
+use Rattle.code.specs.Stripes.{Said, Rebuilt, Says}
 use Rattle.code.specs.declared.Verdict.TheVariants as verdict
 use Rattle.label.specs.declared.fields.Label.{Label}
 use Rattle.position.specs.Position.{holds, holds_true, holds_is, holds_same}
@@ -31,11 +29,11 @@ use Rattle.strips.specs.Laws.{rebuilt_shown, row_shaped}
 use Rattle.strips.specs.Whole.{row_plain, stripe_fits}
 
 -- all equations hold
-abbrev pub is_sound : Verdict → Bool
-is_sound verdict.Sound = true
-is_sound (verdict.Accused r) = false
-is_sound verdict.Unsound = false
-is_sound (verdict.Refused why) = false
+abbrev pub is_sound : Said → Bool
+is_sound (Ok verdict.Sound) = true
+is_sound (Ok (verdict.Accused r)) = false
+is_sound (Ok verdict.Unsound) = false
+is_sound (Err why) = false
 
 -- the equations hold at each byte of sector j of the stripe's shards, with what is lost filled in
 unfoldable pub sector_holds : Geometry → ℕ → List ℕ → ℕ → ℕ → ℕ → Bool
@@ -74,7 +72,7 @@ module _ (g : Geometry) (k : ℕ) (img : List ℕ) (there t j : ℕ) (s : Splits
       ∙ listed_at w f p hp
 
   -- and the scrub of it says whether the equations hold
-  pub scrub_says : (after : List ℕ) (v : Verdict) → length after ≡ g.n * sector_bytes → Says k (g.n - k) sector_bytes after v
+  pub scrub_says : (after : List ℕ) (v : Said) → length after ≡ g.n * sector_bytes → Says k (g.n - k) sector_bytes after v
       → ((r p : ℕ) → r < g.n → p < sector_bytes → byte_at sector_bytes after p r ≡ shown_byte g k img there 0 [] t r (j * sector_bytes + p))
       → is_sound v ≡ sector_holds g k img there t j
   unfolding sector_holds
@@ -92,13 +90,13 @@ module _ (g : Geometry) (k : ℕ) (img : List ℕ) (there t j : ℕ) (s : Splits
           (holds_true k m (x p) (all_at sector_bytes (λ p. holds k m (x p)) q p hp))))
       bad n false q = refl
 
-      by : (v : Verdict) → Says k m sector_bytes after v → is_sound v ≡ all sector_bytes (λ p. holds k m (x p))
-      by verdict.Sound h =
+      by : (v : Said) → Says k m sector_bytes after v → is_sound v ≡ all sector_bytes (λ p. holds k m (x p))
+      by (Ok verdict.Sound) h =
           sym (all_of sector_bytes (λ p. holds k m (x p)) (λ p hp.
           holds_is k m (x p) (holds_same k m (x p) (byte_at sector_bytes after p) (λ r l. sym (e r p (omega (arith, s.parity)) hp)) (h.1 p hp))))
-      by (verdict.Accused r) h = bad h.1 (all sector_bytes (λ p. holds k m (x p))) refl
-      by verdict.Unsound h = bad h.1 (all sector_bytes (λ p. holds k m (x p))) refl
-      by (verdict.Refused why) h = absurd (true≢false (sym (row_shaped g.n k sector_bytes (length after) s (omega arith) (omega arith) len) ∙ h.0))
+      by (Ok (verdict.Accused r)) h = bad h.1 (all sector_bytes (λ p. holds k m (x p))) refl
+      by (Ok verdict.Unsound) h = bad h.1 (all sector_bytes (λ p. holds k m (x p))) refl
+      by (Err why) h = absurd (true≢false (sym (row_shaped g.n k sector_bytes (length after) s (omega arith) (omega arith) len) ∙ h.0))
 
 -- ---- the code beside the definitions
 
@@ -126,8 +124,8 @@ unfolding Shape
 stripe_within g img t e h = let a = fits_image_lem g img e in stripe_fits g img t (record { range = a.0; whole = a.1; stripe = h })
 
 taken : (a b c : Bool) → a ≡ true → b ≡ true → c ≡ true
-    → cond {A = Outcome} a (cond b (cond c Done (Refused BadBuffer)) (Refused BadBlock)) (Refused BadImage) ≡ Done
-taken a b c x y z = λ i. cond {A = Outcome} (x i) (cond (y i) (cond (z i) Done (Refused BadBuffer)) (Refused BadBlock)) (Refused BadImage)
+    → cond {A = Outcome} a (cond b (cond c (Ok tt) (Err BadBuffer)) (Err BadBlock)) (Err BadImage) ≡ Ok tt
+taken a b c x y z = λ i. cond {A = Outcome} (x i) (cond (y i) (cond (z i) (Ok tt) (Err BadBuffer)) (Err BadBlock)) (Err BadImage)
 
 -- one sector of each shard is fetched, whatever is kept
 pub fetched : (g : Geometry) (img kept to after : List ℕ) (there t j : ℕ) (o : Outcome) → fits_image g (length img) ≡ true → t < stripes_of g → j < g.c
@@ -139,7 +137,7 @@ fetched g img kept to after there t j o fits below hj hk ht eo ea =
     both (ltb t (stripes_of g)) _ (lt-ltb t (stripes_of g) below) (both (leb 1 1) _ refl (le-leb (j + 1) g.c (omega arith))) in
     let q : (eqb (length kept) (g.n * shard_bytes g) && eqb (length to) (g.n * (1 * sector_bytes))) ≡ true =
     both (eqb (length kept) (g.n * shard_bytes g)) _ (eq-eqb _ _ hk) (eq-eqb _ _ ht) in
-    let d : o ≡ Done = eo ∙ taken (fits_image g (length img)) _ _ fits p q in
+    let d : o ≡ (Ok tt) = eo ∙ taken (fits_image g (length img)) _ _ fits p q in
     ea ∙ ap (λ (x : Outcome). after_fetch x g img there 0 kept t j 1 to) d ∙ row_plain g img there kept t j 1
 
 -- the loops

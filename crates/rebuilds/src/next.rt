@@ -6,20 +6,16 @@ ghost use Rattle.rebuilds.specs.Judge.{last_one};
 use label::fields::Label;
 
 // The label of the next generation, with these changes.
+#[tactic(auto, unfolding(crate::specs::Judge::last_one))]
 pub(crate) fn next_label(l: Label, out: u64, rebuilding: usize, mark: usize) -> Label
     requires { last_one l ≡ false }
     ensures { result ≡ next_label l out rebuilding mark }
 {
     Label {
-        k: l.k,
-        m: l.m,
-        slot: l.slot,
-        c: l.c,
-        sectors: l.sectors,
-        shelf: l.shelf,
         generation: l.generation + 1,
-        out: out,
-        rebuilding: rebuilding,
-        mark: mark,
+        out,
+        rebuilding,
+        mark,
+        ..l
     }
 }

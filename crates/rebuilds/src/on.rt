@@ -11,57 +11,51 @@ use crate::begin::only;
 use crate::judge::{is_last, is_sized, judge, too_few};
 use crate::next::next_label;
 use crate::survivors::some_contradict;
-use disk::geometry::{Found, Geometry, stripes};
+use disk::geometry::{Geometry, stripes};
 use disk::mask::{has, without_slot};
-use disk::refusal::Outcome;
+use disk::refusal::Refusal;
 use label::fields::{Label, NO_SLOT};
-use requests::begun::{Begun, present_slots};
+use requests::begun::present_slots;
 use requests::ready::{is_idle, ready};
 use stages::state::{Cursor, Kind, Marks, State};
 
 // Whether this is not the time: no slot is being rebuilt, or it is absent, or no generation is left.
+#[tactic(auto, unfolding(crate::specs::On::cannot_go_on))]
 fn cannot_go_on(l: Label, absent: u64) -> bool
     ensures { result ≡ cannot_go_on l absent }
 {
-    if l.rebuilding == NO_SLOT {
-        return true;
-    }
-    if has(absent, l.rebuilding) {
-        return true;
-    }
-    is_last(l)
+    l.rebuilding == NO_SLOT || has(absent, l.rebuilding) || is_last(l)
 }
 
 // The first refusal that applies, on a shelf that is started. idle: no request is under way.
-fn asked_on(l: Label, idle: bool, absent: u64, room: usize) -> Outcome
+#[tactic(auto, unfolding(crate::specs::On::asked_on))]
+fn asked_on(l: Label, idle: bool, absent: u64, room: usize) -> Result<(), Refusal>
     requires { fits_of l ≡ true }
     ensures { result ≡ asked_on l idle absent room }
 {
-    let few = too_few(l, absent);
-    let never = cannot_go_on(l, absent);
-    let sized = is_sized(l, room);
-    judge(few, false, idle, never, sized)
+    judge(
+        too_few(l, absent),
+        false,
+        idle,
+        cannot_go_on(l, absent),
+        is_sized(l, room),
+    )
 }
 
 // The first refusal that applies.
-fn on_answer(l: Label, kind: Kind, absent: u64, image: &[u8], room: usize) -> Outcome
+#[tactic(auto, using(requests::specs::Accepted::ready_done))]
+fn on_answer(l: Label, kind: Kind, absent: u64, image: &[u8], room: usize) -> Result<(), Refusal>
     ensures { result ≡ on_answer l kind absent image.now room }
 {
-    let answer = ready(l, kind, absent, image);
-    match answer {
-        Outcome::Refused(why) => Outcome::Refused(why),
-        Outcome::Done => asked_on(l, is_idle(kind), absent, room),
-    }
+    ready(l, kind, absent, image)?;
+    asked_on(l, is_idle(kind), absent, room)
 }
 
 // A batch of 0 means 1.
 fn at_least_one(batch: usize) -> usize
     ensures { result ≡ at_least_one batch }
 {
-    if batch < 1 {
-        return 1;
-    }
-    batch
+    batch.max(1)
 }
 
 // T.
@@ -69,49 +63,42 @@ fn stripes_of(l: Label) -> usize
     requires { fits_of l ≡ true }
     ensures { result ≡ stripes_of (geometry_of l) }
 {
-    let g = Geometry {
-        n: l.k + l.m,
-        c: l.c,
-        sectors: l.sectors,
-    };
-    let found = stripes(g);
-    match found {
-        Found::At(t) => t,
-        Found::Refused(_) => 0,
-    }
+    stripes(l.geometry()).unwrap_or(0)
 }
 
 // Whether the batch reaches the end.
+#[tactic(auto, using(crate::specs::On::mark_within, crate::specs::On::left_is), unfolding(crate::specs::On::last_batch))]
 fn is_last_batch(l: Label, batch: usize) -> bool
     requires { fits_of l ≡ true }
     ensures { result ≡ last_batch l batch }
 {
-    let t = stripes_of(l);
-    let more = at_least_one(batch);
-    t - l.mark <= more
+    stripes_of(l) - l.mark <= at_least_one(batch)
 }
 
 // How many strips are rebuilt.
+#[tactic(auto, using(crate::specs::On::mark_within), unfolding(crate::specs::On::strips_on))]
 fn strips_on(l: Label, batch: usize) -> usize
     requires { fits_of l ≡ true }
     ensures { result ≡ strips_on l batch }
 {
     if is_last_batch(l, batch) {
-        return stripes_of(l) - l.mark;
+        stripes_of(l) - l.mark
+    } else {
+        at_least_one(batch)
     }
-    at_least_one(batch)
 }
 
 // The label afterwards: the mark is behind these strips, or the slot is healthy.
+#[tactic(auto, using(crate::specs::On::mark_fits, crate::specs::On::stripes_few), unfolding(crate::specs::On::on_label))]
 fn on_label(l: Label, batch: usize) -> Label
     requires { (fits_of l ≡ true) × (last_one l ≡ false) }
     ensures { result ≡ on_label l batch }
 {
     if is_last_batch(l, batch) {
-        return next_label(l, without_slot(l.out, l.rebuilding), NO_SLOT, 0);
+        next_label(l, without_slot(l.out, l.rebuilding), NO_SLOT, 0)
+    } else {
+        next_label(l, l.out, l.rebuilding, l.mark + at_least_one(batch))
     }
-    let more = at_least_one(batch);
-    next_label(l, l.out, l.rebuilding, l.mark + more)
 }
 
 // Whether survivors contradict each other: in a stripe of these strips more than k shards are there and believed, and with the lost
@@ -120,13 +107,7 @@ fn are_contradicted(l: Label, absent: u64, batch: usize, image: &[u8]) -> bool
     requires { (fits_of l ≡ true) × (fits_image (geometry_of l) (length image.now) ≡ true) }
     ensures { result ≡ some_contradict l absent image.now batch }
 {
-    let count = strips_on(l, batch);
-    let g = Geometry {
-        n: l.k + l.m,
-        c: l.c,
-        sectors: l.sectors,
-    };
-    some_contradict(image, g, l, absent, l.mark, count)
+    some_contradict(image, l.geometry(), l, absent, l.mark, strips_on(l, batch))
 }
 
 // What it goes by. odd: whether survivors contradict each other.
@@ -136,13 +117,10 @@ fn on_marks(l: Label, absent: u64, batch: usize, odd: bool) -> Marks
 {
     Marks {
         present: present_slots(absent, l.k + l.m),
-        parts: 0,
-        late: 0,
-        prep: 0,
-        zeroed: 0,
         redo: only(l.rebuilding, true),
         stripe: strips_on(l, batch),
         forward: odd,
+        ..Marks::NONE
     }
 }
 
@@ -153,10 +131,7 @@ fn first_stage(count: usize) -> usize
 {
     let fill = 0;
     let flush = 1;
-    if count == 0 {
-        return flush;
-    }
-    fill
+    if count == 0 { flush } else { fill }
 }
 
 // The rebuild of these strips at its beginning.
@@ -164,24 +139,18 @@ fn on_state(s: State, batch: usize, image: &[u8]) -> State
     requires { GoesOn s.now × (fits_image (geometry_of s.now) (length image.now) ≡ true) }
     ensures { result ≡ went_on s batch image.now }
 {
-    let now = s.now;
-    let next = on_label(now, batch);
-    let odd = are_contradicted(now, s.absent, batch, image);
-    let marks = on_marks(now, s.absent, batch, odd);
-    let stage = first_stage(marks.stripe);
+    let l = s.now;
+    let odd = are_contradicted(l, s.absent, batch, image);
+    let marks = on_marks(l, s.absent, batch, odd);
     State {
-        now: now,
-        next: next,
-        absent: s.absent,
-        epoch: s.epoch,
-        count: s.count,
-        marks: marks,
+        next: on_label(l, batch),
+        marks,
         kind: Kind::Filling,
         cursor: Cursor {
-            stage: stage,
-            slot: 0,
-            sector: 0,
+            stage: first_stage(marks.stripe),
+            ..Cursor::START
         },
+        ..s
     }
 }
 
@@ -190,23 +159,9 @@ fn on_state(s: State, batch: usize, image: &[u8]) -> State
 // absent TOO_FEW; a request under way BUSY; no slot is being rebuilt, or it is absent, or no generation is left, NOT_NOW; another work
 // area BAD_BUFFER.
 // What is accepted says in its marks (forward) whether survivors contradict each other.
-pub fn rebuild_on(s: State, batch: usize, image: &[u8], room: usize) -> Begun
+pub fn rebuild_on(s: State, batch: usize, image: &[u8], room: usize) -> Result<State, Refusal>
     ensures { result ≡ on_of s batch image.now room }
 {
-    let now = s.now;
-    let kind = s.kind;
-    let answer = on_answer(now, kind, s.absent, image, room);
-    match answer {
-        Outcome::Refused(why) => Begun {
-            state: s,
-            outcome: Outcome::Refused(why),
-        },
-        Outcome::Done => {
-            let first = on_state(s, batch, image);
-            Begun {
-                state: first,
-                outcome: Outcome::Done,
-            }
-        }
-    }
+    on_answer(s.now, s.kind, s.absent, image, room)?;
+    Ok(on_state(s, batch, image))
 }

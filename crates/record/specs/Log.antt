@@ -1,6 +1,6 @@
 -- A record in its area, c + 1 sectors in a row: its log sectors, when it is complete, and the strip that comes back.
 -- Assumes nothing.
-use Rattle.std.specs.Prelude.{◌≡◌, refl, Bool, true, false, ◌&&◌, cond, not, ltb, eqb, length, take, drop, replicate}
+use Rattle.std.specs.Prelude.{◌≡◌, refl, Bool, true, false, ◌&&◌, cond, not, ltb, eqb, length, take, drop, replicate, Ok, Err}
 use Rattle.std.proofs.Common.{sym, ap₂, ◌∙◌, ⊎_elim, eq-or-lt_of_le, le_of_suc-le-suc, suc-mul, length-drop, drop_of_length-le, take_at, drop_at, take-take, take-add, length-take-le, drop-drop, eq-eqb}
 use Rattle.std.proofs.Math.Path.{ap}
 use Rattle.std.proofs.Math.Bool.{and-true, and-false}
@@ -17,8 +17,7 @@ use Rattle.disk.specs.Geometry.{strip_length, strip_length_lem, InRange}
 use Rattle.disk.specs.Image.{place, sector, fits_image, part_part}
 use Rattle.disk.specs.declared.geometry.Geometry.{Geometry}
 use Rattle.disk.specs.declared.refusal.Refusal.TheVariants.{BadImage, BadBlock, BadBuffer}
-use Rattle.disk.specs.declared.refusal.Outcome.{Outcome}
-use Rattle.disk.specs.declared.refusal.Outcome.TheVariants.{Done, Refused}
+use Rattle.disk.specs.Refusal.{Outcome}
 use Rattle.record.specs.Layout.{stamp_length, body, rests_at, rest}
 use Rattle.record.specs.Stamp.{stamp_at, stamp_bytes, with_stamp, zero_stamp, same_stamp, StampFits, stamp_back, with_stamp_lem, length_stamp, stamp_zeros, same_true, same_refl}
 use Rattle.record.specs.Tail.{field_bytes, tail_sector, rests, rest_at, length_rests, length_fields, paste_seam}
@@ -42,11 +41,11 @@ log_sector a v = stamp_bytes a ++ take body v
 
 -- what writing one answers, and leaves
 unfoldable pub log_answer : ℕ → ℕ → Outcome
-log_answer lv lo = cond (eqb lv sector_bytes && eqb lo sector_bytes) Done (Refused BadBuffer)
+log_answer lv lo = cond (eqb lv sector_bytes && eqb lo sector_bytes) (Ok tt) (Err BadBuffer)
 
 abbrev pub after_log : Outcome → Stamp → List ℕ → List ℕ → List ℕ
-after_log Done a v out = log_sector a v
-after_log (Refused why) a v out = out
+after_log (Ok tt) a v out = log_sector a v
+after_log (Err why) a v out = out
 
 -- the first c sectors have this stamp
 unfoldable pub stamps_same : ℕ → List ℕ → Stamp → Bool
@@ -66,11 +65,11 @@ restore_of log tail s = take body (drop stamp_length log) ++ take rest (drop (re
 -- what giving one back answers, and leaves
 unfoldable pub restore_answer : ℕ → ℕ → ℕ → ℕ → Outcome
 restore_answer c s la lo =
-    cond (strip_length c) (cond (ltb s c) (cond (eqb la ((c + 1) * sector_bytes) && eqb lo sector_bytes) Done (Refused BadBuffer)) (Refused BadBlock)) (Refused BadImage)
+    cond (strip_length c) (cond (ltb s c) (cond (eqb la ((c + 1) * sector_bytes) && eqb lo sector_bytes) (Ok tt) (Err BadBuffer)) (Err BadBlock)) (Err BadImage)
 
 abbrev pub after_restore : Outcome → List ℕ → ℕ → ℕ → List ℕ → List ℕ
-after_restore Done area c s out = restore_of (part area s) (part area c) s
-after_restore (Refused why) area c s out = out
+after_restore (Ok tt) area c s out = restore_of (part area s) (part area c) s
+after_restore (Err why) area c s out = out
 
 -- ---- the area in the image
 

@@ -1,6 +1,6 @@
 -- The tail: stamp, stripe, shards, then the last bytes of each of the strip's sectors, then zeros. What can be a write's
 -- tail, and that a tail that was written reads back. Assumes nothing.
-use Rattle.std.specs.Prelude.{◌≡◌, refl, Bool, true, ◌&&◌, cond, not, List, [], ◌++◌, ℕ, zero, suc, ◌+◌, ◌*◌, ◌-◌, ◌≤◌, ◌<◌, ◌^◌, ltb, leb, eqb, length, take, drop, replicate}
+use Rattle.std.specs.Prelude.{◌≡◌, refl, Bool, true, ◌&&◌, cond, not, List, [], ◌++◌, ℕ, zero, suc, ◌+◌, ◌*◌, ◌-◌, ◌≤◌, ◌<◌, ◌^◌, ltb, leb, eqb, length, take, drop, replicate, Ok, Err, Some, None, Option}
 use Rattle.std.proofs.Common.{sym, ap, ap₂, ◌∙◌, ⊎_elim, append_assoc, append-nil, suc-mul, eq-or-lt_of_le, le_of_suc-le-suc, add-one, arith, length-drop, length-append, drop_of_length-le, take_at, drop_at, take_all, length-take-le, drop-drop}
 use Rattle.std.proofs.lemmas.List.{length-replicate}
 use Rattle.std.proofs.Math.Seq.{paste, drop-append-add}
@@ -10,13 +10,14 @@ use Rattle.disk.specs.Geometry.{strip_length}
 use Rattle.disk.specs.Number.{number_at, with_number, bytes_of, with_append}
 use Rattle.disk.proofs.NumberLaws.{number_append}
 use Rattle.disk.specs.declared.refusal.Refusal.TheVariants.{BadImage, BadBuffer}
-use Rattle.disk.specs.declared.refusal.Outcome.{Outcome}
-use Rattle.disk.specs.declared.refusal.Outcome.TheVariants.{Done, Refused}
+use Rattle.disk.specs.Refusal.{Outcome}
 use Rattle.record.specs.Layout.{body, stripe_at, shards_at, rests_at, rest}
 use Rattle.record.specs.Stamp.{stamp_at, stamp_bytes, with_stamp, zero_stamp, StampFits, stamp_back, with_stamp_lem, stamp_zeros}
 use Rattle.record.specs.declared.tail.Tail.{Tail}
-use Rattle.record.specs.declared.tail.Found.{Found}
-use Rattle.record.specs.declared.tail.Found.TheVariants.{Record, Nothing}
+
+-- what a sector holds as a tail
+abbrev pub Found : Type 0
+Found = Option Tail
 
 -- ---- reading
 
@@ -32,7 +33,7 @@ may_be x T n generation =
     && (leb x.stamp.epoch generation && (ltb x.stripe T && (not (eqb x.shards 0) && ltb x.shards (2 ^ n))))
 
 unfoldable pub decode_of : List ℕ → ℕ → ℕ → ℕ → Found
-decode_of b T n generation = cond (may_be (tail_at b) T n generation) (Record (tail_at b)) Nothing
+decode_of b T n generation = cond (may_be (tail_at b) T n generation) (Some (tail_at b)) None
 
 -- ---- writing
 
@@ -52,11 +53,11 @@ tail_sector x c v = field_bytes x ++ (rests c v ++ replicate (sector_bytes - res
 -- what writing one answers, and leaves
 unfoldable pub tail_answer : ℕ → ℕ → ℕ → Outcome
 tail_answer c lv lo =
-    cond (strip_length c) (cond (eqb lv (c * sector_bytes) && eqb lo sector_bytes) Done (Refused BadBuffer)) (Refused BadImage)
+    cond (strip_length c) (cond (eqb lv (c * sector_bytes) && eqb lo sector_bytes) (Ok tt) (Err BadBuffer)) (Err BadImage)
 
 abbrev pub after_tail : Outcome → Tail → ℕ → List ℕ → List ℕ → List ℕ
-after_tail Done x c v out = tail_sector x c v
-after_tail (Refused why) x c v out = out
+after_tail (Ok tt) x c v out = tail_sector x c v
+after_tail (Err why) x c v out = out
 
 -- ---- laws
 
@@ -82,21 +83,21 @@ tail_back x q f =
 
 -- decode of encode: every tail that a write can have comes back
 pub decode_encode : (x : Tail) (c : ℕ) (v : List ℕ) (T n generation : ℕ) → TailFits x → may_be x T n generation ≡ true
-    → decode_of (tail_sector x c v) T n generation ≡ Record x
+    → decode_of (tail_sector x c v) T n generation ≡ Some x
 unfolding decode_of tail_sector
 decode_encode x c v T n generation f m =
     let q : List ℕ = rests c v ++ replicate (sector_bytes - rests_at - c * rest) 0 in
-    ap (λ (y : Tail). cond {A = Found} (may_be y T n generation) (Record y) Nothing) (tail_back x q f)
-    ∙ ap (λ (b : Bool). cond {A = Found} b (Record x) Nothing) m
+    ap (λ (y : Tail). cond {A = Found} (may_be y T n generation) (Some y) None) (tail_back x q f)
+    ∙ ap (λ (b : Bool). cond {A = Found} b (Some x) None) m
 
 -- a sector of zeros is no tail
-pub decode_zeros : (T n generation : ℕ) → decode_of (replicate sector_bytes 0) T n generation ≡ Nothing
+pub decode_zeros : (T n generation : ℕ) → decode_of (replicate sector_bytes 0) T n generation ≡ None
 unfolding decode_of may_be tail_at
 decode_zeros T n generation =
     let y : Tail = tail_at (replicate sector_bytes 0) in
     ap
     (λ (b : Bool). cond {A = Found}
-    (not b && (leb y.stamp.epoch generation && (ltb y.stripe T && (not (eqb y.shards 0) && ltb y.shards (2 ^ n))))) (Record y) Nothing)
+    (not b && (leb y.stamp.epoch generation && (ltb y.stripe T && (not (eqb y.shards 0) && ltb y.shards (2 ^ n))))) (Some y) None)
     stamp_zeros
 
 -- ---- the bytes as they are written

@@ -3,7 +3,6 @@
 // docs/LOG.md has the layout, byte by byte. Every public function takes any numbers and any slice.
 #![tactic(auto)]
 
-mod fill;
 pub mod layout;
 pub mod log;
 pub mod stamp;

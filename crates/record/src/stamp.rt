@@ -5,11 +5,14 @@ ghost use Rattle.record.specs.Stamp.{stamp_at, with_stamp, zero_stamp, same_stam
 
 use disk::number::{put_u64, u64_at};
 
-#[derive(Clone, Copy)]
+#[derive(Clone, Copy, PartialEq, Eq, PartialOrd, Ord)]
 pub struct Stamp {
     pub epoch: u64,
     pub count: u64,
 }
+
+// No write's.
+const ZERO: Stamp = Stamp { epoch: 0, count: 0 };
 
 // The stamp with which a sector begins.
 pub fn stamp_at(sector: &[u8]) -> Stamp
@@ -30,34 +33,25 @@ pub(crate) fn put_stamp(sector: &mut [u8], stamp: Stamp)
 }
 
 // Whether it is the stamp of zeros.
+#[tactic(auto, unfolding(crate::specs::Stamp::zero_stamp))]
 pub fn is_zero(a: Stamp) -> bool
     ensures { result ≡ zero_stamp a }
 {
-    if a.epoch != 0 {
-        return false;
-    }
-    a.count == 0
+    a == ZERO
 }
 
 // Whether two stamps are one.
+#[tactic(auto, unfolding(crate::specs::Stamp::same_stamp))]
 pub fn same(a: Stamp, b: Stamp) -> bool
     ensures { result ≡ same_stamp a b }
 {
-    if a.epoch != b.epoch {
-        return false;
-    }
-    a.count == b.count
+    a == b
 }
 
 // Whether a is later than b.
+#[tactic(auto, unfolding(crate::specs::Stamp::later_of))]
 pub fn later(a: Stamp, b: Stamp) -> bool
     ensures { result ≡ later_of a b }
 {
-    if b.epoch < a.epoch {
-        return true;
-    }
-    if a.epoch != b.epoch {
-        return false;
-    }
-    b.count < a.count
+    a > b
 }

@@ -2,7 +2,7 @@
 -- nothing. Complete, with that stamp, on every slot that its write changes, as far as that is believed: forward.
 -- Otherwise: kill. Said of the bytes of one image, and taken apart as the protocol's `redo` is; the protocol knows no
 -- garbage among the tails, here it counts as none. Assumes nothing.
-use Rattle.std.specs.Prelude.{Bool, ◌&&◌, ◌||◌, cond, not, List, ℕ, zero, suc, ◌+◌, ltb, eqb, length}
+use Rattle.std.specs.Prelude.{Bool, ◌&&◌, ◌||◌, cond, not, List, ℕ, zero, suc, ◌+◌, ltb, eqb, length, Some, None}
 use Rattle.disk.specs.Limits.{first_log}
 use Rattle.disk.specs.Geometry.{stripes_of, shard_of}
 use Rattle.disk.specs.Image.{fits_image, read_of}
@@ -15,7 +15,7 @@ use Rattle.record.specs.Tail.{tail_at, decode_of}
 use Rattle.record.specs.Log.{area_of, complete_of}
 use Rattle.record.specs.declared.stamp.Stamp.{Stamp}
 use Rattle.record.specs.declared.tail.Tail.{Tail}
-use Rattle.record.specs.declared.tail.Found as tail
+use Rattle.record.specs.Tail.{Found}
 use Rattle.redo.specs.declared.Redo as declared
 use Rattle.redo.specs.declared.Redo.TheVariants.{Nothing, Forward, Kill}
 
@@ -40,17 +40,17 @@ unfoldable pub log_at : Geometry → List ℕ → ℕ → ℕ → List ℕ
 log_at g img d j = read_of g img d (first_log + j)
 
 -- slot d's tail, where it is looked at and is no garbage
-unfoldable pub tail_found : Geometry → List ℕ → Label → ℕ → tail.Found
-tail_found g img l d = cond (looked g l d) (decode_of (log_at g img d g.c) (stripes_of g) g.n l.generation) tail.TheVariants.Nothing
+unfoldable pub tail_found : Geometry → List ℕ → Label → ℕ → Found
+tail_found g img l d = cond (looked g l d) (decode_of (log_at g img d g.c) (stripes_of g) g.n l.generation) None
 
 -- no write's stamp
 abbrev pub no_stamp : Stamp
 no_stamp = record { epoch = 0; count = 0 }
 
 -- the stamp of what was found
-abbrev pub stamp_found : tail.Found → Stamp
-stamp_found (tail.TheVariants.Record x) = x.stamp
-stamp_found tail.TheVariants.Nothing = no_stamp
+abbrev pub stamp_found : Found → Stamp
+stamp_found (Some x) = x.stamp
+stamp_found None = no_stamp
 
 unfoldable pub key_of : Geometry → List ℕ → Label → ℕ → Stamp
 key_of g img l d = stamp_found (tail_found g img l d)

@@ -1,5 +1,5 @@
 -- Laws of what start-up decides. Assumes nothing.
-use Rattle.std.specs.Prelude.{◌≡◌, refl, Bool, true, false, ◌||◌, cond, not, List, ℕ, ◌<◌, ltb, eqb}
+use Rattle.std.specs.Prelude.{◌≡◌, refl, Bool, true, false, ◌||◌, cond, not, List, ℕ, ◌<◌, ltb, eqb, Some, None}
 use Rattle.std.proofs.Common.{sym, ap, ap₂, ◌∙◌, true≢false, arith, ltb-true, eqb-true}
 use Rattle.std.proofs.lemmas.Bool.{not-true}
 use Rattle.disk.specs.Tests.{and_left, and_right}
@@ -11,7 +11,7 @@ use Rattle.record.specs.Stamp.{stamp_at, zero_stamp, stamp_ext}
 use Rattle.record.specs.Tail.{tail_at, may_be, decode_of}
 use Rattle.record.specs.declared.stamp.Stamp.{Stamp}
 use Rattle.record.specs.declared.tail.Tail.{Tail}
-use Rattle.record.specs.declared.tail.Found as tail
+use Rattle.record.specs.Tail.{Found}
 use Rattle.redo.specs.Decide.{plainly_out, looked, believed, log_at, tail_found, no_stamp, stamp_found, key_of, settled, decided}
 use Rattle.redo.specs.declared.Redo as declared
 
@@ -40,7 +40,7 @@ pub record Tells (g : Geometry) (img : List ℕ) (l : Label) (d : ℕ) (x : Tail
   pub told : tail_at (log_at g img d g.c) ≡ x
   pub may : may_be x (stripes_of g) g.n l.generation ≡ true
 
-pub tail_tells : (g : Geometry) (img : List ℕ) (l : Label) (d : ℕ) (x : Tail) → tail_found g img l d ≡ tail.TheVariants.Record x → Tells g img l d x
+pub tail_tells : (g : Geometry) (img : List ℕ) (l : Label) (d : ℕ) (x : Tail) → tail_found g img l d ≡ Some x → Tells g img l d x
 unfolding tail_found decode_of
 tail_tells g img l d x = by (looked g l d) refl (may_be y (stripes_of g) g.n l.generation) refl
   where
@@ -48,7 +48,7 @@ tail_tells g img l d x = by (looked g l d) refl (may_be y (stripes_of g) g.n l.g
     y = tail_at (log_at g img d g.c)
 
     by : (p : Bool) → looked g l d ≡ p → (q : Bool) → may_be y (stripes_of g) g.n l.generation ≡ q
-        → cond {A = tail.Found} p (cond {A = tail.Found} q (tail.TheVariants.Record y) tail.TheVariants.Nothing) tail.TheVariants.Nothing ≡ tail.TheVariants.Record x
+        → cond {A = Found} p (cond {A = Found} q (Some y) None) None ≡ Some x
         → Tells g img l d x
     by true p true q e =
         let z : y ≡ x = cc in
@@ -62,19 +62,19 @@ unfolding may_be
 may_some x T n generation e = not-true (zero_stamp x.stamp) (and_left (not (zero_stamp x.stamp)) _ e)
 
 -- the leader has a tail: it decides
-pub decided_some : (g : Geometry) (img : List ℕ) (l : Label) (d : ℕ) (x : Tail) → tail_found g img l d ≡ tail.TheVariants.Record x
+pub decided_some : (g : Geometry) (img : List ℕ) (l : Label) (d : ℕ) (x : Tail) → tail_found g img l d ≡ Some x
     → decided g img l d ≡ settled g img l x.stamp x
 unfolding decided key_of
 decided_some g img l d x e =
     let t = tail_tells g img l d x e in
-    ap₂ (λ (f : tail.Found) (y : Tail). cond {A = declared.Redo} (zero_stamp (stamp_found f)) declared.TheVariants.Nothing (settled g img l (stamp_found f) y)) e t.told
+    ap₂ (λ (f : Found) (y : Tail). cond {A = declared.Redo} (zero_stamp (stamp_found f)) declared.TheVariants.Nothing (settled g img l (stamp_found f) y)) e t.told
     ∙ ap (λ (b : Bool). cond {A = declared.Redo} b declared.TheVariants.Nothing (settled g img l x.stamp x)) (may_some x (stripes_of g) g.n l.generation t.may)
 
 -- it has none: there is nothing to do
-pub decided_none : (g : Geometry) (img : List ℕ) (l : Label) (d : ℕ) → tail_found g img l d ≡ tail.TheVariants.Nothing → decided g img l d ≡ declared.TheVariants.Nothing
+pub decided_none : (g : Geometry) (img : List ℕ) (l : Label) (d : ℕ) → tail_found g img l d ≡ None → decided g img l d ≡ declared.TheVariants.Nothing
 unfolding decided key_of zero_stamp
 decided_none g img l d e =
-    ap (λ (f : tail.Found). cond {A = declared.Redo} (zero_stamp (stamp_found f)) declared.TheVariants.Nothing (settled g img l (stamp_found f) (tail_at (log_at g img d g.c)))) e
+    ap (λ (f : Found). cond {A = declared.Redo} (zero_stamp (stamp_found f)) declared.TheVariants.Nothing (settled g img l (stamp_found f) (tail_at (log_at g img d g.c)))) e
 
 -- ---- keys
 
@@ -101,7 +101,7 @@ key_is g img l d = by (looked g l d) (may_be y (stripes_of g) g.n l.generation) 
     none false p h = absurd (true≢false (sym (h refl)))
 
     by : (p q : Bool) → may_be y (stripes_of g) g.n l.generation ≡ q → (p ≡ true → zero_stamp a ≡ false → q ≡ true)
-        → stamp_found (cond {A = tail.Found} p (cond {A = tail.Found} q (tail.TheVariants.Record y) tail.TheVariants.Nothing) tail.TheVariants.Nothing) ≡ cond p a no_stamp
+        → stamp_found (cond {A = Found} p (cond {A = Found} q (Some y) None) None) ≡ cond p a no_stamp
     by true true e h = refl
     by true false e h = none (zero_stamp a) refl (h refl)
     by false q e h = refl

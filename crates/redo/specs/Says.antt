@@ -1,6 +1,6 @@
 -- What each decision says. Nothing: no tail that is looked at is one. Forward: a stripe of the shelf, and slots of it that are looked at and have complete records, so
 -- that giving a strip's sector back from them is never refused. Kill: slots that are looked at. Assumes nothing.
-use Rattle.std.specs.Prelude.{◌≡◌, refl, Bool, true, false, cond, not, List, ℕ, ◌+◌, ◌*◌, ◌≤◌, ◌<◌, ltb, leb, eqb, length}
+use Rattle.std.specs.Prelude.{◌≡◌, refl, Bool, true, false, cond, not, List, ℕ, ◌+◌, ◌*◌, ◌≤◌, ◌<◌, ltb, leb, eqb, length, Ok, Some, None}
 use Rattle.std.proofs.Common.{sym, ap, ◌∙◌, true≢false, ⊎_elim, arith, ltb-true, lt-ltb}
 use Rattle.disk.specs.Limits.{sector_bytes}
 use Rattle.disk.specs.Tests.{and_left, and_right}
@@ -8,14 +8,13 @@ use Rattle.disk.specs.Geometry.{strip_length, stripes_of}
 use Rattle.disk.specs.Image.{fits_image, lt_or_ge}
 use Rattle.disk.specs.Mask.{in_mask, mask_of, mask_below, mask_past}
 use Rattle.disk.specs.declared.geometry.Geometry.{Geometry}
-use Rattle.disk.specs.declared.refusal.Outcome.TheVariants.{Done}
 use Rattle.label.specs.declared.fields.Label.{Label}
 use Rattle.record.specs.Stamp.{stamp_at, zero_stamp, same_stamp}
 use Rattle.record.specs.Tail.{tail_at, may_be}
 use Rattle.record.specs.Log.{area_of, complete_of, restore_answer}
 use Rattle.record.specs.declared.stamp.Stamp.{Stamp}
 use Rattle.record.specs.declared.tail.Tail.{Tail}
-use Rattle.record.specs.declared.tail.Found as tail
+use Rattle.record.specs.Tail.{Found}
 use Rattle.redo.specs.Decide.{looked, log_at, tail_found, stamp_found, key_of, leader_of, lead_of, involved, complete_with, whole_of, marked, settled, decided, redo_of}
 use Rattle.redo.specs.Laws.{looked_below, tail_tells, may_some}
 use Rattle.redo.specs.Complete.{involved_looked, whole_says}
@@ -24,9 +23,9 @@ use Rattle.redo.specs.declared.Redo as declared
 use Rattle.redo.specs.declared.Redo.TheVariants.{Nothing, Forward, Kill}
 
 -- the key of a slot that has a tail
-some_key : (g : Geometry) (img : List ℕ) (l : Label) (d : ℕ) (x : Tail) → tail_found g img l d ≡ tail.TheVariants.Record x → zero_stamp (key_of g img l d) ≡ true → zero_stamp x.stamp ≡ true
+some_key : (g : Geometry) (img : List ℕ) (l : Label) (d : ℕ) (x : Tail) → tail_found g img l d ≡ Some x → zero_stamp (key_of g img l d) ≡ true → zero_stamp x.stamp ≡ true
 unfolding key_of
-some_key g img l d x e z = sym (ap (λ (f : tail.Found). zero_stamp (stamp_found f)) e) ∙ z
+some_key g img l d x e z = sym (ap (λ (f : Found). zero_stamp (stamp_found f)) e) ∙ z
 
 -- a slot of the mask that a test makes
 mask_says : (p : ℕ → Bool) (n d : ℕ) → in_mask (mask_of p n) d ≡ true → p d ≡ true
@@ -38,9 +37,9 @@ stripe_below : (g : Geometry) (img : List ℕ) (l : Label) (d : ℕ) → zero_st
 unfolding key_of zero_stamp may_be
 stripe_below g img l d = by (tail_found g img l d) refl
   where
-    by : (f : tail.Found) → tail_found g img l d ≡ f → zero_stamp (stamp_found f) ≡ false → (tail_at (log_at g img d g.c)).stripe < stripes_of g
-    by tail.TheVariants.Nothing e z = absurd (let w : ◌≡◌ {A = ℕ} 0 1 = cc in omega arith)
-    by (tail.TheVariants.Record x) e z =
+    by : (f : Found) → tail_found g img l d ≡ f → zero_stamp (stamp_found f) ≡ false → (tail_at (log_at g img d g.c)).stripe < stripes_of g
+    by None e z = absurd (let w : ◌≡◌ {A = ℕ} 0 1 = cc in omega arith)
+    by (Some x) e z =
         let t = tail_tells g img l d x e in
         let m = and_right (not (zero_stamp x.stamp)) _ t.may in
         let h = ltb-true x.stripe (stripes_of g) (and_left (ltb x.stripe (stripes_of g)) _ (and_right (leb x.stamp.epoch l.generation) _ m)) in
@@ -57,7 +56,7 @@ settled_some g img l a x = by (whole_of g img l a x)
 
 -- what Nothing says: no slot that is looked at has a tail
 pub nothing_says : (g : Geometry) (img : List ℕ) (l : Label) → fits_image g (length img) ≡ true → redo_of g img l ≡ Nothing
-    → (d : ℕ) → d < g.n → tail_found g img l d ≡ tail.TheVariants.Nothing
+    → (d : ℕ) → d < g.n → tail_found g img l d ≡ None
 unfolding redo_of decided lead_of
 nothing_says g img l fits e d h = none (tail_found g img l d) refl
   where
@@ -74,9 +73,9 @@ nothing_says g img l fits e d h = none (tail_found g img l d) refl
     no_key : zero_stamp (key_of g img l d) ≡ true
     no_key = zero_top (key_of g img l d) a (zero (zero_stamp a) refl (rw fits at e)) (leader_top (key_of g img l) g.n d h)
 
-    none : (f : tail.Found) → tail_found g img l d ≡ f → f ≡ tail.TheVariants.Nothing
-    none tail.TheVariants.Nothing p = refl
-    none (tail.TheVariants.Record x) p = absurd (true≢false (sym (some_key g img l d x p no_key) ∙ may_some x (stripes_of g) g.n l.generation (tail_tells g img l d x p).may))
+    none : (f : Found) → tail_found g img l d ≡ f → f ≡ None
+    none None p = refl
+    none (Some x) p = absurd (true≢false (sym (some_key g img l d x p no_key) ∙ may_some x (stripes_of g) g.n l.generation (tail_tells g img l d x p).may))
 
 -- what Forward says
 pub record Forwards (g : Geometry) (img : List ℕ) (l : Label) (t slots : ℕ) : Type 0 where
@@ -149,7 +148,7 @@ kill_says g img l slots = by (fits_image g (length img)) (zero_stamp a) (whole_o
         record { seen = k; below = λ d h. looked_below g l d (k d h) }
 
 -- a complete record gives each of its strip's sectors back
-pub complete_restores : (area : List ℕ) (c s : ℕ) → complete_of area c ≡ true → s < c → restore_answer c s (length area) sector_bytes ≡ Done
+pub complete_restores : (area : List ℕ) (c s : ℕ) → complete_of area c ≡ true → s < c → restore_answer c s (length area) sector_bytes ≡ Ok tt
 unfolding complete_of restore_answer
 complete_restores area c s e l =
     let e1 = and_right (strip_length c) _ e in
@@ -158,5 +157,5 @@ complete_restores area c s e l =
     rw (p, lt-ltb s c l, q)
 
 pub forward_restores : (g : Geometry) (img : List ℕ) (l : Label) (t slots : ℕ) → redo_of g img l ≡ Forward t slots
-    → (d s : ℕ) → in_mask slots d ≡ true → s < g.c → restore_answer g.c s (length (area_of g img d)) sector_bytes ≡ Done
+    → (d s : ℕ) → in_mask slots d ≡ true → s < g.c → restore_answer g.c s (length (area_of g img d)) sector_bytes ≡ Ok tt
 forward_restores g img l t slots e d s h k = complete_restores (area_of g img d) g.c s ((forward_says g img l t slots e).complete d h) k

@@ -9,15 +9,15 @@ mod tails;
 ghost use Rattle.std.specs.Prelude.{◌≡◌};
 ghost use Rattle.redo.specs.Decide.{redo_of};
 
-use crate::settle::settle;
-use crate::tails::{find_tail, leader};
+use crate::settle::Write;
+use crate::tails::Logs;
 use disk::geometry::Geometry;
 use disk::sector::fits_image;
 use label::fields::Label;
-use record::tail::Found;
 
 // Nothing to do; or the strip of this stripe is written on each of these slots, from the slot's own record; or the tail of
-// each of these slots is wiped.
+// each of these slots is wiped. These three are the answers
+// of `redo_of`, of which the theorems on start-up's log speak.
 #[derive(Clone, Copy)]
 pub enum Redo {
     Nothing,
@@ -32,12 +32,9 @@ pub fn decide(image: &[u8], g: Geometry, l: Label) -> Redo
     if !fits_image(g, image.len()) {
         return Redo::Nothing;
     }
-    let found = find_tail(image, g, l, leader(image, g, l));
-    match found {
-        Found::Record(x) => {
-            let stamp = x.stamp;
-            settle(image, g, l, stamp, x)
-        }
-        Found::Nothing => Redo::Nothing,
-    }
+    let logs = Logs { image, g, l };
+    let Some(tail) = logs.find_tail(logs.leader()) else {
+        return Redo::Nothing;
+    };
+    Write { logs, tail }.settle()
 }

@@ -1,147 +1,103 @@
 // What the greatest stamp decides: forward where every slot that its write changes has the whole record, as far as that slot
 // is believed; otherwise kill.
-ghost use Rattle.std.specs.Prelude.{◌≡◌, true, cond, ◌<◌};
-ghost use Rattle.disk.specs.Geometry.{in_range};
-ghost use Rattle.disk.specs.Limits.{mask_bits};
-ghost use Rattle.disk.specs.Mask.{with_slot, mask_of};
+ghost use Rattle.std.specs.Prelude.{◌≡◌};
+ghost use Rattle.disk.specs.Mask.{mask_of};
 ghost use Rattle.record.specs.Stamp.{stamp_at, same_stamp};
 ghost use Rattle.redo.specs.Decide.{log_at, involved, complete_with, serves, whole_of, marked, settled};
 
 use crate::Redo;
-use crate::belief::{is_believed, looked_at};
-use crate::tails::tail_sector;
-use disk::geometry::{Found, Geometry, shard};
-use disk::mask::{has, with_slot};
-use label::fields::Label;
+use crate::belief::{believes, looked_at};
+use crate::tails::Logs;
+use disk::geometry::shard;
+use disk::mask::{has, slots_where};
 use record::log::{area, complete};
-use record::stamp::{Stamp, same, stamp_at};
+use record::stamp::{same, stamp_at};
 use record::tail::Tail;
 
-// Whether slot d's strip of the tail's stripe is believed, and its shard is one that the write changes.
-fn is_involved(g: Geometry, l: Label, x: Tail, d: usize) -> bool
-    requires { in_range g ≡ true }
-    ensures { result ≡ involved g l x d }
-{
-    let t = x.stripe as usize;
-    if !is_believed(g, l, d, t) {
-        return false;
-    }
-    let found = shard(g, t, d);
-    match found {
-        Found::At(r) => has(x.shards, r),
-        Found::Refused(_) => false,
-    }
+// The write whose tail decides, and the logs that it is looked up in.
+#[derive(Clone, Copy)]
+pub(crate) struct Write<'a> {
+    pub(crate) logs: Logs<'a>,
+    pub(crate) tail: Tail,
 }
 
-// Whether slot d's tail has this stamp.
-fn tail_has(image: &[u8], g: Geometry, a: Stamp, d: usize) -> bool
-    requires { in_range g ≡ true }
-    ensures { result ≡ same_stamp (stamp_at (log_at g image.now d g.c)) a }
-{
-    same(stamp_at(tail_sector(image, g, d)), a)
-}
-
-// Whether slot d's record is complete, with this stamp.
-fn complete_with(image: &[u8], g: Geometry, a: Stamp, d: usize) -> bool
-    requires { in_range g ≡ true }
-    ensures { result ≡ complete_with g image.now a d }
-{
-    let every = complete(area(image, g, d), g.c);
-    let tail = tail_has(image, g, a, d);
-    if !every {
-        return false;
+impl Write<'_> {
+    // Whether slot d's strip of the tail's stripe is believed, and its shard is one that the write changes.
+    fn is_involved(&self, d: usize) -> bool
+        ensures { result ≡ involved self.now.logs.g self.now.logs.l self.now.tail d }
+    {
+        let Logs { g, l, .. } = self.logs;
+        let Tail { stripe, shards, .. } = self.tail;
+        let t = stripe as usize;
+        believes(g, l, d, t) && shard(g, t, d).is_ok_and(|r| has(shards, r))
     }
-    tail
-}
 
-// Whether slot d's record is complete, if the write changes it.
-fn does_serve(image: &[u8], g: Geometry, l: Label, a: Stamp, x: Tail, d: usize) -> bool
-    requires { in_range g ≡ true }
-    ensures { result ≡ serves g image.now l a x d }
-{
-    if !is_involved(g, l, x, d) {
-        return true;
+    // Whether slot d's tail has the write's stamp.
+    fn tail_has(&self, d: usize) -> bool
+        ensures { result ≡ same_stamp (stamp_at (log_at self.now.logs.g self.now.logs.image.now d self.now.logs.g.c)) self.now.tail.stamp }
+    {
+        same(stamp_at(self.logs.tail_sector(d)), self.tail.stamp)
     }
-    complete_with(image, g, a, d)
-}
 
-// Whether that is so of every slot.
-fn whole(image: &[u8], g: Geometry, l: Label, a: Stamp, x: Tail) -> bool
-    requires { in_range g ≡ true }
-    ensures { result ≡ whole_of g image.now l a x }
-{
-    let mut d = 0;
-    while d < g.n {
-        if !does_serve(image, g, l, a, x, d) {
-            return false;
+    // Whether slot d's record is complete, with the write's stamp.
+    #[tactic(auto, unfolding(crate::specs::Decide::complete_with))]
+    fn complete_with(&self, d: usize) -> bool
+        ensures { result ≡ complete_with self.now.logs.g self.now.logs.image.now self.now.tail.stamp d }
+    {
+        let Logs { image, g, .. } = self.logs;
+        complete(area(image, g, d), g.c) && self.tail_has(d)
+    }
+
+    // Whether slot d's record is complete, if the write changes it.
+    #[tactic(auto, unfolding(crate::specs::Decide::serves))]
+    fn does_serve(&self, d: usize) -> bool
+        ensures { result ≡ serves self.now.logs.g self.now.logs.image.now self.now.logs.l self.now.tail.stamp self.now.tail d }
+    {
+        !self.is_involved(d) || self.complete_with(d)
+    }
+
+    // Whether that is so of every slot.
+    fn whole(&self) -> bool
+        ensures { result ≡ whole_of self.now.logs.g self.now.logs.image.now self.now.logs.l self.now.tail.stamp self.now.tail }
+    {
+        (0..self.logs.g.n).all(|d| self.does_serve(d))
+    }
+
+    // Whether slot d's tail is to be wiped.
+    #[tactic(auto, unfolding(crate::specs::Decide::marked))]
+    fn is_marked(&self, d: usize) -> bool
+        ensures { result ≡ marked self.now.logs.g self.now.logs.image.now self.now.logs.l self.now.tail.stamp d }
+    {
+        looked_at(self.logs.g, self.logs.l, d) && self.tail_has(d)
+    }
+
+    // The slots that go forward.
+    fn forward_slots(&self) -> u64
+        ensures { result ≡ mask_of (involved self.now.logs.g self.now.logs.l self.now.tail) self.now.logs.g.n }
+    {
+        slots_where(self.logs.g.n, |d| self.is_involved(d))
+    }
+
+    // The slots whose tails are wiped.
+    fn kill_slots(&self) -> u64
+        ensures { result ≡ mask_of (marked self.now.logs.g self.now.logs.image.now self.now.logs.l self.now.tail.stamp) self.now.logs.g.n }
+    {
+        slots_where(self.logs.g.n, |d| self.is_marked(d))
+    }
+
+    // What the tail decides.
+    #[tactic(auto, unfolding(crate::specs::Decide::settled))]
+    pub(crate) fn settle(&self) -> Redo
+        ensures { result ≡ settled self.now.logs.g self.now.logs.image.now self.now.logs.l self.now.tail.stamp self.now.tail }
+    {
+        if self.whole() {
+            return Redo::Forward {
+                stripe: self.tail.stripe as usize,
+                slots: self.forward_slots(),
+            };
         }
-        d += 1;
-    }
-    true
-}
-
-// Whether slot d's tail is to be wiped.
-fn is_marked(image: &[u8], g: Geometry, l: Label, a: Stamp, d: usize) -> bool
-    requires { in_range g ≡ true }
-    ensures { result ≡ marked g image.now l a d }
-{
-    if !looked_at(g, l, d) {
-        return false;
-    }
-    tail_has(image, g, a, d)
-}
-
-// The mask with slot d in it, or as it is.
-fn with_slot_if(mask: u64, d: usize, yes: bool) -> u64
-    requires { d < mask_bits }
-    ensures { result ≡ cond yes (with_slot mask d) mask }
-{
-    if yes {
-        return with_slot(mask, d);
-    }
-    mask
-}
-
-// The slots that go forward.
-fn forward_slots(g: Geometry, l: Label, x: Tail) -> u64
-    requires { in_range g ≡ true }
-    ensures { result ≡ mask_of (involved g l x) g.n }
-{
-    let mut slots = 0;
-    let mut d = 0;
-    while d < g.n {
-        slots = with_slot_if(slots, d, is_involved(g, l, x, d));
-        d += 1;
-    }
-    slots
-}
-
-// The slots whose tails are wiped.
-fn kill_slots(image: &[u8], g: Geometry, l: Label, a: Stamp) -> u64
-    requires { in_range g ≡ true }
-    ensures { result ≡ mask_of (marked g image.now l a) g.n }
-{
-    let mut slots = 0;
-    let mut d = 0;
-    while d < g.n {
-        slots = with_slot_if(slots, d, is_marked(image, g, l, a, d));
-        d += 1;
-    }
-    slots
-}
-
-// What this tail and its stamp decide.
-pub(crate) fn settle(image: &[u8], g: Geometry, l: Label, a: Stamp, x: Tail) -> Redo
-    requires { in_range g ≡ true }
-    ensures { result ≡ settled g image.now l a x }
-{
-    if whole(image, g, l, a, x) {
-        return Redo::Forward {
-            stripe: x.stripe as usize,
-            slots: forward_slots(g, l, x),
-        };
-    }
-    Redo::Kill {
-        slots: kill_slots(image, g, l, a),
+        Redo::Kill {
+            slots: self.kill_slots(),
+        }
     }
 }

@@ -1,74 +1,64 @@
 // The tails of the slots, and which of them decides.
-ghost use Rattle.std.specs.Prelude.{◌≡◌, true, cond};
+ghost use Rattle.std.specs.Prelude.{◌≡◌, true};
 ghost use Rattle.disk.specs.Geometry.{in_range};
-ghost use Rattle.record.specs.Stamp.{later_of};
 ghost use Rattle.redo.specs.Decide.{log_at, tail_found, key_of, lead_of};
 
-use crate::belief::{looked_at, stripes_of};
-use disk::geometry::Geometry;
+use crate::belief::looked_at;
+use disk::geometry::{Geometry, stripes};
 use disk::limits::FIRST_LOG;
 use disk::sector::read;
 use label::fields::Label;
 use record::stamp::{Stamp, later};
-use record::tail::{Found, decode};
+use record::tail::{Tail, decode};
 
-// The tail of slot d's record, the last of its c + 1 sectors.
-pub(crate) fn tail_sector(image: &[u8], g: Geometry, d: usize) -> &[u8]
-    requires { in_range g ≡ true }
-    ensures { result.now ≡ log_at g image.now d g.c }
-{
-    read(image, g, d, FIRST_LOG + g.c)
+// The logs of an image whose geometry is in range, under the label that start-up settles.
+#[derive(Clone, Copy)]
+pub(crate) struct Logs<'a> {
+    pub(crate) image: &'a [u8],
+    pub(crate) g: Geometry,
+    pub(crate) l: Label,
+    ghost in_range: { in_range g ≡ true },
 }
 
-// What slot d's tail tells, where it is looked at.
-pub(crate) fn find_tail(image: &[u8], g: Geometry, l: Label, d: usize) -> Found
-    requires { in_range g ≡ true }
-    ensures { result ≡ tail_found g image.now l d }
-{
-    if !looked_at(g, l, d) {
-        return Found::Nothing;
+impl Logs<'_> {
+    // The tail of slot d's record, the last of its c + 1 sectors.
+    #[tactic(auto, unfolding(crate::specs::Decide::log_at))]
+    pub(crate) fn tail_sector(&self, d: usize) -> &[u8]
+        ensures { result.now ≡ log_at self.now.g self.now.image.now d self.now.g.c }
+    {
+        read(self.image, self.g, d, FIRST_LOG + self.g.c)
     }
-    decode(
-        tail_sector(image, g, d),
-        stripes_of(g) as u64,
-        g.n,
-        l.generation,
-    )
-}
 
-// The stamp of slot d's tail; that of zeros where there is none.
-fn key(image: &[u8], g: Geometry, l: Label, d: usize) -> Stamp
-    requires { in_range g ≡ true }
-    ensures { result ≡ key_of g image.now l d }
-{
-    let found = find_tail(image, g, l, d);
-    match found {
-        Found::Record(x) => x.stamp,
-        Found::Nothing => Stamp { epoch: 0, count: 0 },
+    // What slot d's tail tells, where it is looked at.
+    #[tactic(auto, unfolding(crate::specs::Decide::tail_found))]
+    pub(crate) fn find_tail(&self, d: usize) -> Option<Tail>
+        ensures { result ≡ tail_found self.now.g self.now.image.now self.now.l d }
+    {
+        if !looked_at(self.g, self.l, d) {
+            return None;
+        }
+        let t = stripes(self.g).unwrap_or(0);
+        decode(self.tail_sector(d), t as u64, self.g.n, self.l.generation)
     }
-}
 
-// The one of two slots whose tail is later; the first where neither is.
-fn later_slot(image: &[u8], g: Geometry, l: Label, first: usize, d: usize) -> usize
-    requires { in_range g ≡ true }
-    ensures { result ≡ cond (later_of (key_of g image.now l d) (key_of g image.now l first)) d first }
-{
-    if later(key(image, g, l, d), key(image, g, l, first)) {
-        return d;
+    // The stamp of slot d's tail; that of zeros where there is none.
+    fn key(&self, d: usize) -> Stamp
+        ensures { result ≡ key_of self.now.g self.now.image.now self.now.l d }
+    {
+        let none = Stamp { epoch: 0, count: 0 };
+        self.find_tail(d).map_or(none, |x| x.stamp)
     }
-    first
-}
 
-// The slot whose tail has the greatest stamp, the lowest of them.
-pub(crate) fn leader(image: &[u8], g: Geometry, l: Label) -> usize
-    requires { in_range g ≡ true }
-    ensures { result ≡ lead_of g image.now l }
-{
-    let mut first = 0;
-    let mut d = 0;
-    while d < g.n {
-        first = later_slot(image, g, l, first, d);
-        d += 1;
+    // The slot whose tail has the greatest stamp, the lowest of them.
+    pub(crate) fn leader(&self) -> usize
+        ensures { result ≡ lead_of self.now.g self.now.image.now self.now.l }
+    {
+        let mut first = 0;
+        for d in 0..self.g.n {
+            if later(self.key(d), self.key(first)) {
+                first = d;
+            }
+        }
+        first
     }
-    first
 }

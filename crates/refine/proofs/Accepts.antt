@@ -4,7 +4,7 @@
 use Rattle.std.proofs.Math.Path.{◌≡◌, refl, sym, ap, ap₂, fun_ext}
 use Rattle.std.proofs.Common.{subst, ◌∙◌, inl, inr, suc-mul, arith, lit<, ext_get_or}
 use Rattle.std.proofs.Math.Bool.{Bool, true, false, cond, not}
-use Rattle.std.specs.Prelude.{◌&&◌, ◌||◌, List, [], ◌∷◌, leb, get_or}
+use Rattle.std.specs.Prelude.{◌&&◌, ◌||◌, List, [], ◌∷◌, leb, get_or, Ok}
 use Prim.Native.Nat.{ℕ, suc, ◌+◌, ◌*◌, ◌≤◌, ◌<◌, ◌%◌}
 use Rattle.std.proofs.Math.Nat.{mod-lt}
 use Rattle.std.specs.Int.Count.{ones}
@@ -14,13 +14,11 @@ use Rattle.disk.specs.Limits.{sector_bytes}
 use Rattle.disk.specs.Image.{place}
 use Rattle.disk.specs.Tests.{both}
 use Rattle.disk.specs.Mask.{in_mask}
-use Rattle.disk.specs.declared.refusal.Outcome.TheVariants.{Done}
 use Rattle.label.specs.Fields.{most_generation}
 use Rattle.label.specs.Bytes.{all_zero}
+use Rattle.rounds.specs.Slot.{goes_out}
 use Rattle.rounds.specs.Survey.{slots_that, next_of, plan_of, survey_of}
-use Rattle.rounds.specs.declared.slot.Question.TheVariants.{Out}
 use Rattle.rounds.specs.declared.plan.Plan.{Plan}
-use Rattle.rounds.specs.declared.plan.Survey.TheVariants as survey
 use Rattle.rounds.proofs.Plans.{survey_grounds}
 use Rattle.protocol.specs.World.{Place, log, strip, slot, Image, World, always_cur}
 use Rattle.protocol.specs.Slots.{from, every, every_all}
@@ -125,15 +123,15 @@ module _ (z : Shelf) (img : List ℕ) where
       go false = refl
 
   -- START-UP
-  module _ (absent : ℕ) (p : Plan) (e : survey_of (geometry z) img absent ≡ survey.Plan p) (led : Led z img absent (beyond (slots z) (in_mask absent)) p.lead) where
+  module _ (absent : ℕ) (p : Plan) (e : survey_of (geometry z) img absent ≡ Ok p) (led : Led z img absent (beyond (slots z) (in_mask absent)) p.lead) where
     pub start_clear : may_start_by (size z) (no_sets (slots z)) (labels z) (records z) (any_code z) stamps (any_sectors z) (few_of z) (A z img absent p e led) (mask (size z) (no_sets (slots z)) (labels z) (records z) (any_code z) stamps (any_sectors z) (A z img absent p e led) (cur_of z img)) ≡ clear
     unfolding plan_of next_of
     start_clear =
         let r = survey_grounds (geometry z) img absent p e in
-        let few : ones (slots_that (geometry z) img absent Out (l z img absent p e led)) ≤ (l z img absent p e led).m = omega (arith, r.few_out, ap (λ (x : Plan). ones x.next.out) r.is) in
+        let few : ones (slots_that (geometry z) img absent goes_out (l z img absent p e led)) ≤ (l z img absent p e led).m = omega (arith, r.few_out, ap (λ (x : Plan). ones x.next.out) r.is) in
         ap (may_start_by (size z) (no_sets (slots z)) (labels z) (records z) (any_code z) stamps (any_sectors z) (few_of z) (A z img absent p e led)) (seen_mask z (A z img absent p e led) img)
         ∙ start_is z img absent (A z img absent p e led) (l z img absent p e led) led
-        ∙ ap₂ (verdict z img absent (A z img absent p e led) (l z img absent p e led) led) (le-leb (ones (slots_that (geometry z) img absent Out (l z img absent p e led))) (l z img absent p e led).m few) (le-leb ((l z img absent p e led).generation + 2) most_generation r.left)
+        ∙ ap₂ (verdict z img absent (A z img absent p e led) (l z img absent p e led) led) (le-leb (ones (slots_that (geometry z) img absent goes_out (l z img absent p e led))) (l z img absent p e led).m few) (le-leb ((l z img absent p e led).generation + 2) most_generation r.left)
 
     pub start_accepted : program_of z nothing (cur_of z img) (start (in_mask absent))
         ≡ (asked_start (size z) (no_sets (slots z)) (labels z) (records z) (any_code z) stamps (any_sectors z) (A z img absent p e led) (mask (size z) (no_sets (slots z)) (labels z) (records z) (any_code z) stamps (any_sectors z) (A z img absent p e led) (cur_of z img)), accepted)
@@ -141,7 +139,7 @@ module _ (z : Shelf) (img : List ℕ) where
     start_accepted = ap (λ (v : Verdict). answer (size z) (no_sets (slots z)) (labels z) (records z) (any_code z) stamps (any_sectors z) nothing v (asked_start (size z) (no_sets (slots z)) (labels z) (records z) (any_code z) stamps (any_sectors z) (A z img absent p e led) (mask (size z) (no_sets (slots z)) (labels z) (records z) (any_code z) stamps (any_sectors z) (A z img absent p e led) (cur_of z img))) accepted) start_clear
 
     -- the slots that it leaves out: those that the label calls out that it settles
-    next_out : in_mask p.next.out ≡ in_mask (slots_that (geometry z) img absent Out (l z img absent p e led))
+    next_out : in_mask p.next.out ≡ in_mask (slots_that (geometry z) img absent goes_out (l z img absent p e led))
     unfolding plan_of next_of
     next_out = ap (λ (x : Plan). in_mask x.next.out) (survey_grounds (geometry z) img absent p e).is
 
@@ -155,7 +153,7 @@ module _ (z : Shelf) (img : List ℕ) where
     start_few =
         let r = survey_grounds (geometry z) img absent p e in
         ap (few_of z) (next_out ∙ sym (fun_ext (left_out_is z img absent (A z img absent p e led) (l z img absent p e led) led))) ∙ few_is z img absent (A z img absent p e led) (l z img absent p e led) led
-        ∙ le-leb (ones (slots_that (geometry z) img absent Out (l z img absent p e led))) (l z img absent p e led).m (omega (arith, r.few_out, ap (λ (x : Plan). ones x.next.out) r.is))
+        ∙ le-leb (ones (slots_that (geometry z) img absent goes_out (l z img absent p e led))) (l z img absent p e led).m (omega (arith, r.few_out, ap (λ (x : Plan). ones x.next.out) r.is))
 
     -- NO TAIL IS GARBAGE under the label that it settles, where the protocol's invariant holds for a family in which the slots lie that go out
     module _ (F : Family z) (in_family : F.sets.few (in_mask p.next.out) ≡ true) (w : World Sector) (reads : w.cur ≡ cur_of z img) (view : View Sector) (off : Off (size z) F.sets (labels z) (records z) (code_in z F) stamps (sectors_in z F) view w) where
@@ -205,7 +203,7 @@ module _ (z : Shelf) (img : List ℕ) where
       start_real = logs_fair z (new z img absent p e led F in_family w reads view off) img led.disks (A z img absent p e led) (settled_dark z img absent (A z img absent p e led) (l z img absent p e led) led) (g z img absent p e led F in_family w reads view off).history (g z img absent p e led F in_family w reads view off).u seen_logs (let h : (g z img absent p e led F in_family w reads view off).u < suc (g z img absent p e led F in_family w reads view off).base.generation * counts = off.early in omega (arith, h, suc-mul (g z img absent p e led F in_family w reads view off).base.generation counts, above))
 
   -- TAKING A SLOT OUT, at rest
-  module _ (disks : Disks z img) (s : State) (own : ours z s.now ≡ true) (d room : ℕ) (e : take_answer s.now s.kind s.absent img d room ≡ Done) where
+  module _ (disks : Disks z img) (s : State) (own : ours z s.now ≡ true) (d room : ℕ) (e : take_answer s.now s.kind s.absent img d room ≡ Ok tt) where
     not_plain : plainly_out' (label_of z (now z img disks s own d room e)) d ≡ false
     not_plain = plain_is z (now z img disks s own d room e) d (there z img disks s own d room e) ∙ (can z img disks s own d room e).not_plain
 

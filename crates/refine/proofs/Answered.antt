@@ -1,7 +1,7 @@
 -- EVERY BLOCK CAN BE READ. Along every chain of calls from an image of zeros on, whatever was cut, taken out or exchanged on it, a read at rest of any block of the shelf, with a block's buffer and the chain's
 -- work area, is answered Done: at most m slots are out or absent, and the state's label is in range. With Serves: at rest every block reads as its entry of the host's list. And a write of
 -- any block is accepted where each present disk holds the state's label. What is asked is what Promise asks. Assumes nothing.
-use Rattle.std.specs.Prelude.{◌≡◌, not, ◌&&◌, List, [], ◌∷◌, length}
+use Rattle.std.specs.Prelude.{◌≡◌, not, ◌&&◌, List, [], ◌∷◌, length, Ok, Err}
 use Rattle.std.proofs.Math.Path.{refl, ap, ap₂}
 use Rattle.std.proofs.Common.{sym, subst, ◌∙◌, ⊎_elim, inl, inr, arith}
 use Rattle.std.proofs.Math.Bool.{Bool, true, false, cond}
@@ -16,8 +16,7 @@ use Rattle.disk.specs.Geometry.{blocks_of}
 use Rattle.disk.specs.Image.{fits_image}
 use Rattle.disk.specs.declared.geometry.Geometry.{Geometry}
 use Rattle.disk.specs.declared.refusal.Refusal.TheVariants.{BadImage, NoLabel, NotNow, BadBuffer}
-use Rattle.disk.specs.declared.refusal.Outcome.{Outcome}
-use Rattle.disk.specs.declared.refusal.Outcome.TheVariants.{Done, Refused}
+use Rattle.disk.specs.Refusal.{Outcome}
 use Rattle.label.specs.Bytes.{all_zero}
 use Rattle.label.specs.Fields.{geometry_of, fits_of, no_slot}
 use Rattle.label.specs.Newest.{all_of}
@@ -25,8 +24,7 @@ use Rattle.label.proofs.Fits.{fits_says}
 use Rattle.label.specs.declared.fields.Label as bytes
 use Rattle.rounds.specs.Survey.{survey_of, next_of, plan_of}
 use Rattle.rounds.specs.declared.plan.Plan.{Plan}
-use Rattle.rounds.specs.declared.plan.Survey.{Survey}
-use Rattle.rounds.specs.declared.plan.Survey.TheVariants as survey
+use Rattle.rounds.specs.Survey.{Survey}
 use Rattle.rounds.proofs.Plans.{survey_grounds}
 use Rattle.protocol.specs.World.{World, Action, put, flush}
 use Rattle.protocol.specs.Host.{Host}
@@ -42,7 +40,7 @@ use Rattle.stages.specs.Stage.{round_stage, create_stage, start_stage, last_stag
 use Rattle.stages.specs.declared.state.State.{State}
 use Rattle.stages.specs.declared.state.Kind.{Kind}
 use Rattle.stages.specs.declared.state.Kind.TheVariants.{Idle}
-use Rattle.requests.specs.Begun.{work_bytes, begun, first}
+use Rattle.requests.specs.Begun.{work_bytes, begun, first, state_of}
 use Rattle.requests.specs.Create.{create_answer, created}
 use Rattle.requests.specs.Start.{started, by_survey, start_of}
 use Rattle.requests.specs.Step.{other_work, step_with, sound_fits, step_short, step_goes}
@@ -75,6 +73,7 @@ use Rattle.refine.proofs.Serves.{bound_since}
 use Rattle.refine.specs.Promise.{ComesTo}
 use Rattle.refine.proofs.Promise.{along, view, view_served, rests_true, absent_out, room_kept}
 use Rattle.refine.specs.Answered.{InRange, InRangeAt, Fairly, n_is, enough, block_goes, read_goes}
+use Rattle.requests.specs.Begun.{outcome_of}
 
 -- no request changes the slot that is named in the state's label
 either_slot : (b : Bool) (x y : bytes.Label) (n : ℕ) → x.slot ≡ n → y.slot ≡ n → (cond {A = bytes.Label} b x y).slot ≡ n
@@ -113,23 +112,23 @@ module _ (z : Shelf) (first : Machine Sector) where
         let wide : x.now.k + x.now.m ≡ slots z = ap (λ (g : Geometry). g.n) (shelf_geometry z x.now f.ours_now) in
         (a, (tells (f.stages give low)).fit x.next.slot (omega (arith, same, wide, (fits_says x.now a).on_shelf_lem)))
 
-    taken : (h : Held) (o : Outcome) (s x : State) (work : List ℕ) → Fairly z (at w img (held h (begun o s x) work)) → (Fairly z (at w img (has x work)) → InRange (has x work)) → InRange h
-        → InRange (held h (begun o s x) work)
-    taken h Done s x work n is t = is n
-    taken h (Refused why) s x work n is t = t
+    taken : (h : Held) (o : Outcome) (s x : State) (work : List ℕ) → Fairly z (at w img (held h (begun o x) work)) → (Fairly z (at w img (has x work)) → InRange (has x work)) → InRange h
+        → InRange (held h (begun o x) work)
+    taken h (Ok tt) s x work n is t = is n
+    taken h (Err why) s x work n is t = t
 
-    start_fits : (h : Held) (s : State) (g : Geometry) (absent : ℕ) (work : List ℕ) → Fairly z (at w img (held h (start_of s g absent img (length work)) work)) → InRange h
-        → InRange (held h (start_of s g absent img (length work)) work)
+    start_fits : (h : Held) (s : State) (g : Geometry) (absent : ℕ) (work : List ℕ) → Fairly z (at w img (held h (start_of g absent img (length work)) work)) → InRange h
+        → InRange (held h (start_of g absent img (length work)) work)
     unfolding start_stage round_stage plan_of next_of
     start_fits h s g absent work = by (survey_of g img absent) refl
       where
-        by : (x : Survey) → survey_of g img absent ≡ x → Fairly z (at w img (held h (by_survey x s g absent img (length work)) work)) → InRange h
-            → InRange (held h (by_survey x s g absent img (length work)) work)
-        by (survey.Refused why) e n t = t
-        by (survey.Plan p) e n t = room (eqb (length work) (work_bytes g.n g.c)) n t
+        by : (x : Survey) → survey_of g img absent ≡ x → Fairly z (at w img (held h (by_survey x g absent img (length work)) work)) → InRange h
+            → InRange (held h (by_survey x g absent img (length work)) work)
+        by (Err why) e n t = t
+        by (Ok p) e n t = room (eqb (length work) (work_bytes g.n g.c)) n t
           where
-            room : (b : Bool) → Fairly z (at w img (held h (cond b (record { state = started g absent p img; outcome = Done }) (record { state = s; outcome = Refused BadBuffer })) work)) → InRange h
-                → InRange (held h (cond b (record { state = started g absent p img; outcome = Done }) (record { state = s; outcome = Refused BadBuffer })) work)
+            room : (b : Bool) → Fairly z (at w img (held h (cond b (Ok (started g absent p img)) (Err BadBuffer)) work)) → InRange h
+                → InRange (held h (cond b (Ok (started g absent p img)) (Err BadBuffer)) work)
             room true n t = begun_fits (started g absent p img) work refl 5 (omega arith) (λ c. c.1) (ap (λ (x : Plan). x.next.slot) (survey_grounds g img absent p e).is) n
             room false n t = t
 
@@ -175,7 +174,7 @@ module _ (z : Shelf) (first : Machine Sector) where
   pub call_fits : {a b : Time} (x : HostCalls z a b) → Fairly z a → Fairly z b → InRangeAt a → InRangeAt b
   call_fits (creates {w} {img} {h} s work) n n' t = taken w img h (create_answer z.k z.m z.c z.sectors img (length work)) s (created z.k z.m z.c z.sectors z.number) work n' (create_fits w img work) t
   call_fits (creates_late {w} {img} {h} s k m c S number work e) n n' t =
-      subst (λ (o : Outcome). InRange (held h (begun o s (created k m c S number)) work)) (sym (create_late k m c S img (length work) e)) t
+      subst (λ (o : Outcome). InRange (held h (begun o (created k m c S number)) work)) (sym (create_late k m c S img (length work) e)) t
   call_fits (starts {w} {img} {h} s g absent work sits) n n' t = start_fits w img h s g absent work n' t
   call_fits (takes_out {w} {img} {s} {work} d) n n' t = taken w img (has s work) (take_answer s.now s.kind s.absent img d (length work)) s (took_out s d) work n' (out_fits w img s work d) t
   call_fits (begins {w} {img} {s} {work} d) n n' t = taken w img (has s work) (begin_answer s.now s.kind s.absent img d (length work)) s (began s d img) work n' (begin_fits w img s work d) t
@@ -183,13 +182,13 @@ module _ (z : Shelf) (first : Machine Sector) where
   call_fits (writes {w} {img} {s} {work} b given s' then x y e) n n' t = by (write_answer s.now s.kind s.absent s.count img b (length given) (length work)) e
     where
       by : (o : Outcome) → AfterWrite o s b given img work s' then → InRange (has s' then)
-      by Done a = subst (λ (q : State). InRange (has q then)) (sym a.becomes) (t.0, t.0)
-      by (Refused why) a = subst (λ (q : State). InRange (has q then)) (sym a.0) t
-  call_fits (repairs {w} {img} {s} {work} u b then r) n n' t = by b.outcome refl
+      by (Ok tt) a = subst (λ (q : State). InRange (has q then)) (sym a.becomes) (t.0, t.0)
+      by (Err why) a = subst (λ (q : State). InRange (has q then)) (sym a.0) t
+  call_fits (repairs {w} {img} {s} {work} u b then r) n n' t = by (outcome_of b) refl
     where
-      by : (o : Outcome) → b.outcome ≡ o → InRange (has b.state then)
-      by Done e = subst (λ (q : State). InRange (has q then)) (sym (repair_accuses s u img work b then r e).2) (t.0, t.0)
-      by (Refused why) e = subst (λ (q : State). InRange (has q then)) (sym (repair_refused s u img work b then r why e).0) t
+      by : (o : Outcome) → outcome_of b ≡ o → InRange (has (state_of s b) then)
+      by (Ok tt) e = subst (λ (q : State). InRange (has q then)) (sym (repair_accuses s u img work b then r e).2) (t.0, t.0)
+      by (Err why) e = subst (λ (q : State). InRange (has q then)) (sym (repair_refused s u img work b then r why e).0) t
   call_fits (steps {w} {w'} {img} {s} {work} heard) n n' t = step_fits w img s work n t
   call_fits (swaps d left x) n n' t = t
   call_fits (cut left d p) n n' t = tt
@@ -216,16 +215,16 @@ module _ (z : Shelf) (l : bytes.Label) (own : ours z l ≡ true) (fit : fits_of 
   module _ (few : too_few l absent ≡ false) (b : ℕ) (buf work : List ℕ) (inner : b < blocks_of (geometry z) z.k) (whole : length buf ≡ z.c * sector_bytes) (room : length work ≡ work_bytes (slots z) z.c) where
     -- and is written at rest, where the present disks hold the label
     write_goes : (kind : Kind) → kind ≡ Idle → (count : ℕ) → count < most_count → (img : List ℕ) → Disks z img
-        → write_answer l kind absent count img b (length buf) (length work) ≡ cond (all_of (holding (geometry z) img absent l) (slots z)) Done (Refused NoLabel)
+        → write_answer l kind absent count img b (length buf) (length work) ≡ cond (all_of (holding (geometry z) img absent l) (slots z)) (Ok tt) (Err NoLabel)
     unfolding ready_of has_shelf stamp_left
     write_goes kind e count small img disks =
         let fits : fits_image (geometry_of l) (length img) ≡ true = ap (λ (g : Geometry). fits_image g (length img)) (shelf_geometry z l own) ∙ image_fits z img disks in
-        let ready : ready_of l kind absent img ≡ cond (all_of (holding (geometry z) img absent l) (slots z)) Done (Refused NoLabel) = λ i.
+        let ready : ready_of l kind absent img ≡ cond (all_of (holding (geometry z) img absent l) (slots z)) (Ok tt) (Err NoLabel) = λ i.
         cond (not (is_nothing (e i)) && fit i)
-        (cond (fits i) (cond (is_idle (e i)) (cond (all_of (holding (shelf_geometry z l own i) img absent l) ((n_is z l own fit absent) i)) Done (Refused NoLabel)) Done) (Refused BadImage)) (Refused NotNow) in
+        (cond (fits i) (cond (is_idle (e i)) (cond (all_of (holding (shelf_geometry z l own i) img absent l) ((n_is z l own fit absent) i)) (Ok tt) (Err NoLabel)) (Ok tt)) (Err BadImage)) (Err NotNow) in
         ap₂ first ready ((block_goes z l own fit absent few b buf work inner whole room) (is_idle kind) (stamp_left count) (ap is_idle e) (lt-ltb count most_count small)) ∙ by (all_of (holding (geometry z) img absent l) (slots z))
       where
-        by : (x : Bool) → first (cond x Done (Refused NoLabel)) Done ≡ cond x Done (Refused NoLabel)
+        by : (x : Bool) → first (cond x (Ok tt) (Err NoLabel)) (Ok tt) ≡ cond x (Ok tt) (Err NoLabel)
         by true = refl
         by false = refl
 
@@ -252,7 +251,7 @@ module _ (z : Shelf) (first : List ℕ) (disks : Disks z first) (blank : all_zer
 
     module _ (b : ℕ) (buf : List ℕ) (inner : b < blocks_of (geometry z) z.k) (whole : length buf ≡ z.c * sector_bytes) where
       -- EVERY BLOCK CAN BE READ at rest
-      pub reads_answered : read_answer s.now s.kind s.absent b (length img) (length buf) (length work) ≡ Done
+      pub reads_answered : read_answer s.now s.kind s.absent b (length img) (length buf) (length work) ≡ Ok tt
       reads_answered =
           let y = bound_since z first disks blank chain two in
           read_goes z s.now (rest_ours z y.0 (fresh z first disks blank) y.1 w img s work rests y.3) labels_in_range.0 s.absent rests_enough b buf work inner whole (room_kept z first disks blank chain two) s.kind rests img
@@ -271,7 +270,7 @@ module _ (z : Shelf) (first : List ℕ) (disks : Disks z first) (blank : all_zer
 
       -- A WRITE OF EVERY BLOCK IS ACCEPTED at rest, as long as a stamp is left, if every present disk holds the state's label with its own slot; if one does not, it is refused for that
       pub writes_answered : s.count < most_count
-          → write_answer s.now s.kind s.absent s.count img b (length buf) (length work) ≡ cond (all_of (holding (geometry z) img s.absent s.now) (slots z)) Done (Refused NoLabel)
+          → write_answer s.now s.kind s.absent s.count img b (length buf) (length work) ≡ cond (all_of (holding (geometry z) img s.absent s.now) (slots z)) (Ok tt) (Err NoLabel)
       writes_answered small =
           let y = bound_since z first disks blank chain two in
           write_goes z s.now (rest_ours z y.0 (fresh z first disks blank) y.1 w img s work rests y.3) labels_in_range.0 s.absent rests_enough b buf work inner whole (room_kept z first disks blank chain two) s.kind rests s.count small img

@@ -1,6 +1,6 @@
 -- BEGIN IS THE PROGRAM'S: what the code finds on the disk of slot d is what the protocol's program finds there, and the state with which
 -- an accepted begin begins has the program's list before it. Assumes nothing.
-use Rattle.std.specs.Prelude.{◌≡◌, ◌&&◌, ◌||◌, ℕ, suc, ◌<◌, ◌%◌}
+use Rattle.std.specs.Prelude.{◌≡◌, ◌&&◌, ◌||◌, ℕ, suc, ◌<◌, ◌%◌, Some, None}
 use Rattle.std.proofs.Math.Path.{refl, sym, ap, ap₂, fun_ext}
 use Rattle.std.proofs.Common.{◌∙◌, add-one, eq-eqb}
 use Rattle.std.proofs.Math.Bool.{Bool, true, false, cond, not}
@@ -12,8 +12,7 @@ use Rattle.label.specs.Valid.{label_at, decode_of}
 use Rattle.label.specs.Newest.{copy_of, same_shelf}
 use Rattle.label.specs.Strange as strange
 use Rattle.label.specs.declared.fields.Label as bytes
-use Rattle.label.specs.declared.codec.Decoded.{Decoded}
-use Rattle.label.specs.declared.codec.Decoded.TheVariants.{Valid, Nothing}
+use Rattle.label.specs.Fields.{Decoded}
 use Rattle.label.proofs.Counts.{SameShelf, same_says}
 use Rattle.protocol.specs.World.{label, slot, Action}
 use Rattle.protocol.specs.Batch.{puts, flushes}
@@ -69,8 +68,8 @@ module _ (z : Shelf) (img : List ℕ) (disks : Disks z img) (s : State) (own : o
 
   -- a copy of this shelf
   age_same : (x : Decoded) → (meant z x).generation ≡ age_under (l z img disks s own d there) x
-  age_same Nothing = refl
-  age_same (Valid b) = ap (λ (t : Bool). (cond t (label_of z b) (no_label z)).generation) (ours_same b) ∙ go (same_shelf (l z img disks s own d there) b)
+  age_same None = refl
+  age_same (Some b) = ap (λ (t : Bool). (cond t (label_of z b) (no_label z)).generation) (ours_same b) ∙ go (same_shelf (l z img disks s own d there) b)
     where
       go : (t : Bool) → (cond t (label_of z b) (no_label z)).generation ≡ cond t b.generation 0
       go true = refl
@@ -95,8 +94,8 @@ module _ (z : Shelf) (img : List ℕ) (disks : Disks z img) (s : State) (own : o
   -- a copy of another shelf or slot
   strange_same : (x : Decoded) → Labels.strange_in z d x ≡ strange.strange_in (l z img disks s own d there) d x
   unfolding strange.own
-  strange_same Nothing = refl
-  strange_same (Valid a) = ap (λ (t : Bool). cond (t && eqb a.slot d) 0 a.generation) (ours_same a)
+  strange_same None = refl
+  strange_same (Some a) = ap (λ (t : Bool). cond (t && eqb a.slot d) 0 a.generation) (ours_same a)
 
   read_is : (b : Bool) → ((f z img disks s own d there) (label d b)).bytes ≡ read_of (geometry z) img d (odd_sector b)
   unfolding sector_of copy_sector

@@ -1,7 +1,7 @@
 -- BEGIN, ACCEPTED AT REST, is accepted by the protocol's program too: it begins with a state in order, beside which the program remembers
 -- that same request. Asked is that the slot, if it is absent, is not looked at, as the protocol's invariant has it at rest; so it is out.
 -- Assumes nothing.
-use Rattle.std.specs.Prelude.{◌≡◌, List}
+use Rattle.std.specs.Prelude.{◌≡◌, List, Ok}
 use Rattle.std.proofs.Math.Path.{refl, ap₂}
 use Rattle.std.proofs.Common.{sym, ap, subst, ◌∙◌, arith}
 use Rattle.std.proofs.Math.Bool.{true, not}
@@ -9,7 +9,6 @@ use Prim.Native.Nat.{ℕ}
 use borrow.Author.Tests.{lt-ltb, not-true}
 use Rattle.disk.specs.Tests.{both}
 use Rattle.disk.specs.Mask.{in_mask}
-use Rattle.disk.specs.declared.refusal.Outcome.TheVariants.{Done}
 use Rattle.label.specs.Fields.{fits_of}
 use Rattle.label.proofs.Fits.{fits_says}
 use Rattle.protocol.specs.World.{Image}
@@ -40,7 +39,7 @@ use Rattle.refine.specs.BeginAsked.{only_present, A, f, absent_is, A_below, t, b
 use Rattle.refine.proofs.BeginAsked.{begin_list_is}
 use Rattle.refine.specs.BeginBegins.{begun_fits, l, o, goes, there, is_out, t', begun_ours, begin_clear}
 
-module _ (z : Shelf) (img : List ℕ) (disks : Disks z img) (s : State) (own : ours z s.now ≡ true) (d room : ℕ) (e : begin_answer s.now s.kind s.absent img d room ≡ Done)
+module _ (z : Shelf) (img : List ℕ) (disks : Disks z img) (s : State) (own : ours z s.now ≡ true) (d room : ℕ) (e : begin_answer s.now s.kind s.absent img d room ≡ Ok tt)
     (dark : in_mask s.absent d ≡ true → protocol.looked (size z) (label_of z s.now) d ≡ true → ⊥) where
   taken : sound (t z img disks s own d (there z img disks s own d room e dark)) ≡ true
   unfolding sound

@@ -5,7 +5,7 @@
 --
 -- A refusal is an answer that leaves everything as it was, and needs no event. The code may refuse more than the protocol's program:
 -- a disk whose newest label is another shelf's.
-use Rattle.std.specs.Prelude.{◌≡◌, ◌⊎◌, Bool, true, ℕ, ◌<◌, eqb, length}
+use Rattle.std.specs.Prelude.{◌≡◌, ◌⊎◌, Bool, true, ℕ, ◌<◌, eqb, length, Ok, Err, Some}
 use Rattle.std.proofs.Math.Path.{refl, ap, subst}
 use Rattle.std.proofs.Common.{sym, ap₂, ◌∙◌, ⊎_elim, inl, inr}
 use Rattle.std.proofs.Math.Bool.{false, cond}
@@ -15,16 +15,13 @@ use Rattle.disk.specs.Mask.{in_mask}
 use Rattle.disk.specs.declared.geometry.Geometry.{Geometry}
 use Rattle.disk.specs.declared.refusal.Refusal.{Refusal}
 use Rattle.disk.specs.declared.refusal.Refusal.TheVariants.{BadBuffer, NotNow}
-use Rattle.disk.specs.declared.refusal.Outcome.{Outcome}
-use Rattle.disk.specs.declared.refusal.Outcome.TheVariants.{Done, Refused}
+use Rattle.disk.specs.Refusal.{Outcome}
 use Rattle.label.specs.Bytes.{all_zero}
 use Rattle.label.specs.Newest.{same_shelf, copy_of}
-use Rattle.label.specs.declared.codec.Decoded.TheVariants.{Valid}
 use Rattle.label.specs.declared.fields.Label as bytes
 use Rattle.rounds.specs.Survey.{next_of, plan_of, survey_of}
 use Rattle.rounds.specs.declared.plan.Plan.{Plan}
-use Rattle.rounds.specs.declared.plan.Survey.{Survey}
-use Rattle.rounds.specs.declared.plan.Survey.TheVariants as survey
+use Rattle.rounds.specs.Survey.{Survey}
 use Rattle.rounds.proofs.Plans.{survey_grounds}
 use Rattle.protocol.specs.World.{Place, Image, update_here, World, put, flush, act, after, Possible, Always, sane_after, always_after, always_cur}
 use Rattle.protocol.specs.Program.{Memory, nothing, idle, Input, create, start, take_out, step, Reply, accepted, refused, did, safe, done, block, found, beyond}
@@ -47,14 +44,14 @@ use Rattle.shelf.specs.Step.{finished}
 use Rattle.stages.specs.declared.state.State.{State}
 use Rattle.stages.specs.declared.state.Kind.{Kind}
 use Rattle.stages.specs.declared.state.Kind.TheVariants.{Idle}
-use Rattle.stages.specs.declared.state.Answer.{Answer}
-use Rattle.requests.specs.Begun.{work_bytes, begun}
+use Rattle.stages.specs.Told.{Answer}
+use Rattle.requests.specs.Begun.{work_bytes, begun, state_of}
 use Rattle.requests.specs.Create.{create_answer, created, create_of}
 use Rattle.requests.specs.Start.{started, by_survey, start_of}
 use Rattle.requests.specs.TakeOut.{outed, take_answer, took_out, take_out_of}
 use Rattle.requests.specs.Step.{other_work, step_with, step_short, step_goes}
 use Rattle.requests.specs.Accepted.{create_done, take_done}
-use Rattle.requests.specs.declared.begun.Begun.{Begun}
+use Rattle.requests.specs.Begun.{Begun}
 use Rattle.refine.specs.Family.{Family, code_in, sectors_in, ZerosIn, HappensIn, leaves_of, program_in_lem}
 use Rattle.refine.proofs.Places.{place_one}
 use Rattle.refine.specs.Disks.{Disks, cur_of}
@@ -74,6 +71,7 @@ use Rattle.refine.proofs.Other.{start_other}
 use Rattle.refine.specs.Named.{Named, zeros_named, Names, left_in, create_names, start_names, out_names, step_names}
 use Rattle.refine.proofs.Named.{copy_ours, lead_ours}
 use Rattle.refine.specs.Chain.{Hand, handed, Heard, outs, blocks, Allowed, HappensTo, Reached, Tie, happens_to, happens, off, accepted_none, idle_is, step_rests, fresh, none, has}
+use Rattle.requests.specs.Begun.{outcome_of}
 
 module _ (z : Shelf) where
   -- at rest the program remembers its own
@@ -105,15 +103,15 @@ module _ (z : Shelf) (F : Family z) (first : Machine Sector) (view : View Sector
   -- ---- each call
 
   -- create
-  pub create_kept : (w : World Sector) (img : List ℕ) (h : Hand) (s : State) (room : ℕ) → Tie z F first view w img h → Tie z F first view w img (handed h (create_of s z.k z.m z.c z.sectors z.number img room))
+  pub create_kept : (w : World Sector) (img : List ℕ) (h : Hand) (s : State) (room : ℕ) → Tie z F first view w img h → Tie z F first view w img (handed h (create_of z.k z.m z.c z.sectors z.number img room))
   create_kept w img h s room t = by (create_answer z.k z.m z.c z.sectors img room) refl
     where
       fresh : State
       fresh = created z.k z.m z.c z.sectors z.number
 
-      by : (o : Outcome) → create_answer z.k z.m z.c z.sectors img room ≡ o → Tie z F first view w img (handed h (begun o s fresh))
-      by Done e =
-          let y : (create_of s z.k z.m z.c z.sectors z.number img room).outcome ≡ Done = ap (λ (o : Outcome). (begun o s fresh).outcome) e in
+      by : (o : Outcome) → create_answer z.k z.m z.c z.sectors img room ≡ o → Tie z F first view w img (handed h (begun o fresh))
+      by (Ok tt) e =
+          let y : outcome_of (create_of z.k z.m z.c z.sectors z.number img room) ≡ (Ok tt) = ap (λ (o : Outcome). outcome_of (begun o fresh)) e in
           let b = create_begins z img t.disks s room y in
           let q = (goes (create_answer z.k z.m z.c z.sectors img room) s fresh y).1 in
           let m = ap (λ (x : State). memory_of z x [] img) (sym q) ∙ b.1 in
@@ -127,7 +125,7 @@ module _ (z : Shelf) (F : Family z) (first : Machine Sector) (view : View Sector
             names = subst (λ (x : Memory Sector). Names z (left_in z x)) (sym m) (create_names z);
             order = (first_ours z img t.disks, inl (subst (λ (x : State). Fair z x [] img) q b.0, refl));
           }
-      by (Refused why) e = t
+      by (Err why) e = t
 
   -- start-up
   settled_ours : (img : List ℕ) (absent : ℕ) (l : bytes.Label) → ours z l ≡ true → ours z (plan_of (geometry z) img absent l).next ≡ true
@@ -135,7 +133,7 @@ module _ (z : Shelf) (F : Family z) (first : Machine Sector) (view : View Sector
   settled_ours img absent l e = e
 
   -- the survey goes by a label of this shelf
-  pub led_by : (w : World Sector) (img : List ℕ) (h : Hand) (absent : ℕ) → Tie z F first view w img h → (p : Plan) → survey_of (geometry z) img absent ≡ survey.Plan p → Led z img absent (beyond (slots z) (in_mask absent)) p.lead
+  pub led_by : (w : World Sector) (img : List ℕ) (h : Hand) (absent : ℕ) → Tie z F first view w img h → (p : Plan) → survey_of (geometry z) img absent ≡ Ok p → Led z img absent (beyond (slots z) (in_mask absent)) p.lead
   led_by w img h absent t p e =
       let r = survey_grounds (geometry z) img absent p e in
       record {
@@ -146,7 +144,7 @@ module _ (z : Shelf) (F : Family z) (first : Machine Sector) (view : View Sector
         agree = r.agree;
       }
 
-  start_kept : (w : World Sector) (img : List ℕ) (h : Hand) (s : State) (absent room : ℕ) → Allowed z F (outs (start_of s (geometry z) absent img room)) → Tie z F first view w img h → Tie z F first view w img (handed h (start_of s (geometry z) absent img room))
+  start_kept : (w : World Sector) (img : List ℕ) (h : Hand) (s : State) (absent room : ℕ) → Allowed z F (outs (start_of (geometry z) absent img room)) → Tie z F first view w img h → Tie z F first view w img (handed h (start_of (geometry z) absent img room))
   start_kept w img h s absent room ok t = by (survey_of (geometry z) img absent) refl
     where
       A : ℕ → Bool
@@ -155,44 +153,44 @@ module _ (z : Shelf) (F : Family z) (first : Machine Sector) (view : View Sector
       off_w : Reached z F first view w nothing
       off_w = (off z F first view) t.reached
 
-      begins : (p : Plan) → survey_of (geometry z) img absent ≡ survey.Plan p → eqb room (work_bytes (slots z) z.c) ≡ true → Tie z F first view w img (has (started (geometry z) absent p img))
+      begins : (p : Plan) → survey_of (geometry z) img absent ≡ Ok p → eqb room (work_bytes (slots z) z.c) ≡ true → Tie z F first view w img (has (started (geometry z) absent p img))
       begins p e q =
           let led = led_by w img h absent t p e in
-          let is : start_of s (geometry z) absent img room ≡ record { state = started (geometry z) absent p img; outcome = Done } =
-          ap (λ (x : Survey). by_survey x s (geometry z) absent img room) e ∙ ap (λ (b : Bool). cond b (record { state = started (geometry z) absent p img; outcome = Done }) (record { state = s; outcome = Refused BadBuffer })) q in
+          let is : start_of (geometry z) absent img room ≡ Ok (started (geometry z) absent p img) =
+          ap (λ (x : Survey). by_survey x (geometry z) absent img room) e ∙ ap (λ (b : Bool). cond b (Ok (started (geometry z) absent p img)) (Err BadBuffer)) q in
           let in_family = subst (λ (x : Begun). Allowed z F (outs x)) is ok (in_mask p.next.out) (Memᴰ.head refl) (start_few z img absent p e led) in
-          let b = start_begins z img absent p led e (start_real z img absent p e led F in_family w t.reads view off_w.keeps) s room (ap (λ (x : Begun). x.outcome) is) in
-          let m = ap (λ (x : Begun). memory_of z x.state [] img) (sym is) ∙ b.1 in
+          let b = start_begins z img absent p led e (start_real z img absent p e led F in_family w t.reads view off_w.keeps) s room (ap (λ (x : Begun). outcome_of x) is) in
+          let m = ap (λ (x : Begun). memory_of z (state_of s x) [] img) (sym is) ∙ b.1 in
           record {
             disks = t.disks;
             reads = t.reads;
             reached = subst (Reached z F first view w) (sym m) (asks img t.reads off_w _ (start (in_mask absent)) accepted (start_accepted z img absent p e led) (accepted_none z F first view) (λ y. one_allowed (in_mask p.next.out) _ (start_leaves z img absent p e led) in_family) (λ y a. a));
             named = t.named;
             names = subst (λ (x : Memory Sector). Names z (left_in z x)) (sym m) (start_names z A _);
-            order = (ap (λ (x : Plan). ours z x.next) (survey_grounds (geometry z) img absent p e).is ∙ settled_ours img absent p.lead led.own, inl (subst (λ (x : Begun). Fair z x.state [] img) is b.0, refl));
+            order = (ap (λ (x : Plan). ours z x.next) (survey_grounds (geometry z) img absent p e).is ∙ settled_ours img absent p.lead led.own, inl (subst (λ (x : Begun). Fair z (state_of s x) [] img) is b.0, refl));
           }
 
-      by : (x : Survey) → survey_of (geometry z) img absent ≡ x → Tie z F first view w img (handed h (by_survey x s (geometry z) absent img room))
-      by (survey.Refused why) e = t
-      by (survey.Plan p) e = fits (eqb room (work_bytes (slots z) z.c)) refl
+      by : (x : Survey) → survey_of (geometry z) img absent ≡ x → Tie z F first view w img (handed h (by_survey x (geometry z) absent img room))
+      by (Err why) e = t
+      by (Ok p) e = fits (eqb room (work_bytes (slots z) z.c)) refl
         where
-          fits : (b : Bool) → eqb room (work_bytes (slots z) z.c) ≡ b → Tie z F first view w img (handed h (cond b (record { state = started (geometry z) absent p img; outcome = Done }) (record { state = s; outcome = Refused BadBuffer })))
+          fits : (b : Bool) → eqb room (work_bytes (slots z) z.c) ≡ b → Tie z F first view w img (handed h (cond b (Ok (started (geometry z) absent p img)) (Err BadBuffer)))
           fits true q = begins p e q
           fits false q = t
 
   -- with any numbers
-  pub late_kept : (w : World Sector) (img : List ℕ) (h : Hand) (s : State) (k m c S number room : ℕ) → all_zero img ≡ false → Tie z F first view w img h → Tie z F first view w img (handed h (create_of s k m c S number img room))
-  late_kept w img h s k m c S number room e t = subst (λ (o : Outcome). Tie z F first view w img (handed h (begun o s (created k m c S number)))) (sym (create_late k m c S img room e)) t
+  pub late_kept : (w : World Sector) (img : List ℕ) (h : Hand) (s : State) (k m c S number room : ℕ) → all_zero img ≡ false → Tie z F first view w img h → Tie z F first view w img (handed h (create_of k m c S number img room))
+  late_kept w img h s k m c S number room e t = subst (λ (o : Outcome). Tie z F first view w img (handed h (begun o (created k m c S number)))) (sym (create_late k m c S img room e)) t
 
-  pub ours_in : (w : World Sector) (img : List ℕ) (h : Hand) → Tie z F first view w img h → (d s : ℕ) (a : bytes.Label) → d < slots z → s < 2 → copy_of (geometry z) img d s ≡ Valid a → ours z a ≡ true
+  pub ours_in : (w : World Sector) (img : List ℕ) (h : Hand) → Tie z F first view w img h → (d s : ℕ) (a : bytes.Label) → d < slots z → s < 2 → copy_of (geometry z) img d s ≡ Some a → ours z a ≡ true
   ours_in w img h t = copy_ours z img t.disks (subst (Named z) t.reads (always_cur (Named z) w ((off z F first view) t.reached).keeps.sane t.named))
 
-  pub start_any : (w : World Sector) (img : List ℕ) (h : Hand) (s : State) (g : Geometry) (absent room : ℕ) → Sits z g absent → Allowed z F (outs (start_of s g absent img room))
-      → Tie z F first view w img h → Tie z F first view w img (handed h (start_of s g absent img room))
+  pub start_any : (w : World Sector) (img : List ℕ) (h : Hand) (s : State) (g : Geometry) (absent room : ℕ) → Sits z g absent → Allowed z F (outs (start_of g absent img room))
+      → Tie z F first view w img h → Tie z F first view w img (handed h (start_of g absent img room))
   start_any w img h s g absent room sits ok t =
       ⊎_elim
-      (λ (e : g ≡ geometry z). subst (λ (x : Geometry). Allowed z F (outs (start_of s x absent img room)) → Tie z F first view w img (handed h (start_of s x absent img room))) (sym e) (λ y. start_kept w img h s absent room y t) ok)
-      (λ (other : g ≡ geometry z → ⊥). subst (λ (x : Survey). Tie z F first view w img (handed h (by_survey x s g absent img room))) (sym (start_other z img t.disks (ours_in w img h t) g absent other sits)) t) (same_numbers z g)
+      (λ (e : g ≡ geometry z). subst (λ (x : Geometry). Allowed z F (outs (start_of x absent img room)) → Tie z F first view w img (handed h (start_of x absent img room))) (sym e) (λ y. start_kept w img h s absent room y t) ok)
+      (λ (other : g ≡ geometry z → ⊥). subst (λ (x : Survey). Tie z F first view w img (handed h (by_survey x g absent img room))) (sym (start_other z img t.disks (ours_in w img h t) g absent other sits)) t) (same_numbers z g)
 
   pub out_kept : (w : World Sector) (img : List ℕ) (s : State) (d room : ℕ) → Allowed z F (outs (take_out_of s d img room)) → Tie z F first view w img (has s) → Tie z F first view w img (handed (has s) (take_out_of s d img room))
   out_kept w img s d room ok t = by (take_answer s.now s.kind s.absent img d room) refl
@@ -200,10 +198,10 @@ module _ (z : Shelf) (F : Family z) (first : Machine Sector) (view : View Sector
       own : ours z s.now ≡ true
       own = ⊎_elim (λ (f : Fair z s [] img × (plain s.kind ≡ true)). f.0.ours_now) (λ (q : (s.kind ≡ Idle) × (ours z s.now ≡ true)). q.1) t.order.1
 
-      by : (o : Outcome) → take_answer s.now s.kind s.absent img d room ≡ o → Tie z F first view w img (handed (has s) (begun o s (took_out s d)))
-      by Done e =
-          let y : (take_out_of s d img room).outcome ≡ Done = ap (λ (o : Outcome). (begun o s (took_out s d)).outcome) e in
-          let in_family = subst (λ (o : Outcome). Allowed z F (outs (begun o s (took_out s d)))) e ok (in_mask (outed s.now d).out) (Memᴰ.head refl) (out_few z img t.disks s own d room e) in
+      by : (o : Outcome) → take_answer s.now s.kind s.absent img d room ≡ o → Tie z F first view w img (handed (has s) (begun o (took_out s d)))
+      by (Ok tt) e =
+          let y : outcome_of (take_out_of s d img room) ≡ (Ok tt) = ap (λ (o : Outcome). outcome_of (begun o (took_out s d))) e in
+          let in_family = subst (λ (o : Outcome). Allowed z F (outs (begun o (took_out s d)))) e ok (in_mask (outed s.now d).out) (Memᴰ.head refl) (out_few z img t.disks s own d room e) in
           let b = out_begins z img t.disks s own d room y in
           let q = (goes (take_answer s.now s.kind s.absent img d room) s (took_out s d) y).1 in
           let m = ap (λ (x : State). memory_of z x [] img) (sym q) ∙ b.1 in
@@ -216,7 +214,7 @@ module _ (z : Shelf) (F : Family z) (first : Machine Sector) (view : View Sector
             names = subst (λ (x : Memory Sector). Names z (left_in z x)) (sym m) (out_names z (own_of z s s.now) d);
             order = (out_ours z img t.disks s own d, inl (subst (λ (x : State). Fair z x [] img) q b.0, refl));
           }
-      by (Refused why) e = t
+      by (Err why) e = t
 
   pub cut_kept : (w : World Sector) (img : List ℕ) (h : Hand) (left : List ℕ) → Disks z left → Possible w (cur_of z left) → Tie z F first view w img h → Tie z F first view (after (cur_of z left)) left none
   unfolding after Always
@@ -294,22 +292,22 @@ module _ (z : Shelf) (F : Family z) (first : Machine Sector) (view : View Sector
       busy f p false e = inl (subst (Tied z s [] img) (sym (step_goes s img work f.in_range_lem e)) (step_tied z s [] work img p f))
 
   -- THE SETS THAT ARE LEFT OUT are of at most m slots each
-  start_passed : (w : World Sector) (img : List ℕ) (h : Hand) (s : State) (absent room : ℕ) → Tie z F first view w img h → (a : ℕ → Bool) → Memᴰ a (outs (start_of s (geometry z) absent img room)) → few_of z a ≡ true
+  start_passed : (w : World Sector) (img : List ℕ) (h : Hand) (s : State) (absent room : ℕ) → Tie z F first view w img h → (a : ℕ → Bool) → Memᴰ a (outs (start_of (geometry z) absent img room)) → few_of z a ≡ true
   start_passed w img h s absent room t a = by (survey_of (geometry z) img absent) refl
     where
-      by : (x : Survey) → survey_of (geometry z) img absent ≡ x → Memᴰ a (outs (by_survey x s (geometry z) absent img room)) → few_of z a ≡ true
-      by (survey.Refused why) e m = absurd (Memᴰ.not-nil m)
-      by (survey.Plan p) e m = fits (eqb room (work_bytes (slots z) z.c)) m
+      by : (x : Survey) → survey_of (geometry z) img absent ≡ x → Memᴰ a (outs (by_survey x (geometry z) absent img room)) → few_of z a ≡ true
+      by (Err why) e m = absurd (Memᴰ.not-nil m)
+      by (Ok p) e m = fits (eqb room (work_bytes (slots z) z.c)) m
         where
-          fits : (b : Bool) → Memᴰ a (outs (cond b (record { state = started (geometry z) absent p img; outcome = Done }) (record { state = s; outcome = Refused BadBuffer }))) → few_of z a ≡ true
+          fits : (b : Bool) → Memᴰ a (outs (cond b (Ok (started (geometry z) absent p img)) (Err BadBuffer))) → few_of z a ≡ true
           fits true m = ⊎_elim (λ q. ap (few_of z) q ∙ start_few z img absent p e (led_by w img h absent t p e)) (λ n. absurd (Memᴰ.not-nil n)) (Memᴰ.cases_cons m)
           fits false m = absurd (Memᴰ.not-nil m)
 
   pub start_any_passed : (w : World Sector) (img : List ℕ) (h : Hand) (s : State) (g : Geometry) (absent room : ℕ) → Sits z g absent → Tie z F first view w img h
-      → (a : ℕ → Bool) → Memᴰ a (outs (start_of s g absent img room)) → few_of z a ≡ true
+      → (a : ℕ → Bool) → Memᴰ a (outs (start_of g absent img room)) → few_of z a ≡ true
   start_any_passed w img h s g absent room sits t a =
-      ⊎_elim (λ (e : g ≡ geometry z). subst (λ (x : Geometry). Memᴰ a (outs (start_of s x absent img room)) → few_of z a ≡ true) (sym e) (start_passed w img h s absent room t a))
-      (λ (other : g ≡ geometry z → ⊥). subst (λ (x : Survey). Memᴰ a (outs (by_survey x s g absent img room)) → few_of z a ≡ true) (sym (start_other z img t.disks (ours_in w img h t) g absent other sits)) (λ n. absurd (Memᴰ.not-nil n))) (same_numbers z g)
+      ⊎_elim (λ (e : g ≡ geometry z). subst (λ (x : Geometry). Memᴰ a (outs (start_of x absent img room)) → few_of z a ≡ true) (sym e) (start_passed w img h s absent room t a))
+      (λ (other : g ≡ geometry z → ⊥). subst (λ (x : Survey). Memᴰ a (outs (by_survey x g absent img room)) → few_of z a ≡ true) (sym (start_other z img t.disks (ours_in w img h t) g absent other sits)) (λ n. absurd (Memᴰ.not-nil n))) (same_numbers z g)
 
   pub out_passed : (w : World Sector) (img : List ℕ) (s : State) (d room : ℕ) → Tie z F first view w img (has s) → (a : ℕ → Bool) → Memᴰ a (outs (take_out_of s d img room)) → few_of z a ≡ true
   out_passed w img s d room t a = by (take_answer s.now s.kind s.absent img d room) refl
@@ -317,9 +315,9 @@ module _ (z : Shelf) (F : Family z) (first : Machine Sector) (view : View Sector
       own : ours z s.now ≡ true
       own = ⊎_elim (λ (f : Fair z s [] img × (plain s.kind ≡ true)). f.0.ours_now) (λ (q : (s.kind ≡ Idle) × (ours z s.now ≡ true)). q.1) t.order.1
 
-      by : (o : Outcome) → take_answer s.now s.kind s.absent img d room ≡ o → Memᴰ a (outs (begun o s (took_out s d))) → few_of z a ≡ true
-      by Done e m = ⊎_elim (λ q. ap (few_of z) q ∙ out_few z img t.disks s own d room e) (λ n. absurd (Memᴰ.not-nil n)) (Memᴰ.cases_cons m)
-      by (Refused why) e m = absurd (Memᴰ.not-nil m)
+      by : (o : Outcome) → take_answer s.now s.kind s.absent img d room ≡ o → Memᴰ a (outs (begun o (took_out s d))) → few_of z a ≡ true
+      by (Ok tt) e m = ⊎_elim (λ q. ap (few_of z) q ∙ out_few z img t.disks s own d room e) (λ n. absurd (Memᴰ.not-nil n)) (Memᴰ.cases_cons m)
+      by (Err why) e m = absurd (Memᴰ.not-nil m)
 
 module _ (z : Shelf) (F : Family z) (first : Machine Sector) where
   -- each step can be followed: its answer names a sector of the shelf

@@ -1,7 +1,7 @@
 -- WHAT CHAINS WITH EXCHANGED DISKS KEEP beside the host's view: no disk names another shelf, and every label has its shape, whatever a cut leaves; a step can be followed; a start-up under way is carried
 -- out by its steps; which start-ups are refused; and at rest every strip that the state's label believes is what the host's list asks for, so
 -- a rebuild that answers Done has healed its slot, and every block can be read. Assumes nothing.
-use Rattle.std.specs.Prelude.{◌≡◌, Bool, false, not, List, [], ℕ, ◌+◌, ◌*◌, ◌<◌, ◌/◌, ◌%◌, eqb, ltb, length}
+use Rattle.std.specs.Prelude.{◌≡◌, Bool, false, not, List, [], ℕ, ◌+◌, ◌*◌, ◌<◌, ◌/◌, ◌%◌, eqb, ltb, length, Ok, Some}
 use Rattle.std.proofs.Math.Path.{refl}
 use Rattle.std.proofs.Common.{sym, ap, subst, ◌∙◌, inl, inr, true≢false, arith, ltb-true}
 use Rattle.std.proofs.Math.Logic.{⊎_elim}
@@ -12,12 +12,10 @@ use Rattle.disk.specs.Tests.{and_left, and_right}
 use Rattle.disk.specs.Limits.{sector_bytes}
 use Rattle.disk.specs.Geometry.{blocks_of, stripes_of, strip_of}
 use Rattle.disk.proofs.GeometryLaws.{strip_inside}
-use Rattle.disk.specs.declared.refusal.Outcome.TheVariants.{Done}
 use Rattle.label.specs.Fields.{no_slot, fits_of}
 use Rattle.label.specs.Bytes.{all_zero}
 use Rattle.label.specs.Newest.{copy_of}
 use Rattle.label.specs.declared.fields.Label as bytes
-use Rattle.label.specs.declared.codec.Decoded.TheVariants.{Valid}
 use Rattle.redo.specs.Decide.{looked, believed}
 use Rattle.protocol.specs.World.{World, put, flush, act, after, Possible, Sane}
 use Rattle.protocol.specs.Host.{Host}
@@ -30,8 +28,8 @@ use Rattle.shelf.specs.Act.{Move}
 use Rattle.shelf.specs.Step.{finished, step_move}
 use Rattle.stages.specs.declared.state.State.{State}
 use Rattle.stages.specs.declared.state.Kind.TheVariants.{Idle, Filling}
-use Rattle.stages.specs.declared.state.Answer.{Answer}
-use Rattle.stages.specs.declared.state.Answer.TheVariants as answer
+use Rattle.stages.specs.Told.{Answer}
+use Rattle.stages.specs.Told as answer
 use Rattle.stages.specs.State.{rested}
 use Rattle.requests.specs.Begun.{work_bytes}
 use Rattle.requests.specs.Step.{other_work, step_with, step_short, step_goes}
@@ -74,7 +72,7 @@ heard_any z w w0 (answer.Refused why) img v e = (w, refl)
 module _ (z : Shelf) (F : Family z) (first : Machine Sector) (p : View Sector) (w : World Sector) (img : List ℕ) where
   module _ (h : Held) (left : List ℕ) (here : Disks z left) (possible : Possible w (cur_of z left)) where
     -- NO DISK NAMES ANOTHER SHELF, whatever a cut leaves
-    pub stands_labels : StandsAt z F first p (at w img h) → (d s : ℕ) (a : bytes.Label) → d < slots z → s < 2 → copy_of (geometry z) left d s ≡ Valid a → ours z a ≡ true
+    pub stands_labels : StandsAt z F first p (at w img h) → (d s : ℕ) (a : bytes.Label) → d < slots z → s < 2 → copy_of (geometry z) left d s ≡ Some a → ours z a ≡ true
     unfolding Possible
     stands_labels (inl t) = bound_labels z F first p t.0 img h t.2 left here (λ k. t.1.fewer k (cur_of z left k) refl (possible k))
     stands_labels (inr t) = late_own z F first p (after (cur_of z left)) left none (late_cut z F first p w img h t left here possible)
@@ -174,7 +172,7 @@ module _ (z : Shelf) (F : Family z) (first : Machine Sector) (p : View Sector) (
 
     -- AT MOST m SLOTS ARE OUT OR ABSENT, so a block of the shelf is read, with a label in range and a work area of its size
     pub stands_read : (e : s.kind ≡ Idle) → StandsAt z F first p (at w img (has s work)) → fits_of s.now ≡ true → (b : ℕ) (buf : List ℕ) → b < blocks_of (geometry z) z.k → length buf ≡ z.c * sector_bytes
-        → length work ≡ work_bytes (slots z) z.c → read_answer s.now s.kind s.absent b (length img) (length buf) (length work) ≡ Done
+        → length work ≡ work_bytes (slots z) z.c → read_answer s.now s.kind s.absent b (length img) (length buf) (length work) ≡ Ok tt
     unfolding plainly_out
     stands_read e y fit b buf inner whole room =
         let few = F.few (in_mask s.now.out) (stands_out z first F p (at w img (has s work)) y (ap is_idle e)) in
@@ -234,7 +232,7 @@ module _ (z : Shelf) (first : List ℕ) (disks : Disks z first) (blank : all_zer
   pub exchanged_reads_entry : AnyTwoThen (since c) r → s.kind ≡ Idle → length work ≡ work_bytes (slots z) z.c
       → (p : View Sector) × (v : Host Sector) × Served c (sure blocks) p × AllServed r p (sure v)
       × ((b : ℕ) (buf : List ℕ) → b < blocks_of (geometry z) z.k → length buf ≡ z.c * sector_bytes
-      → (read_answer s.now s.kind s.absent b (length img) (length buf) (length work) ≡ Done) × (after_read Done s b img work buf ≡ strip_bytes (v (b / z.k) (b % z.k)) z.c))
+      → (read_answer s.now s.kind s.absent b (length img) (length buf) (length work) ≡ Ok tt) × (after_read (Ok tt) s b img work buf ≡ strip_bytes (v (b / z.k) (b % z.k)) z.c))
   exchanged_reads_entry then e room =
       let y = any_exchanged_stands z first disks blank c r two then in
       let x = exchanged_rests_true then e in (

@@ -1,6 +1,6 @@
 -- WHAT IS TRUE OF THE DISKS, in the words of the bytes: what it means that no label on any disk lies, also while a write is under way, and that a label has its shape; each follows from the protocol's
 -- words for it (`Truthful` and `OwnTrue` of its Kept, `Shape`). Assumes nothing.
-use Rattle.std.specs.Prelude.{◌≡◌, ◌⊎◌, Bool, true, false, not}
+use Rattle.std.specs.Prelude.{◌≡◌, ◌⊎◌, Bool, true, false, not, Some, None}
 use Rattle.std.proofs.Math.Path.{refl, sym, ap, ap₂, subst}
 use Rattle.std.proofs.Common.{◌∙◌, ⊎_elim, inl, inr, true≢false, mod-eq_of_lt, arith}
 use Rattle.std.proofs.Math.Bool.{cond, ◌&&◌}
@@ -17,8 +17,7 @@ use Rattle.disk.specs.Mask.{in_mask, mask_of, mask_below}
 use Rattle.label.specs.Valid.{decode_of}
 use Rattle.label.specs.Newest.{copy_of}
 use Rattle.label.specs.declared.fields.Label as bytes
-use Rattle.label.specs.declared.codec.Decoded.{Decoded}
-use Rattle.label.specs.declared.codec.Decoded.TheVariants.{Valid, Nothing}
+use Rattle.label.specs.Fields.{Decoded}
 use Rattle.label.proofs.Fits.{fits_says}
 use Rattle.label.proofs.Counts.{copy_says}
 use Rattle.record.specs.Stamp.{stamp_at, zero_stamp, later_of, StampFits, later_or}
@@ -26,7 +25,7 @@ use Rattle.record.specs.Tail.{tail_at, may_be}
 use Rattle.record.specs.Log.{restore_of}
 use Rattle.record.specs.declared.stamp.Stamp.{Stamp}
 use Rattle.record.specs.declared.tail.Tail.{Tail}
-use Rattle.record.specs.declared.tail.Found as tail
+use Rattle.record.specs.Tail.{Found}
 use Rattle.redo.specs.Decide.{looked, believed, log_at, tail_found, no_stamp, stamp_found, key_of, lead_of, involved, complete_with, whole_of, marked, settled, decided, redo_of}
 use Rattle.redo.specs.Laws.{looked_below, believed_looked, believed_below, tail_tells, decided_some, key_is}
 use Rattle.redo.specs.Laws as laws
@@ -84,9 +83,9 @@ module _ (z : Shelf) (img : List ℕ) (disks : Disks z img) (a : bytes.Label) (s
   unfolding key_of redo_of settled involved tail_at zero_stamp
   carries = by (tail_found (geometry z) img a (top z img disks a stripe changes stamp some full last told d own changed)) refl
     where
-      by : (f : tail.Found) → tail_found (geometry z) img a (top z img disks a stripe changes stamp some full last told d own changed) ≡ f → Carried z a stripe changes stamp img
-      by tail.TheVariants.Nothing e = absurd (true≢false (sym (zero_top stamp no_stamp refl (ap (λ (f : tail.Found). later_of stamp (stamp_found f)) (sym e) ∙ leads)) ∙ some))
-      by (tail.TheVariants.Record x) e =
+      by : (f : Found) → tail_found (geometry z) img a (top z img disks a stripe changes stamp some full last told d own changed) ≡ f → Carried z a stripe changes stamp img
+      by None e = absurd (true≢false (sym (zero_top stamp no_stamp refl (ap (λ (f : Found). later_of stamp (stamp_found f)) (sym e) ∙ leads)) ∙ some))
+      by (Some x) e =
           record {
             full = full;
             last = last;
@@ -108,7 +107,7 @@ module _ (z : Shelf) (img : List ℕ) (disks : Disks z img) (a : bytes.Label) (s
           is : x.stamp ≡ stamp
           is =
               ⊎_elim (λ (q : later_of x.stamp stamp ≡ true). absurd (true≢false (sym q ∙ ap (λ (y : Stamp). later_of y stamp) (sym read) ∙ last (top z img disks a stripe changes stamp some full last told d own changed) z.c t.seen (omega arith))))
-              (⊎_elim (λ (q : later_of stamp x.stamp ≡ true). absurd (true≢false (sym q ∙ ap (λ (f : tail.Found). later_of stamp (stamp_found f)) (sym e) ∙ leads))) (λ (q : x.stamp ≡ stamp). q))
+              (⊎_elim (λ (q : later_of stamp x.stamp ≡ true). absurd (true≢false (sym q ∙ ap (λ (f : Found). later_of stamp (stamp_found f)) (sym e) ∙ leads))) (λ (q : x.stamp ≡ stamp). q))
               (later_or x.stamp stamp)
 
           tells : Tells z a stripe changes x
@@ -230,19 +229,19 @@ module _ (z : Shelf) (F : Family z) where
     copy_meant d b h = ap (λ (x : List ℕ). meant z (decode_of x d (sector_of b))) (cur_read z img disks (label d b) (label_inside z d b h))
 
     module _ (named : Named z (cur_of z img)) where
-      copy_label : (d s : ℕ) (a : bytes.Label) → d < slots z → (l : s < 2) → copy_of (geometry z) img d s ≡ Valid a → copy (labels z) (cur_of z img) d (side s l).0 ≡ label_of z a
+      copy_label : (d s : ℕ) (a : bytes.Label) → d < slots z → (l : s < 2) → copy_of (geometry z) img d s ≡ Some a → copy (labels z) (cur_of z img) d (side s l).0 ≡ label_of z a
       copy_label d s a h l e =
           let b = side s l in
           copy_meant d b.0 h ∙ ap (λ (x : ℕ). meant z (copy_of (geometry z) img d x)) b.1 ∙ ap (meant z) e
           ∙ ap (λ (t : Bool). cond t (label_of z a) (no_label z)) (copy_ours z img disks named d s a h l e)
 
       -- a copy that has a generation is a label
-      pub copy_there : (d : ℕ) (b : Bool) (q : ℕ) → d < slots z → 0 < q → q ≤ (copy (labels z) (cur_of z img) d b).generation → (a : bytes.Label) × (copy_of (geometry z) img d (sector_of b) ≡ Valid a) × (q ≤ a.generation)
+      pub copy_there : (d : ℕ) (b : Bool) (q : ℕ) → d < slots z → 0 < q → q ≤ (copy (labels z) (cur_of z img) d b).generation → (a : bytes.Label) × (copy_of (geometry z) img d (sector_of b) ≡ Some a) × (q ≤ a.generation)
       copy_there d b q h pos le = by (copy_of (geometry z) img d (sector_of b)) refl (subst (λ (x : Label). q ≤ x.generation) (copy_meant d b h) le)
         where
-          by : (x : Decoded) → copy_of (geometry z) img d (sector_of b) ≡ x → q ≤ (meant z x).generation → (a : bytes.Label) × (copy_of (geometry z) img d (sector_of b) ≡ Valid a) × (q ≤ a.generation)
-          by Nothing e i = absurd (omega arith)
-          by (Valid a) e i = (a, e, own (ours z a) i)
+          by : (x : Decoded) → copy_of (geometry z) img d (sector_of b) ≡ x → q ≤ (meant z x).generation → (a : bytes.Label) × (copy_of (geometry z) img d (sector_of b) ≡ Some a) × (q ≤ a.generation)
+          by None e i = absurd (omega arith)
+          by (Some a) e i = (a, e, own (ours z a) i)
             where
               own : (t : Bool) → q ≤ (cond t (label_of z a) (no_label z)).generation → q ≤ a.generation
               own true i = i
@@ -265,14 +264,14 @@ module _ (z : Shelf) (F : Family z) where
             right = λ d s a i l e g. believes p h.written h.stamp (copy (labels z) (cur_of z img) d (side s l).0) a (copy_label d s a i l e) (h.right d (side s l).0 i (omega (arith, born d s a e, age d s a i l e)) (omega (arith, g, age d s a i l e)));
           }
         where
-          age : (d s : ℕ) (a : bytes.Label) → d < slots z → (l : s < 2) → copy_of (geometry z) img d s ≡ Valid a → (copy (labels z) (cur_of z img) d (side s l).0).generation ≡ a.generation
+          age : (d s : ℕ) (a : bytes.Label) → d < slots z → (l : s < 2) → copy_of (geometry z) img d s ≡ Some a → (copy (labels z) (cur_of z img) d (side s l).0).generation ≡ a.generation
           age d s a i l e = ap (λ (y : Label). y.generation) (copy_label d s a i l e)
 
-          born : (d s : ℕ) (a : bytes.Label) → copy_of (geometry z) img d s ≡ Valid a → 0 < a.generation
+          born : (d s : ℕ) (a : bytes.Label) → copy_of (geometry z) img d s ≡ Some a → 0 < a.generation
           born d s a e = (fits_says a (copy_says (geometry z) img d s a e).fit).from_one
 
       -- what a valid copy counts as
-      pub copy_counts : (d : ℕ) (b : Bool) (a : bytes.Label) → d < slots z → copy_of (geometry z) img d (sector_of b) ≡ Valid a → ((copy (labels z) (cur_of z img) d b).generation ≡ a.generation) × (0 < a.generation)
+      pub copy_counts : (d : ℕ) (b : Bool) (a : bytes.Label) → d < slots z → copy_of (geometry z) img d (sector_of b) ≡ Some a → ((copy (labels z) (cur_of z img) d b).generation ≡ a.generation) × (0 < a.generation)
       copy_counts d false a i e = (ap (λ (y : Label). y.generation) (copy_label d 0 a i (omega arith) e), (fits_says a (copy_says (geometry z) img d 0 a e).fit).from_one)
       copy_counts d true a i e = (ap (λ (y : Label). y.generation) (copy_label d 1 a i (omega arith) e), (fits_says a (copy_says (geometry z) img d 1 a e).fit).from_one)
 
@@ -281,14 +280,14 @@ module _ (z : Shelf) (F : Family z) where
       shape_of d i h = record { calm = calm; follow = follow }
         where
           Either : ℕ → Type 0
-          Either s = (sector z.sectors img d s ≡ replicate sector_bytes 0) ⊎ ((a : bytes.Label) × (copy_of (geometry z) img d s ≡ Valid a))
+          Either s = (sector z.sectors img d s ≡ replicate sector_bytes 0) ⊎ ((a : bytes.Label) × (copy_of (geometry z) img d s ≡ Some a))
 
           beside : (b : Bool) → 0 < (copy (labels z) (cur_of z img) d (not b)).generation → Either (sector_of b)
           beside b p =
               ⊎_elim (λ (q : cur_of z img (label d b) ≡ zeros). inl (sym (cur_bytes z img disks (label d b) (label_inside z d b i)) ∙ ap (λ (x : Sector). x.bytes) q))
               (λ (q : 0 < (copy (labels z) (cur_of z img) d b).generation). inr (let y = copy_there d b 1 i (omega arith) q in (y.0, y.1))) (h.calm b (inr p))
 
-          calm : (s o : ℕ) (a : bytes.Label) → s < 2 → o < 2 → copy_of (geometry z) img d o ≡ Valid a → Either s
+          calm : (s o : ℕ) (a : bytes.Label) → s < 2 → o < 2 → copy_of (geometry z) img d o ≡ Some a → Either s
           calm zero zero a l k e = inr (a, e)
           calm zero (suc zero) a l k e = let y = copy_counts d true a i e in beside false (omega (arith, y.0, y.1))
           calm (suc zero) zero a l k e = let y = copy_counts d false a i e in beside true (omega (arith, y.0, y.1))
@@ -297,7 +296,7 @@ module _ (z : Shelf) (F : Family z) where
           calm (suc zero) (suc (suc o)) a l k e = absurd (omega arith)
           calm (suc (suc s)) o a l k e = absurd (omega arith)
 
-          follow : (a b : bytes.Label) → copy_of (geometry z) img d 0 ≡ Valid a → copy_of (geometry z) img d 1 ≡ Valid b → (a.generation ≡ suc b.generation) ⊎ (b.generation ≡ suc a.generation)
+          follow : (a b : bytes.Label) → copy_of (geometry z) img d 0 ≡ Some a → copy_of (geometry z) img d 1 ≡ Some b → (a.generation ≡ suc b.generation) ⊎ (b.generation ≡ suc a.generation)
           follow a b p q =
               let x = copy_counts d false a i p in
               let y = copy_counts d true b i q in

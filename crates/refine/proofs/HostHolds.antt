@@ -1,6 +1,6 @@
 -- WHAT EVERY CHAIN OF CALLS WITH WRITES KEEPS beside the host's view: a step can be followed; a write, a begin or a rebuild under way is carried out by its steps;
 -- at rest the view is a list, and every believed strip is what it asks for, whatever a cut leaves; no disk names another shelf, and every label has its shape. Assumes nothing.
-use Rattle.std.specs.Prelude.{◌≡◌, Bool, ℕ, ◌<◌, length}
+use Rattle.std.specs.Prelude.{◌≡◌, Bool, ℕ, ◌<◌, length, Some}
 use Rattle.std.proofs.Math.Path.{refl, ap}
 use Rattle.std.proofs.Common.{sym, subst, ◌∙◌, ⊎_elim, inl, inr}
 use Rattle.std.proofs.Math.Bool.{true, false}
@@ -9,7 +9,6 @@ use mathlib.Core.List.{List, []}
 use Rattle.disk.specs.declared.refusal.Refusal.{Refusal}
 use Rattle.label.specs.Newest.{copy_of}
 use Rattle.label.specs.declared.fields.Label as bytes
-use Rattle.label.specs.declared.codec.Decoded.TheVariants.{Valid}
 use Rattle.redo.specs.Decide.{believed}
 use Rattle.protocol.specs.World.{strip, World, Possible, Always}
 use Rattle.protocol.specs.Host.{Host}
@@ -50,7 +49,7 @@ use Rattle.refine.proofs.Hosts.{loose}
 module _ (z : Shelf) (F : Family z) (first : Machine Sector) (p : View Sector) (w : World Sector) (img : List ℕ) where
   -- NO DISK NAMES ANOTHER SHELF, whatever a cut leaves
   pub bound_labels : (h : Held) → Bound z F first p w img h → (left : List ℕ) → Disks z left → Possible w (cur_of z left)
-      → (d s : ℕ) (a : bytes.Label) → d < slots z → s < 2 → copy_of (geometry z) left d s ≡ Valid a → ours z a ≡ true
+      → (d s : ℕ) (a : bytes.Label) → d < slots z → s < 2 → copy_of (geometry z) left d s ≡ Some a → ours z a ≡ true
   unfolding Always
   bound_labels h t left here possible = copy_ours z left here ((loose z F first p w img h t).named (cur_of z left) possible)
 

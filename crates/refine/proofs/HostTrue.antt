@@ -1,6 +1,6 @@
 -- WHAT IS TRUE AT EVERY MOMENT OF A CHAIN OF CALLS, whatever is under way, in the words of the bytes: no label on any disk lies, nor does the state's own; at rest every absent slot is plainly out and
 -- create is refused; start with other numbers is refused; what was accepted is carried out, and its steps lead to rest. All from the tie with the protocol's machine (`Bound`), for any family. Assumes nothing.
-use Rattle.std.specs.Prelude.{◌≡◌, Bool, cond, not, ◌&&◌, ◌||◌, ℕ, zero, suc, ◌-◌, ◌≤◌, ◌<◌, eqb, ltb, length}
+use Rattle.std.specs.Prelude.{◌≡◌, Bool, cond, not, ◌&&◌, ◌||◌, ℕ, zero, suc, ◌-◌, ◌≤◌, ◌<◌, eqb, ltb, length, Ok, Err}
 use Rattle.std.proofs.Math.Path.{refl, sym, ap, subst}
 use Rattle.std.proofs.Common.{ap₂, ◌∙◌, inl, inr, arith}
 use Rattle.std.proofs.Math.Logic.{⊎_elim}
@@ -12,13 +12,11 @@ use borrow.Author.Tests.{eqb-true, lt-ltb}
 use Rattle.disk.specs.Mask.{in_mask}
 use Rattle.disk.specs.declared.geometry.Geometry.{Geometry}
 use Rattle.disk.specs.declared.refusal.Refusal.TheVariants.{BadImage, BadBuffer, NotNow}
-use Rattle.disk.specs.declared.refusal.Outcome.{Outcome}
-use Rattle.disk.specs.declared.refusal.Outcome.TheVariants.{Done, Refused}
+use Rattle.disk.specs.Refusal.{Outcome}
 use Rattle.label.specs.Bytes.{all_zero}
 use Rattle.redo.specs.Decide.{believed}
 use Rattle.rounds.specs.Survey.{survey_of}
-use Rattle.rounds.specs.declared.plan.Survey.{Survey}
-use Rattle.rounds.specs.declared.plan.Survey.TheVariants as survey
+use Rattle.rounds.specs.Survey.{Survey}
 use Rattle.protocol.specs.World.{Action, World, Possible, Sane, Always, always_cur}
 use Rattle.protocol.specs.Label.{copy, Aged, plainly_out as plainly_out'}
 use Rattle.protocol.specs.Decide.{Rest}
@@ -36,7 +34,7 @@ use Rattle.codecs.proofs.Records.{records}
 use Rattle.codecs.specs.Media.{stamps}
 use Rattle.shards.specs.Quorum.{few_of}
 use Rattle.stages.specs.declared.state.State.{State}
-use Rattle.stages.specs.declared.state.Stepped.{Stepped}
+use Rattle.stages.specs.Told.{Told}
 use Rattle.stages.specs.declared.state.Kind.{Kind}
 use Rattle.stages.specs.declared.state.Kind.TheVariants.{Nothing, Idle, Creating, Starting, Labelling, Writing, Beginning, Filling}
 use Rattle.stages.specs.State.{rested}
@@ -47,7 +45,7 @@ use Rattle.requests.specs.Start.{started, by_survey, start_of}
 use Rattle.requests.specs.Step.{step_with}
 use Rattle.requests.specs.TakeOut.{plainly_out, out_now, take_answer, took_out}
 use Rattle.requests.specs.Accepted.{passed, take_done}
-use Rattle.requests.specs.declared.begun.Begun.{Begun}
+use Rattle.requests.specs.Begun.{Begun}
 use Rattle.rebuilds.specs.Begin.{begin_answer, began}
 use Rattle.rebuilds.specs.On.{on_answer, went_on}
 use Rattle.blocks.specs.Write.{write_answer, AfterWrite}
@@ -89,10 +87,10 @@ module _ (z : Shelf) (F : Family z) (first : Machine Sector) (p : View Sector) (
 
     -- START WITH ANOTHER n, c OR S is refused, with this code, and changes nothing
     pub bound_elsewhere : (s : State) (g : Geometry) (absent room : ℕ) → (g ≡ geometry z → ⊥) → Sits z g absent
-        → start_of s g absent img room ≡ record { state = s; outcome = Refused (other_code g (length img) absent) }
+        → start_of g absent img room ≡ Err (other_code g (length img) absent)
     unfolding Always
     bound_elsewhere s g absent room other sits =
-        ap (λ (x : Survey). by_survey x s g absent img room) (start_other z img off.disks (copy_ours z img off.disks (off.named (cur_of z img) bound_possible)) g absent other sits)
+        ap (λ (x : Survey). by_survey x g absent img room) (start_other z img off.disks (copy_ours z img off.disks (off.named (cur_of z img) bound_possible)) g absent other sits)
 
     -- NO LABEL ON ANY DISK LIES, whatever a cut leaves and whatever is under way
     pub bound_honest : (left : List ℕ) → Disks z left → Possible w (cur_of z left) → NoLies z p left
@@ -207,8 +205,8 @@ module _ (z : Shelf) (F : Family z) (first : Machine Sector) (p : View Sector) (
           by (sure v) k false q = refl
 
       pub bound_create_again : (t : State) (k m c S number room : ℕ)
-          → create_of t k m c S number img room ≡ record { state = t; outcome = Refused (cond (shelf_fits k m c S (length img)) NotNow BadImage) }
-      bound_create_again t k m c S number room = ap (λ (o : Outcome). begun o t (created k m c S number)) (create_late k m c S img room bound_labelled)
+          → create_of k m c S number img room ≡ Err (cond (shelf_fits k m c S (length img)) NotNow BadImage)
+      bound_create_again t k m c S number room = ap (λ (o : Outcome). begun o (created k m c S number)) (create_late k m c S img room bound_labelled)
 
     -- ---- WHAT IS UNDER WAY
 
@@ -250,7 +248,7 @@ module _ (z : Shelf) (F : Family z) (first : Machine Sector) where
   bound_comes_to_rest p w img s work fits busy t =
       let e = bound_carried_out z F first p w img s work fits busy t in
       let r = steps_on e.0 p w img s work t in
-      let y = subst (λ (x : Stepped). (c : HostChain z (at w img (has s work)) (at r.0 (nth work e.0 s img).image (has x.state work))) × (sets c ≡ [])) e.1.ends (r.1, r.2) in
+      let y = subst (λ (x : Told). (c : HostChain z (at w img (has s work)) (at r.0 (nth work e.0 s img).image (has x.state work))) × (sets c ≡ [])) e.1.ends (r.1, r.2) in
       (r.0, (nth work e.0 s img).image, y.0, y.1)
 
 module _ (z : Shelf) (first : Machine Sector) where
@@ -265,25 +263,25 @@ module _ (z : Shelf) (first : Machine Sector) where
   -- ---- the work area
 
   -- a request that was accepted with it
-  taken : (h : Held) (o : Outcome) (s x : State) (work : List ℕ) → (o ≡ Done → length work ≡ work_bytes (slots z) z.c) → Room z h → Room z (held h (begun o s x) work)
-  taken h Done s x work is t = is refl
-  taken h (Refused why) s x work is t = t
+  taken : (h : Held) (o : Outcome) (s x : State) (work : List ℕ) → (o ≡ Ok tt → length work ≡ work_bytes (slots z) z.c) → Room z h → Room z (held h (begun o x) work)
+  taken h (Ok tt) s x work is t = is refl
+  taken h (Err why) s x work is t = t
 
-  create_sized : (img work : List ℕ) → create_answer z.k z.m z.c z.sectors img (length work) ≡ Done → length work ≡ work_bytes (slots z) z.c
+  create_sized : (img work : List ℕ) → create_answer z.k z.m z.c z.sectors img (length work) ≡ Ok tt → length work ≡ work_bytes (slots z) z.c
   unfolding create_answer
   create_sized img work e =
       let p = passed (shelf_fits z.k z.m z.c z.sectors (length img)) _ BadImage e in
-      eqb-true (length work) (work_bytes (slots z) z.c) (passed (eqb (length work) (work_bytes (slots z) z.c)) Done BadBuffer (passed (all_zero img) _ NotNow p.1).1).0
+      eqb-true (length work) (work_bytes (slots z) z.c) (passed (eqb (length work) (work_bytes (slots z) z.c)) (Ok tt) BadBuffer (passed (all_zero img) _ NotNow p.1).1).0
 
-  start_sized : (img : List ℕ) (h : Held) (s : State) (absent : ℕ) (work : List ℕ) → Room z h → Room z (held h (start_of s (geometry z) absent img (length work)) work)
+  start_sized : (img : List ℕ) (h : Held) (s : State) (absent : ℕ) (work : List ℕ) → Room z h → Room z (held h (start_of (geometry z) absent img (length work)) work)
   start_sized img h s absent work t = by (survey_of (geometry z) img absent)
     where
-      by : (x : Survey) → Room z (held h (by_survey x s (geometry z) absent img (length work)) work)
-      by (survey.Refused why) = t
-      by (survey.Plan p) = room (eqb (length work) (work_bytes (slots z) z.c)) refl
+      by : (x : Survey) → Room z (held h (by_survey x (geometry z) absent img (length work)) work)
+      by (Err why) = t
+      by (Ok p) = room (eqb (length work) (work_bytes (slots z) z.c)) refl
         where
           room : (b : Bool) → eqb (length work) (work_bytes (slots z) z.c) ≡ b
-              → Room z (held h (cond b (record { state = started (geometry z) absent p img; outcome = Done }) (record { state = s; outcome = Refused BadBuffer })) work)
+              → Room z (held h (cond b (Ok (started (geometry z) absent p img)) (Err BadBuffer)) work)
           room true e = eqb-true (length work) (work_bytes (slots z) z.c) e
           room false e = t
 
@@ -298,9 +296,9 @@ module _ (z : Shelf) (first : Machine Sector) where
   call_sized : {a b : Time} (x : HostCalls z a b) → (SomeBound z first) a → (SomeBound z first) b → Sized z a → Sized z b
   call_sized (creates {w} {img} {h} s work) n n' t = taken h (create_answer z.k z.m z.c z.sectors img (length work)) s _ work (create_sized img work) t
   call_sized (creates_late {w} {img} {h} s k m c S number work e) n n' t =
-      subst (λ (o : Outcome). Room z (held h (begun o s (created k m c S number)) work)) (sym (create_late k m c S img (length work) e)) t
+      subst (λ (o : Outcome). Room z (held h (begun o (created k m c S number)) work)) (sym (create_late k m c S img (length work) e)) t
   call_sized (starts {w} {img} {h} s g absent work sits) n n' t =
-      ⊎_elim (λ (e : g ≡ geometry z). subst (λ (x : Geometry). Room z (held h (start_of s x absent img (length work)) work)) (sym e) (start_sized img h s absent work t))
+      ⊎_elim (λ (e : g ≡ geometry z). subst (λ (x : Geometry). Room z (held h (start_of x absent img (length work)) work)) (sym e) (start_sized img h s absent work t))
       (λ (other : g ≡ geometry z → ⊥). subst (λ (x : Begun). Room z (held h x work)) (sym (bound_elsewhere z n.0 first n.1 w img h n.2 s g absent (length work) other sits)) t) (same_numbers z g)
   call_sized (takes_out {w} {img} {s} {work} d) n n' t = taken (has s work) (take_answer s.now s.kind s.absent img d (length work)) s (took_out s d) work (λ e. t) t
   call_sized (begins {w} {img} {s} {work} d) n n' t = taken (has s work) (begin_answer s.now s.kind s.absent img d (length work)) s (began s d img) work (λ e. t) t
@@ -308,8 +306,8 @@ module _ (z : Shelf) (first : Machine Sector) where
   call_sized (writes {w} {img} {s} {work} b given s' then x y e) n n' t = by (write_answer s.now s.kind s.absent s.count img b (length given) (length work)) e
     where
       by : (o : Outcome) → AfterWrite o s b given img work s' then → length then ≡ work_bytes (slots z) z.c
-      by Done a = write_sized n'.0 n'.1 w img s' then (ap (λ (x : State). x.kind) a.becomes) n'.2
-      by (Refused why) a = ap length a.1 ∙ t
+      by (Ok tt) a = write_sized n'.0 n'.1 w img s' then (ap (λ (x : State). x.kind) a.becomes) n'.2
+      by (Err why) a = ap length a.1 ∙ t
   call_sized (repairs {w} {img} {s} {work} u b then r) n n' t = ap length (repair_changes_nothing z n.0 first n.1 w img s work u b then r n.2).1 ∙ t
   call_sized (steps heard) n n' t = t
   call_sized (swaps d left x) n n' t = t
@@ -334,9 +332,9 @@ module _ (z : Shelf) (first : Machine Sector) where
       by (inl t) = out_passed z n.0 first n.1 w img s d (length work) t a m
       by (inr t) = refused (take_answer s.now s.kind s.absent img d (length work)) refl m
         where
-          refused : (o : Outcome) → take_answer s.now s.kind s.absent img d (length work) ≡ o → Memᴰ a (outs (begun o s (took_out s d))) → few_of z a ≡ true
-          refused Done e i = absurd (not_rest z n.0 first n.1 w img s work t (take_done s.now s.kind s.absent img d (length work) e).1.at_rest)
-          refused (Refused why) e i = absurd (Memᴰ.not-nil i)
+          refused : (o : Outcome) → take_answer s.now s.kind s.absent img d (length work) ≡ o → Memᴰ a (outs (begun o (took_out s d))) → few_of z a ≡ true
+          refused (Ok tt) e i = absurd (not_rest z n.0 first n.1 w img s work t (take_done s.now s.kind s.absent img d (length work) e).1.at_rest)
+          refused (Err why) e i = absurd (Memᴰ.not-nil i)
   call_passed (begins d) n a m = absurd (Memᴰ.not-nil m)
   call_passed (ons b) n a m = absurd (Memᴰ.not-nil m)
   call_passed (writes b given s' then x y e) n a m = absurd (Memᴰ.not-nil m)

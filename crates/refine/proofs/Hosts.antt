@@ -2,7 +2,7 @@
 -- of the caller and exchanged disks in between, and the host's view beside them. The caller hands back the state and the work area that it was handed last.
 -- What a call does to the view is said in the words of its answer (`Saw`). A repair is always refused, since no sector changes by itself.
 -- Assumes nothing.
-use Rattle.std.specs.Prelude.{◌≡◌, refl, ◌⊎◌, Bool, false, ℕ, ◌<◌, ◌/◌, ◌%◌, length}
+use Rattle.std.specs.Prelude.{◌≡◌, refl, ◌⊎◌, Bool, false, ℕ, ◌<◌, ◌/◌, ◌%◌, length, Ok, Err}
 use Rattle.std.proofs.Common.{sym, ◌∙◌, inr}
 use Rattle.std.proofs.Math.Path.{ap, subst}
 use Rattle.std.proofs.Math.Logic.{⊎_elim, inl}
@@ -14,8 +14,7 @@ use Rattle.disk.specs.Mask.{in_mask}
 use Rattle.disk.specs.declared.geometry.Geometry.{Geometry}
 use Rattle.disk.specs.declared.refusal.Refusal.{Refusal}
 use Rattle.disk.specs.declared.refusal.Refusal.TheVariants.{BadBuffer}
-use Rattle.disk.specs.declared.refusal.Outcome.{Outcome}
-use Rattle.disk.specs.declared.refusal.Outcome.TheVariants.{Done, Refused}
+use Rattle.disk.specs.Refusal.{Outcome}
 use Rattle.label.proofs.Counts.{same_says}
 use Rattle.protocol.specs.World.{strip, Image, Action, put, flush, World, Possible, Sane, Always}
 use Rattle.protocol.specs.Log.{Write}
@@ -34,8 +33,8 @@ use Rattle.shelf.specs.Step.{step_move, finished}
 use Rattle.stages.specs.declared.state.State.{State}
 use Rattle.stages.specs.declared.state.Kind.{Kind}
 use Rattle.stages.specs.declared.state.Kind.TheVariants.{Nothing, Idle, Creating, Starting, Labelling, Writing, Beginning, Filling}
-use Rattle.stages.specs.declared.state.Answer.{Answer}
-use Rattle.stages.specs.declared.state.Answer.TheVariants as answer
+use Rattle.stages.specs.Told.{Answer}
+use Rattle.stages.specs.Told as answer
 use Rattle.requests.specs.Begun.{work_bytes, begun}
 use Rattle.requests.specs.Create.{create_of}
 use Rattle.requests.specs.Start.{start_of}
@@ -43,7 +42,7 @@ use Rattle.requests.specs.TakeOut.{take_answer, took_out, take_out_of}
 use Rattle.requests.specs.Step.{other_work, step_with, step_short, step_goes}
 use Rattle.requests.specs.Accepted.{take_done}
 use Rattle.requests.specs.Ready.{is_idle}
-use Rattle.requests.specs.declared.begun.Begun.{Begun}
+use Rattle.requests.specs.Begun.{Begun}
 use Rattle.rebuilds.specs.Begin.{begin_answer, began, begin_of}
 use Rattle.rebuilds.specs.On.{on_answer, went_on, on_of}
 use Rattle.blocks.specs.Write.{Written, AfterWrite, write_done}
@@ -76,7 +75,8 @@ use Rattle.refine.specs.Refills.{Refilling, saw_label}
 use Rattle.refine.proofs.Refills.{on_kept, fill_kept}
 use Rattle.refine.specs.Swaps.{Exchanged, new_disk}
 use Rattle.refine.proofs.Swaps.{swap_kept}
-use Rattle.refine.specs.Hosts.{Held, Time, held_by, held, HostCalls, HostChain, sets_call, sets, Acknowledged, SawWrite, SawStart, SawStep, SawAsked, Saw, Seen, NotSafe, Laying, Readying, Going, Busy, Bound, BoundAt, rest_dark, asked, rest_of, none, has, creates, starts, creates_late, takes_out, begins, ons, writes, repairs, steps, cut, dies, swaps, stays, goes_on}
+use Rattle.refine.specs.Hosts.{Held, Time, held, HostCalls, HostChain, sets_call, sets, Acknowledged, SawWrite, SawStart, SawStep, SawAsked, Saw, Seen, NotSafe, Laying, Readying, Going, Busy, Bound, BoundAt, rest_dark, asked, rest_of, none, has, creates, starts, creates_late, takes_out, begins, ons, writes, repairs, steps, cut, dies, swaps, stays, goes_on}
+use Rattle.requests.specs.Begun.{outcome_of, state_of}
 
 module _ (z : Shelf) (F : Family z) (first : Machine Sector) where
   -- the state is lost
@@ -101,11 +101,8 @@ module _ (z : Shelf) (F : Family z) (first : Machine Sector) where
 
   -- a request that begins anew
   anew : (p : View Sector) (w : World Sector) (img : List ℕ) (h : Held) (b : Begun) (work : List ℕ) → (Bound z F first) p w img h → Tie z F first p w img (handed chain.none b) → (Bound z F first) p w img (held h b work)
-  anew p w img h b work t = by b.outcome
-    where
-      by : (o : Outcome) → Tie z F first p w img (handed chain.none (record { outcome = o; state = b.state })) → (Bound z F first) p w img (held_by o h b.state work)
-      by Done n = inl n
-      by (Refused why) n = t
+  anew p w img h (Ok s) work t n = inl n
+  anew p w img h (Err why) work t n = t
 
   -- no request of these is at rest
   pub not_rest : (p : View Sector) (w : World Sector) (img : List ℕ) (s : State) (work : List ℕ) → (Busy z F first) p w img s work → is_idle s.kind ≡ true → ⊥
@@ -118,14 +115,14 @@ module _ (z : Shelf) (F : Family z) (first : Machine Sector) where
       → (Bound z F first) p w img (held (has s work) (take_out_of s d img (length work)) work)
   out_bound p w img s work d ok (inl t) = by (take_answer s.now s.kind s.absent img d (length work)) (out_kept z F first p w img s d (length work) ok t)
     where
-      by : (o : Outcome) → Tie z F first p w img (handed (chain.has s) (begun o s (took_out s d))) → (Bound z F first) p w img (held (has s work) (begun o s (took_out s d)) work)
-      by Done n = inl n
-      by (Refused why) n = inl n
+      by : (o : Outcome) → Tie z F first p w img (handed (chain.has s) (begun o (took_out s d))) → (Bound z F first) p w img (held (has s work) (begun o (took_out s d)) work)
+      by (Ok tt) n = inl n
+      by (Err why) n = inl n
   out_bound p w img s work d ok (inr t) = by (take_answer s.now s.kind s.absent img d (length work)) refl
     where
-      by : (o : Outcome) → take_answer s.now s.kind s.absent img d (length work) ≡ o → (Bound z F first) p w img (held (has s work) (begun o s (took_out s d)) work)
-      by Done e = absurd (not_rest p w img s work t (take_done s.now s.kind s.absent img d (length work) e).1.at_rest)
-      by (Refused why) e = inr t
+      by : (o : Outcome) → take_answer s.now s.kind s.absent img d (length work) ≡ o → (Bound z F first) p w img (held (has s work) (begun o (took_out s d)) work)
+      by (Ok tt) e = absurd (not_rest p w img s work t (take_done s.now s.kind s.absent img d (length work) e).1.at_rest)
+      by (Err why) e = inr t
 
   begin_bound : (p : View Sector) (w : World Sector) (img : List ℕ) (s : State) (work : List ℕ) (d : ℕ) → (Bound z F first) p w img (has s work) → (Bound z F first) p w img (held (has s work) (begin_of s d img (length work)) work)
   begin_bound p w img s work d (inl t) = by (begin_answer s.now s.kind s.absent img d (length work)) refl
@@ -133,8 +130,8 @@ module _ (z : Shelf) (F : Family z) (first : Machine Sector) where
       own : ours z s.now ≡ true
       own = ⊎_elim (λ (f : Fair z s [] img × (plain s.kind ≡ true)). f.0.ours_now) (λ (q : (s.kind ≡ Idle) × (ours z s.now ≡ true)). q.1) t.order.1
 
-      by : (o : Outcome) → begin_answer s.now s.kind s.absent img d (length work) ≡ o → (Bound z F first) p w img (held (has s work) (begun o s (began s d img)) work)
-      by Done e =
+      by : (o : Outcome) → begin_answer s.now s.kind s.absent img d (length work) ≡ o → (Bound z F first) p w img (held (has s work) (begun o (began s d img)) work)
+      by (Ok tt) e =
           let g = begin_goes s.now s.kind s.absent img d (length work) e in
           let there : d < slots z = subst (λ (n : ℕ). d < n) (ap (λ (x : Geometry). x.n) (shelf_geometry z s.now own)) g.there in
           let r : Reached z F first p w (idle (own_of z s s.now)) = subst (Reached z F first p w) (rests z s img (idle_is z F first p s.kind g.at_rest)) t.reached in
@@ -158,12 +155,12 @@ module _ (z : Shelf) (F : Family z) (first : Machine Sector) where
             kind = refl;
             sized = g.whole ∙ ap (λ (x : Geometry). work_bytes x.n x.c) (shelf_geometry z s.now own);
           })))
-      by (Refused why) e = inl t
+      by (Err why) e = inl t
   begin_bound p w img s work d (inr t) = by (begin_answer s.now s.kind s.absent img d (length work)) refl
     where
-      by : (o : Outcome) → begin_answer s.now s.kind s.absent img d (length work) ≡ o → (Bound z F first) p w img (held (has s work) (begun o s (began s d img)) work)
-      by Done e = absurd (not_rest p w img s work t (begin_goes s.now s.kind s.absent img d (length work) e).at_rest)
-      by (Refused why) e = inr t
+      by : (o : Outcome) → begin_answer s.now s.kind s.absent img d (length work) ≡ o → (Bound z F first) p w img (held (has s work) (begun o (began s d img)) work)
+      by (Ok tt) e = absurd (not_rest p w img s work t (begin_goes s.now s.kind s.absent img d (length work) e).at_rest)
+      by (Err why) e = inr t
 
   -- going on with a rebuild
   on_bound : (p : View Sector) (w : World Sector) (img : List ℕ) (s : State) (work : List ℕ) (b : ℕ) → (Bound z F first) p w img (has s work) → (Bound z F first) p w img (held (has s work) (on_of s b img (length work)) work)
@@ -172,36 +169,36 @@ module _ (z : Shelf) (F : Family z) (first : Machine Sector) where
       own : ours z s.now ≡ true
       own = ⊎_elim (λ (f : Fair z s [] img × (plain s.kind ≡ true)). f.0.ours_now) (λ (q : (s.kind ≡ Idle) × (ours z s.now ≡ true)). q.1) t.order.1
 
-      by : (o : Outcome) → on_answer s.now s.kind s.absent img (length work) ≡ o → (Bound z F first) p w img (held (has s work) (begun o s (went_on s b img)) work)
-      by Done e =
+      by : (o : Outcome) → on_answer s.now s.kind s.absent img (length work) ≡ o → (Bound z F first) p w img (held (has s work) (begun o (went_on s b img)) work)
+      by (Ok tt) e =
           let r : Reached z F first p w (idle (own_of z s s.now)) = subst (Reached z F first p w) (rests z s img (idle_is z F first p s.kind (on_rests s.now s.kind s.absent img (length work) e))) t.reached in
           let dark : (d : ℕ) → d < slots z → in_mask s.absent d ≡ true → Label.looked (size z) (label_of z s.now) d ≡ true → ⊥ = λ d i a q. (rest_dark z F first) p w (own_of z s s.now) r d (beyond_below (slots z) s.absent d i ∙ a) q in
-          let n : Refilling z F first p w img (on_of s b img (length work)).state work = on_kept z F first p w img s b work t (ap (λ (o : Outcome). (begun o s (went_on s b img)).outcome) e) in
+          let n : Refilling z F first p w img (state_of s (on_of s b img (length work))) work = on_kept z F first p w img s b work t (ap (λ (o : Outcome). outcome_of (begun o (went_on s b img))) e) in
           inr
           (inr
           (inr
           (record {
-            refills = subst (λ (o : Outcome). Refilling z F first p w img (begun o s (went_on s b img)).state work) e n;
+            refills = subst (λ (o : Outcome). Refilling z F first p w img (state_of s (begun o (went_on s b img))) work) e n;
             sized = on_sized z img t.disks s own b work e dark;
           })))
-      by (Refused why) e = inl t
+      by (Err why) e = inl t
   on_bound p w img s work b (inr t) = by (on_answer s.now s.kind s.absent img (length work)) refl
     where
-      by : (o : Outcome) → on_answer s.now s.kind s.absent img (length work) ≡ o → (Bound z F first) p w img (held (has s work) (begun o s (went_on s b img)) work)
-      by Done e = absurd (not_rest p w img s work t (on_rests s.now s.kind s.absent img (length work) e))
-      by (Refused why) e = inr t
+      by : (o : Outcome) → on_answer s.now s.kind s.absent img (length work) ≡ o → (Bound z F first) p w img (held (has s work) (begun o (went_on s b img)) work)
+      by (Ok tt) e = absurd (not_rest p w img s work t (on_rests s.now s.kind s.absent img (length work) e))
+      by (Err why) e = inr t
 
   -- ---- a write is asked for
 
   module _ (p : View Sector) (w : World Sector) (img : List ℕ) (s : State) (work : List ℕ) (b : ℕ) (given : List ℕ) (s' : State) (then : List ℕ) (small : Bytes given) (small' : Bytes then) where
-    accepted_write : (asked z F first p w img s work b given s' then small small') ≡ Done → Written s b given img work s' then → Tie z F first p w img (chain.has s)
-        → (q : View Sector) × SawAsked Done (b / z.k) (b % z.k) (sectors_of z.c given) p q × (Bound z F first) q w img (has s' then)
+    accepted_write : (asked z F first p w img s work b given s' then small small') ≡ Ok tt → Written s b given img work s' then → Tie z F first p w img (chain.has s)
+        → (q : View Sector) × SawAsked (Ok tt) (b / z.k) (b % z.k) (sectors_of z.c given) p q × (Bound z F first) q w img (has s' then)
     accepted_write e h t = by p (subst (Reached z F first p w) (rests z s img (idle_is z F first p s.kind ((rest_of z F first p w img s work b given s' then small small') e))) t.reached)
       where
         own : ours z s.now ≡ true
         own = ⊎_elim (λ (f : Fair z s [] img × (plain s.kind ≡ true)). f.0.ours_now) (λ (q : (s.kind ≡ Idle) × (ours z s.now ≡ true)). q.1) t.order.1
 
-        by : (p : View Sector) → Reached z F first p w (idle (own_of z s s.now)) → (q : View Sector) × SawAsked Done (b / z.k) (b % z.k) (sectors_of z.c given) p q × (Bound z F first) q w img (has s' then)
+        by : (p : View Sector) → Reached z F first p w (idle (own_of z s s.now)) → (q : View Sector) × SawAsked (Ok tt) (b / z.k) (b % z.k) (sectors_of z.c given) p q × (Bound z F first) q w img (has s' then)
         by (sure v) r =
             let dark : (d : ℕ) → d < slots z → in_mask s.absent d ≡ true → Label.looked (size z) (label_of z s.now) d ≡ true → ⊥ =
             λ d i a l. r.keeps.1.dark d (beyond_below (slots z) s.absent d i ∙ a) l in
@@ -233,9 +230,9 @@ module _ (z : Shelf) (F : Family z) (first : Machine Sector) where
     write_bound h t = by (asked z F first p w img s work b given s' then small small') refl h
       where
         by : (o : Outcome) → (asked z F first p w img s work b given s' then small small') ≡ o → AfterWrite o s b given img work s' then → (q : View Sector) × SawAsked o (b / z.k) (b % z.k) (sectors_of z.c given) p q × (Bound z F first) q w img (has s' then)
-        by Done e a =
+        by (Ok tt) e a =
             ⊎_elim (λ (x : Tie z F first p w img (chain.has s)). accepted_write e a x) (λ (x : (Busy z F first) p w img s work). absurd (not_rest p w img s work x ((rest_of z F first p w img s work b given s' then small small') e))) t
-        by (Refused why) e a = (p, refl, subst (λ (x : State). (Bound z F first) p w img (has x then)) (sym a.0) (subst (λ (x : List ℕ). (Bound z F first) p w img (has s x)) (sym a.1) t))
+        by (Err why) e a = (p, refl, subst (λ (x : State). (Bound z F first) p w img (has x then)) (sym a.0) (subst (λ (x : List ℕ). (Bound z F first) p w img (has s x)) (sym a.1) t))
 
   -- ---- a repair
 
@@ -258,24 +255,24 @@ module _ (z : Shelf) (F : Family z) (first : Machine Sector) where
 
   -- A REPAIR IS REFUSED THERE: no sector changes by itself in these chains, so that a repair finds nothing to mend
   pub repair_refused_there : (p : View Sector) (w : World Sector) (img : List ℕ) (s : State) (work : List ℕ) (t : ℕ) (b : Begun) (then : List ℕ) → Repairs s t img work b then → (Bound z F first) p w img (has s work)
-      → (why : Refusal) × (b.outcome ≡ Refused why)
+      → (why : Refusal) × (outcome_of b ≡ Err why)
   repair_refused_there p w img s work t b then r h = by (may_repair s.now s.kind s.absent s.count t img) refl h
     where
-      by : (o : Outcome) → may_repair s.now s.kind s.absent s.count t img ≡ o → (Bound z F first) p w img (has s work) → (why : Refusal) × (b.outcome ≡ Refused why)
-      by (Refused why) e h = (why, asked_refused s t img work b then r why e)
-      by Done e (inl n) =
+      by : (o : Outcome) → may_repair s.now s.kind s.absent s.count t img ≡ o → (Bound z F first) p w img (has s work) → (why : Refusal) × (outcome_of b ≡ Err why)
+      by (Err why) e h = (why, asked_refused s t img work b then r why e)
+      by (Ok tt) e (inl n) =
           let own : ours z s.now ≡ true = ⊎_elim (λ (f : Fair z s [] img × (plain s.kind ≡ true)). f.0.ours_now) (λ (q : (s.kind ≡ Idle) × (ours z s.now ≡ true)). q.1) n.order.1 in
           let y = rest_list p w img s n (may_whole s img t e).at_rest in
           mend_refused z img n.disks s own t y.0 (λ d j. y.1 d t j) work b then r
-      by Done e (inr n) = absurd (not_rest p w img s work n (may_whole s img t e).at_rest)
+      by (Ok tt) e (inr n) = absurd (not_rest p w img s work n (may_whole s img t e).at_rest)
 
   -- and changes neither the state nor the work area
   pub repair_changes_nothing : (p : View Sector) (w : World Sector) (img : List ℕ) (s : State) (work : List ℕ) (t : ℕ) (b : Begun) (then : List ℕ) → Repairs s t img work b then → (Bound z F first) p w img (has s work)
-      → (b.state ≡ s) × (then ≡ work)
+      → (state_of s b ≡ s) × (then ≡ work)
   repair_changes_nothing p w img s work t b then r h = let y = repair_refused_there p w img s work t b then r h in repair_refused s t img work b then r y.0 y.1
 
   repair_bound : (p : View Sector) (w : World Sector) (img : List ℕ) (s : State) (work : List ℕ) (t : ℕ) (b : Begun) (then : List ℕ) → Repairs s t img work b then → (Bound z F first) p w img (has s work)
-      → (Bound z F first) p w img (has b.state then)
+      → (Bound z F first) p w img (has (state_of s b) then)
   repair_bound p w img s work t b then r h =
       let y = repair_changes_nothing p w img s work t b then r h in
       subst (λ (x : State). (Bound z F first) p w img (has x then)) (sym y.0) (subst (λ (x : List ℕ). (Bound z F first) p w img (has s x)) (sym y.1) h)
@@ -531,9 +528,9 @@ module _ (z : Shelf) (F : Family z) (first : Machine Sector) where
   -- ---- A CALL KEEPS THE TIE, and the view goes on as it may
 
   pub call_bound : {a b : Time} (x : HostCalls z a b) → Allowed z F (sets_call x) → (p : View Sector) → (BoundAt z F first) p a → (q : View Sector) × Saw x p q × (BoundAt z F first) q b
-  call_bound (creates {w} {img} {h} s work) ok p t = (p, refl, anew p w img h (create_of s z.k z.m z.c z.sectors z.number img (length work)) work t (create_kept z F first p w img chain.none s (length work) (loose p w img h t)))
-  call_bound (creates_late {w} {img} {h} s k m c S number work e) ok p t = (p, refl, anew p w img h (create_of s k m c S number img (length work)) work t (late_kept z F first p w img chain.none s k m c S number (length work) e (loose p w img h t)))
-  call_bound (starts {w} {img} {h} s g absent work sits) ok p t = (p, refl, anew p w img h (start_of s g absent img (length work)) work t (start_any z F first p w img chain.none s g absent (length work) sits ok (loose p w img h t)))
+  call_bound (creates {w} {img} {h} s work) ok p t = (p, refl, anew p w img h (create_of z.k z.m z.c z.sectors z.number img (length work)) work t (create_kept z F first p w img chain.none s (length work) (loose p w img h t)))
+  call_bound (creates_late {w} {img} {h} s k m c S number work e) ok p t = (p, refl, anew p w img h (create_of k m c S number img (length work)) work t (late_kept z F first p w img chain.none s k m c S number (length work) e (loose p w img h t)))
+  call_bound (starts {w} {img} {h} s g absent work sits) ok p t = (p, refl, anew p w img h (start_of g absent img (length work)) work t (start_any z F first p w img chain.none s g absent (length work) sits ok (loose p w img h t)))
   call_bound (takes_out {w} {img} {s} {work} d) ok p t = (p, refl, out_bound p w img s work d ok t)
   call_bound (begins {w} {img} {s} {work} d) ok p t = (p, refl, begin_bound p w img s work d t)
   call_bound (ons {w} {img} {s} {work} b) ok p t = (p, refl, on_bound p w img s work b t)

@@ -1,6 +1,6 @@
 -- What a write keeps in the work area, as the protocol's write: the work area begins with the stripe's shards, one after the
 -- other, and the sectors that the code makes of them are the sectors of the protocol's record and strips. Assumes nothing.
-use Rattle.std.specs.Prelude.{◌≡◌, Bool, cond, ◌&&◌, ℕ, ◌+◌, ◌*◌, ◌≤◌, ◌<◌, ◌/◌, ◌%◌, ◌^◌, take, drop}
+use Rattle.std.specs.Prelude.{◌≡◌, Bool, cond, ◌&&◌, ℕ, ◌+◌, ◌*◌, ◌≤◌, ◌<◌, ◌/◌, ◌%◌, ◌^◌, take, drop, Ok}
 use Rattle.std.proofs.Math.Path.{sym, ap, ap₂}
 use Rattle.std.proofs.Common.{◌∙◌, arith, lit<, length-drop, get_or-take, get_or-drop, length-take-le}
 use Rattle.std.proofs.Math.Logic.{⊎_elim}
@@ -15,9 +15,7 @@ use Rattle.disk.specs.Limits.{sector_bytes}
 use Rattle.disk.specs.Image.{lt_or_ge}
 use Rattle.disk.specs.Geometry.{in_range, stripes_of, slot_of, shard_of, found, slot_lt, shard_lt, shard_slot}
 use Rattle.disk.specs.Mask.{in_mask}
-use Rattle.disk.specs.declared.geometry.Found.{Found}
-use Rattle.disk.specs.declared.geometry.Found.TheVariants as spot
-use Rattle.disk.specs.declared.refusal.Outcome.TheVariants as outcome
+use Rattle.disk.specs.Geometry.{Found}
 use Rattle.record.specs.Log.{part, log_sector, log_answer}
 use Rattle.record.specs.Tail.{tail_sector, tail_answer}
 use Rattle.record.specs.declared.stamp.Stamp.{Stamp}
@@ -68,7 +66,7 @@ module _ (z : Shelf) (work : List ℕ) (works : Works z work) (t d : ℕ) (strip
   kept_at_lem : kept_of (geometry z) t d work ≡ take (z.c * sector_bytes) (drop ((r z work works t d stripe below) * z.c * sector_bytes) work)
   unfolding kept_of
   kept_at_lem =
-      let f : found (in_range (geometry z)) (ltb t (stripes_of (geometry z)) && ltb d (slots z)) (r z work works t d stripe below) ≡ spot.At (r z work works t d stripe below) = rw (in_limits z, lt-ltb t (stripes_of (geometry z)) stripe, lt-ltb d (slots z) below) in
+      let f : found (in_range (geometry z)) (ltb t (stripes_of (geometry z)) && ltb d (slots z)) (r z work works t d stripe below) ≡ Ok (r z work works t d stripe below) = rw (in_limits z, lt-ltb t (stripes_of (geometry z)) stripe, lt-ltb d (slots z) below) in
       ap (λ (x : Found). shard_at x (geometry z) work) f ∙ unless (ltb (length work) ((r z work works t d stripe below) * z.c * sector_bytes + z.c * sector_bytes)) _ _ (le-ltb _ _ long)
 
   kept_length : length (kept_of (geometry z) t d work) ≡ z.c * sector_bytes
@@ -137,12 +135,12 @@ module _ (z : Shelf) (work : List ℕ) (works : Works z work) (t d : ℕ) (strip
             ∙ ap (λ (b : Bool). (cond b (log_of z (stamp_number a) (W z work works t d stripe below a few shards low) d j) (end_of z (stamp_number a) (W z work works t d stripe below a few shards low) d)).bytes) (sym (le-ltb j z.c h))
 
   -- the code can write it
-  pub can_log : (j : ℕ) (out : List ℕ) → j ≤ z.c → length out ≡ sector_bytes → logged_answer z.c j (kept_of (geometry z) t d work) out ≡ outcome.Done
+  pub can_log : (j : ℕ) (out : List ℕ) → j ≤ z.c → length out ≡ sector_bytes → logged_answer z.c j (kept_of (geometry z) t d work) out ≡ Ok tt
   unfolding logged_answer log_answer tail_answer
   can_log j out l e = ⊎_elim early late (lt_or_ge j z.c)
     where
-      early : j < z.c → logged_answer z.c j (kept_of (geometry z) t d work) out ≡ outcome.Done
+      early : j < z.c → logged_answer z.c j (kept_of (geometry z) t d work) out ≡ Ok tt
       early h = rw (lt-ltb j z.c h, eq-eqb (length (part_of (kept_of (geometry z) t d work) j)) sector_bytes (ap length (kept_part j h) ∙ (kept_strip z work t d j).whole), eq-eqb (length out) sector_bytes e)
 
-      late : z.c ≤ j → logged_answer z.c j (kept_of (geometry z) t d work) out ≡ outcome.Done
+      late : z.c ≤ j → logged_answer z.c j (kept_of (geometry z) t d work) out ≡ Ok tt
       late h = rw (le-ltb j z.c h, le-ltb z.c j l, strips_fit z, eq-eqb (length (kept_of (geometry z) t d work)) (z.c * sector_bytes) kept_length, eq-eqb (length out) sector_bytes e)

@@ -1,7 +1,7 @@
 -- The labels that the code reads are the labels that the protocol reads. `Rattle.label` finds the newest label of each disk and
 -- of the shelf among the bytes of the image; the protocol finds them among its places. If the shelf's label names this shelf
 -- and every present disk has a label that agrees with it, both find the same. Assumes nothing.
-use Rattle.std.specs.Prelude.{◌≡◌, Bool, ◌||◌, ℕ, zero, suc, ◌≤◌, ◌<◌, ltb}
+use Rattle.std.specs.Prelude.{◌≡◌, Bool, ◌||◌, ℕ, zero, suc, ◌≤◌, ◌<◌, ltb, Some, None}
 use Rattle.std.proofs.Math.Path.{refl, sym, ap, ap₂}
 use Rattle.std.proofs.Common.{◌∙◌, arith, ltb-true, ltb-false, lt-ltb, le-ltb}
 use Rattle.std.proofs.Math.Bool.{true, false, cond}
@@ -10,8 +10,7 @@ use Rattle.disk.specs.Mask.{in_mask}
 use Rattle.label.specs.Valid.{decode_of}
 use Rattle.label.specs.Newest.{newer, newest_of, copy_of, disk_label, present_label, shelf_label}
 use Rattle.label.specs.declared.fields.Label as bytes
-use Rattle.label.specs.declared.codec.Decoded.{Decoded}
-use Rattle.label.specs.declared.codec.Decoded.TheVariants.{Valid, Nothing}
+use Rattle.label.specs.Fields.{Decoded}
 use Rattle.label.proofs.Fits.{fits_says}
 use Rattle.label.proofs.Counts.{SameShelf, same_says, agreed_says, present_says, copy_says, disk_own}
 use Rattle.rounds.specs.Slot.{age_of}
@@ -44,10 +43,10 @@ ours_same z l x e s =
     })
 
 newer_age : (x y : Decoded) → Aged x → Aged y → newer x y ≡ cond (ltb (age_of x) (age_of y)) y x
-newer_age Nothing Nothing p q = refl
-newer_age Nothing (Valid b) p q = sym (ap (λ (t : Bool). cond t (Valid b) Nothing) (lt-ltb 0 b.generation (q b refl)))
-newer_age (Valid a) Nothing p q = sym (ap (λ (t : Bool). cond t Nothing (Valid a)) (le-ltb a.generation 0 (omega arith)))
-newer_age (Valid a) (Valid b) p q = refl
+newer_age None None p q = refl
+newer_age None (Some b) p q = sym (ap (λ (t : Bool). cond t (Some b) None) (lt-ltb 0 b.generation (q b refl)))
+newer_age (Some a) None p q = sym (ap (λ (t : Bool). cond t None (Some a)) (le-ltb a.generation 0 (omega arith)))
+newer_age (Some a) (Some b) p q = refl
 
 -- the newest of several is that of the leader, the lowest of those with the greatest generation
 newest_lead : (f : ℕ → Decoded) (key : ℕ → ℕ) (n : ℕ) → ((d : ℕ) → Aged (f d)) → ((d : ℕ) → d < suc n → key d ≡ age_of (f d)) → newest_of f (suc n) ≡ f (leader key (suc n))
@@ -73,22 +72,22 @@ newest_leads f key zero h p q = absurd (omega arith)
 newest_leads f key (suc n) h p q = newest_lead f key n p q
 
 module _ (z : Shelf) where
-  ours_meant : (x : Decoded) (a : bytes.Label) → ours z a ≡ true → x ≡ Valid a → meant z x ≡ label_of z a
+  ours_meant : (x : Decoded) (a : bytes.Label) → ours z a ≡ true → x ≡ Some a → meant z x ≡ label_of z a
   ours_meant x a o e = ap (meant z) e ∙ ap (λ (b : Bool). cond b (label_of z a) (no_label z)) o
 
   meant_age : (x : Decoded) → (meant z x).generation ≤ age_of x
-  meant_age Nothing = omega arith
-  meant_age (Valid a) = go (ours z a)
+  meant_age None = omega arith
+  meant_age (Some a) = go (ours z a)
     where
       go : (b : Bool) → (cond b (label_of z a) (no_label z)).generation ≤ a.generation
       go true = omega arith
       go false = omega arith
 
   -- the newer is one of this shelf: so it is in the protocol's words
-  newer_ours : (x y : Decoded) (a : bytes.Label) → Aged x → Aged y → ours z a ≡ true → newer x y ≡ Valid a → (newer_of z) (meant z x) (meant z y) ≡ label_of z a
+  newer_ours : (x y : Decoded) (a : bytes.Label) → Aged x → Aged y → ours z a ≡ true → newer x y ≡ Some a → (newer_of z) (meant z x) (meant z y) ≡ label_of z a
   newer_ours x y a p q o e = by (ltb (age_of x) (age_of y)) refl (sym (newer_age x y p q) ∙ e)
     where
-      by : (t : Bool) → ltb (age_of x) (age_of y) ≡ t → cond t y x ≡ Valid a → (newer_of z) (meant z x) (meant z y) ≡ label_of z a
+      by : (t : Bool) → ltb (age_of x) (age_of y) ≡ t → cond t y x ≡ Some a → (newer_of z) (meant z x) (meant z y) ≡ label_of z a
       by true t e =
           let m = ours_meant y a o e in
           ap (λ (b : Bool). cond b (meant z y) (meant z x))
@@ -120,7 +119,7 @@ module _ (z : Shelf) where
     present_aged d l e = disk_aged d l (present_says (geometry z) img absent d l e).1
 
     -- a present disk's label, if it is one of this shelf
-    pub newest_is : (d : ℕ) (a : bytes.Label) → d < slots z → in_mask absent d ≡ false → disk_label (geometry z) img d ≡ Valid a → ours z a ≡ true
+    pub newest_is : (d : ℕ) (a : bytes.Label) → d < slots z → in_mask absent d ≡ false → disk_label (geometry z) img d ≡ Some a → ours z a ≡ true
         → newest (size z) (labels z) A (seen_of z A img) d ≡ label_of z a
     unfolding disk_label newest_of
     newest_is d a h e q o =
@@ -129,13 +128,13 @@ module _ (z : Shelf) where
 
 module _ (z : Shelf) (img : List ℕ) (absent : ℕ) (A : ℕ → Bool) (l : bytes.Label) (led : Led z img absent A l) where
   -- the label of each present disk, and its generation
-  pub newest_of_lem : (d : ℕ) (a : bytes.Label) → d < slots z → in_mask absent d ≡ false → disk_label (geometry z) img d ≡ Valid a → newest (size z) (labels z) A (f0 z img absent A l led) d ≡ label_of z a
+  pub newest_of_lem : (d : ℕ) (a : bytes.Label) → d < slots z → in_mask absent d ≡ false → disk_label (geometry z) img d ≡ Some a → newest (size z) (labels z) A (f0 z img absent A l led) d ≡ label_of z a
   newest_of_lem d a h e q =
       let s = agreed_says (geometry z) img absent l led.agree d h e in
       let i : s.label ≡ a = cc s.is in
       newest_is z img led.disks absent A led.are d a h e q (ap (ours z) (sym i) ∙ ours_same z l s.label led.own s.same)
 
-  pub seen_of_lem : (d : ℕ) (a : bytes.Label) → d < slots z → in_mask absent d ≡ false → disk_label (geometry z) img d ≡ Valid a → seen (size z) (labels z) A (f0 z img absent A l led) d ≡ a.generation
+  pub seen_of_lem : (d : ℕ) (a : bytes.Label) → d < slots z → in_mask absent d ≡ false → disk_label (geometry z) img d ≡ Some a → seen (size z) (labels z) A (f0 z img absent A l led) d ≡ a.generation
   seen_of_lem d a h e q =
       ap (λ (b : Bool). cond b 0 (newest (size z) (labels z) A (f0 z img absent A l led) d).generation) (led.are d h ∙ e) ∙ ap (λ (x : Label). x.generation) (newest_of_lem d a h e q)
 
@@ -146,10 +145,10 @@ module _ (z : Shelf) (img : List ℕ) (absent : ℕ) (A : ℕ → Bool) (l : byt
       by : (b : Bool) → in_mask absent d ≡ b → seen (size z) (labels z) A (f0 z img absent A l led) d ≡ age_of (present_label (geometry z) img absent d)
       by true e =
           ap (λ (b : Bool). cond b 0 (newest (size z) (labels z) A (f0 z img absent A l led) d).generation) (led.are d h ∙ e)
-          ∙ sym (ap (λ (b : Bool). age_of (cond b Nothing (disk_label (geometry z) img d))) e)
+          ∙ sym (ap (λ (b : Bool). age_of (cond b None (disk_label (geometry z) img d))) e)
       by false e =
           let s = agreed_says (geometry z) img absent l led.agree d h e in
-          seen_of_lem d s.label h e s.is ∙ sym (ap (λ (b : Bool). age_of (cond b Nothing (disk_label (geometry z) img d))) e ∙ ap age_of s.is)
+          seen_of_lem d s.label h e s.is ∙ sym (ap (λ (b : Bool). age_of (cond b None (disk_label (geometry z) img d))) e ∙ ap age_of s.is)
 
   -- every present slot has a label
   pub labelled_is : labelled (size z) (labels z) A (f0 z img absent A l led) ≡ true
@@ -163,11 +162,11 @@ module _ (z : Shelf) (img : List ℕ) (absent : ℕ) (A : ℕ → Bool) (l : byt
           ∙ lt-ltb 0 (seen (size z) (labels z) A (f0 z img absent A l led) d) (omega (arith, seen_of_lem d s.label h e s.is, disk_aged z img led.disks absent A led.are d s.label s.is))
 
   -- the leader's is the shelf's
-  lead_is : present_label (geometry z) img absent (lead (size z) (labels z) A (f0 z img absent A l led)) ≡ Valid l
+  lead_is : present_label (geometry z) img absent (lead (size z) (labels z) A (f0 z img absent A l led)) ≡ Some l
   unfolding shelf_label
   lead_is =
       sym (newest_leads (present_label (geometry z) img absent) (seen (size z) (labels z) A (f0 z img absent A l led)) (slots z) (some_slots z) (present_aged z img led.disks absent A led.are) seen_age)
-      ∙ sym (ap (λ (b : Bool). cond b (newest_of (present_label (geometry z) img absent) (slots z)) Nothing) (image_fits z img led.disks)) ∙ led.leads
+      ∙ sym (ap (λ (b : Bool). cond b (newest_of (present_label (geometry z) img absent) (slots z)) None) (image_fits z img led.disks)) ∙ led.leads
 
   lead_below : lead (size z) (labels z) A (f0 z img absent A l led) < slots z
   lead_below = leader_below (seen (size z) (labels z) A (f0 z img absent A l led)) (slots z) (some_slots z)

@@ -11,8 +11,8 @@ use Rattle.protocol.specs.World.{Place, label, slot, update, update_other, World
 use Rattle.codecs.specs.Sector.{Sector}
 use Rattle.codecs.specs.Shelf.{Shelf, slots, geometry}
 use Rattle.codecs.specs.Labels.{sector_of}
-use Rattle.stages.specs.declared.state.Answer.{Answer}
-use Rattle.stages.specs.declared.state.Answer.TheVariants as answer
+use Rattle.stages.specs.Told.{Answer}
+use Rattle.stages.specs.Told as answer
 use Rattle.refine.specs.Places.{label_inside}
 use Rattle.refine.specs.Places as places
 use Rattle.refine.specs.Disks.{Disks, cur_of}

@@ -1,7 +1,7 @@
 -- DISKS THAT WERE EXCHANGED AND ARE NOT TOLD OF YET: while no program runs, while a start-up runs that was told that their slots are absent, and at rest where they are out. A call in a world that may hold
 -- less after a cut can be told in the one that may hold more; a cut leaves the old disks as they are read; a start-up that is not refused, and its steps, are told on the old disks; and when it comes to
 -- rest, the exchanges are told, one after the other. Assumes nothing.
-use Rattle.std.specs.Prelude.{◌≡◌, ◌⊎◌, ◌≢◌, Bool, not, ◌&&◌, List, [], ◌∷◌, ℕ, zero, suc, ◌≤◌, ◌<◌, eqb, length}
+use Rattle.std.specs.Prelude.{◌≡◌, ◌⊎◌, ◌≢◌, Bool, not, ◌&&◌, List, [], ◌∷◌, ℕ, zero, suc, ◌≤◌, ◌<◌, eqb, length, Ok, Err, Some, None}
 use Rattle.std.proofs.Math.Path.{refl, sym, ap, subst}
 use Rattle.std.proofs.Common.{◌∙◌, ⊎_elim, inl, inr, true≢false, arith, eq-eqb, ne_eqb}
 use Rattle.std.proofs.Math.Bool.{true, false, cond, false≢true}
@@ -16,10 +16,8 @@ use Rattle.disk.specs.declared.refusal.Refusal.TheVariants.{NoLabel, BadBuffer}
 use Rattle.label.specs.Fields.{geometry_of}
 use Rattle.label.specs.Newest.{copy_of}
 use Rattle.label.specs.declared.fields.Label as bytes
-use Rattle.label.specs.declared.codec.Decoded.TheVariants.{Valid, Nothing}
 use Rattle.rounds.specs.Survey.{survey_of}
-use Rattle.rounds.specs.declared.plan.Survey.{Survey}
-use Rattle.rounds.specs.declared.plan.Survey.TheVariants as survey
+use Rattle.rounds.specs.Survey.{Survey}
 use Rattle.protocol.specs.World.{Place, label, slot, Image, World, Action, put, flush, after, Possible, Sane}
 use Rattle.protocol.specs.Machine.{Machine, View}
 use Rattle.codecs.specs.Sector.{Sector}
@@ -29,15 +27,15 @@ use Rattle.shelf.specs.Act.{Move}
 use Rattle.shelf.specs.Step.{step_move, finished}
 use Rattle.shelf.specs.Laws.{Legal, Agree, step_one, step_blind, step_agrees}
 use Rattle.stages.specs.declared.state.State.{State}
-use Rattle.stages.specs.declared.state.Stepped.{Stepped}
+use Rattle.stages.specs.Told.{Told}
 use Rattle.stages.specs.declared.state.Kind.{Kind}
 use Rattle.stages.specs.declared.state.Kind.TheVariants.{Idle, Writing, Beginning, Filling}
-use Rattle.stages.specs.declared.state.Answer.TheVariants as answer
-use Rattle.requests.specs.Begun.{work_bytes, accepted, refused}
+use Rattle.stages.specs.Told as answer
+use Rattle.requests.specs.Begun.{work_bytes}
 use Rattle.requests.specs.Start.{started, by_survey, start_of}
 use Rattle.requests.specs.Step.{other_work, step_with, step_short, step_goes}
 use Rattle.requests.specs.Ready.{is_idle}
-use Rattle.requests.specs.declared.begun.Begun.{Begun}
+use Rattle.requests.specs.Begun.{Begun}
 use Rattle.blind.specs.Start.{start_blind}
 use Rattle.refine.specs.Family.{Family}
 use Rattle.refine.specs.Disks.{Disks, cur_of}
@@ -106,7 +104,7 @@ module _ (z : Shelf) (F : Family z) (first : Machine Sector) where
       onto_disks : Disks z (onto z F first p w img s e A w0 img0 b t d here gone)
       onto_disks = disk_of z d there img img0 b.disks t.disks
 
-      none_valid : (o : ℕ) (a : bytes.Label) → o < 2 → copy_of (geometry z) (onto z F first p w img s e A w0 img0 b t d here gone) d o ≡ Valid a → ⊥
+      none_valid : (o : ℕ) (a : bytes.Label) → o < 2 → copy_of (geometry z) (onto z F first p w img s e A w0 img0 b t d here gone) d o ≡ Some a → ⊥
       none_valid o a l q =
           not_valid z a
           (sym (b.blank d o here l) ∙ sym (copy_alike z (onto z F first p w img s e A w0 img0 b t d here gone) img onto_disks b.disks d o there l (disk_here z d there img img0 b.disks t.disks o (few_low z o l))) ∙ q)
@@ -225,12 +223,12 @@ module _ (z : Shelf) (F : Family z) (first : Machine Sector) where
       late_cut =
           record { away = t.away; w0 = after (cur_of z (told_left z F first p w img h t left d possible)); img0 = (told_left z F first p w img h t left d possible); behind = behind; tie = cut_kept z F first p t.w0 t.img0 (hand_of z h) (told_left z F first p w img h t left d possible) (told_disks z F first p w img h t left d possible) told_possible t.tie; waits = tt }
         where
-          bare : (e o : ℕ) → t.away e ≡ true → o < 2 → copy_of (geometry z) left e o ≡ Nothing
+          bare : (e o : ℕ) → t.away e ≡ true → o < 2 → copy_of (geometry z) left e o ≡ None
           bare e o a l =
               let b = side o l in
               let k : Place = label e b.0 in
               let same : cur_of z left k ≡ cur_of z img k = t.behind.lags.certain k (cur_of z left k) a (possible k) ∙ ap (λ (f : Image Sector). f k) t.behind.reads in
-              subst (λ (x : ℕ). copy_of (geometry z) left e x ≡ Nothing) b.1 (label_alike z left img d t.behind.disks e b.0 (t.behind.inner e a) same ∙ ap (copy_of (geometry z) img e) b.1 ∙ t.behind.blank e o a l)
+              subst (λ (x : ℕ). copy_of (geometry z) left e x ≡ None) b.1 (label_alike z left img d t.behind.disks e b.0 (t.behind.inner e a) same ∙ ap (copy_of (geometry z) img e) b.1 ∙ t.behind.blank e o a l)
 
           behind : Behind z t.away (after (cur_of z left)) left (after (cur_of z (told_left z F first p w img h t left d possible))) (told_left z F first p w img h t left d possible)
           behind =
@@ -245,7 +243,7 @@ module _ (z : Shelf) (F : Family z) (first : Machine Sector) where
 
     -- ---- A START-UP
 
-    pub late_own : (d o : ℕ) (a : bytes.Label) → d < slots z → o < 2 → copy_of (geometry z) img d o ≡ Valid a → ours z a ≡ true
+    pub late_own : (d o : ℕ) (a : bytes.Label) → d < slots z → o < 2 → copy_of (geometry z) img d o ≡ Some a → ours z a ≡ true
     late_own d o a i l e = by (t.away d) refl
       where
         by : (b : Bool) → t.away d ≡ b → ours z a ≡ true
@@ -253,13 +251,13 @@ module _ (z : Shelf) (F : Family z) (first : Machine Sector) where
         by false q = ours_in z F first p t.w0 t.img0 (hand_of z h) t.tie d o a i l (sym (copy_alike z img t.img0 t.behind.disks t.tie.disks d o i l (t.behind.alike d o i (few_low z o l) q)) ∙ e)
 
     module _ (s : State) (absent : ℕ) (work : List ℕ) where
-      refused_start : (why : Refusal) → survey_of (geometry z) img absent ≡ survey.Refused why → (After z F first p w img h t s absent work) (start_of s (geometry z) absent img (length work))
-      refused_start why e = subst (λ (x : Survey). (After z F first p w img h t s absent work) (by_survey x s (geometry z) absent img (length work))) (sym e) (inr t)
+      refused_start : (why : Refusal) → survey_of (geometry z) img absent ≡ Err why → (After z F first p w img h t s absent work) (start_of (geometry z) absent img (length work))
+      refused_start why e = subst (λ (x : Survey). (After z F first p w img h t s absent work) (by_survey x (geometry z) absent img (length work))) (sym e) (inr t)
 
-      blind_start : ((e : ℕ) → e < slots z → t.away e ≡ true → in_mask absent e ≡ true) → (g : Geometry) → g ≡ geometry z → start_of s g absent img (length work) ≡ start_of s g absent t.img0 (length work)
+      blind_start : ((e : ℕ) → e < slots z → t.away e ≡ true → in_mask absent e ≡ true) → (g : Geometry) → g ≡ geometry z → start_of g absent img (length work) ≡ start_of g absent t.img0 (length work)
       unfolding Shape
       blind_start all g e =
-          start_blind s g absent (length work) img t.img0
+          start_blind g absent (length work) img t.img0
           (record {
             lengths = t.behind.disks.shape ∙ sym t.tie.disks.shape;
             sectors = λ d u i l n.
@@ -275,36 +273,36 @@ module _ (z : Shelf) (F : Family z) (first : Machine Sector) where
               by true q = absurd (true≢false (sym (all d i q) ∙ n))
               by false q = refl
 
-      told_start : ((e : ℕ) → t.away e ≡ true → in_mask absent e ≡ true) → Tie z F first p t.w0 t.img0 (handed (hand_of z h) (start_of s (geometry z) absent t.img0 (length work))) → (After z F first p w img h t s absent work) (start_of s (geometry z) absent t.img0 (length work))
+      told_start : ((e : ℕ) → t.away e ≡ true → in_mask absent e ≡ true) → Tie z F first p t.w0 t.img0 (handed (hand_of z h) (start_of (geometry z) absent t.img0 (length work))) → (After z F first p w img h t s absent work) (start_of (geometry z) absent t.img0 (length work))
       told_start all = by (survey_of (geometry z) t.img0 absent)
         where
-          by : (x : Survey) → Tie z F first p t.w0 t.img0 (handed (hand_of z h) (by_survey x s (geometry z) absent t.img0 (length work))) → (After z F first p w img h t s absent work) (by_survey x s (geometry z) absent t.img0 (length work))
-          by (survey.Refused why) y = inr t
-          by (survey.Plan plan) y = go (eqb (length work) (work_bytes (slots z) z.c)) y
+          by : (x : Survey) → Tie z F first p t.w0 t.img0 (handed (hand_of z h) (by_survey x (geometry z) absent t.img0 (length work))) → (After z F first p w img h t s absent work) (by_survey x (geometry z) absent t.img0 (length work))
+          by (Err why) y = inr t
+          by (Ok plan) y = go (eqb (length work) (work_bytes (slots z) z.c)) y
             where
-              go : (b : Bool) → Tie z F first p t.w0 t.img0 (handed (hand_of z h) (cond b (accepted (started (geometry z) absent plan t.img0)) (refused s BadBuffer)))
-                  → (After z F first p w img h t s absent work) (cond b (accepted (started (geometry z) absent plan t.img0)) (refused s BadBuffer))
+              go : (b : Bool) → Tie z F first p t.w0 t.img0 (handed (hand_of z h) (cond b (Ok (started (geometry z) absent plan t.img0)) (Err BadBuffer)))
+                  → (After z F first p w img h t s absent work) (cond b (Ok (started (geometry z) absent plan t.img0)) (Err BadBuffer))
               go true y = inr (record { away = t.away; w0 = t.w0; img0 = t.img0; behind = t.behind; tie = y; waits = inl (refl, all) })
               go false y = inr t
 
-      pub late_start : (g : Geometry) → Sits z g absent → Allowed z F (outs (start_of s g absent img (length work))) → (After z F first p w img h t s absent work) (start_of s g absent img (length work))
+      pub late_start : (g : Geometry) → Sits z g absent → Allowed z F (outs (start_of g absent img (length work))) → (After z F first p w img h t s absent work) (start_of g absent img (length work))
       late_start g sits ok = ⊎_elim same other (same_numbers z g)
         where
-          other : (g ≡ geometry z → ⊥) → (After z F first p w img h t s absent work) (start_of s g absent img (length work))
-          other n = subst (λ (x : Survey). (After z F first p w img h t s absent work) (by_survey x s g absent img (length work))) (sym (start_other z img t.behind.disks late_own g absent n sits)) (inr t)
+          other : (g ≡ geometry z → ⊥) → (After z F first p w img h t s absent work) (start_of g absent img (length work))
+          other n = subst (λ (x : Survey). (After z F first p w img h t s absent work) (by_survey x g absent img (length work))) (sym (start_other z img t.behind.disks late_own g absent n sits)) (inr t)
 
-          same : g ≡ geometry z → (After z F first p w img h t s absent work) (start_of s g absent img (length work))
+          same : g ≡ geometry z → (After z F first p w img h t s absent work) (start_of g absent img (length work))
           same e =
               ⊎_elim
               (λ (all : (x : ℕ) → x < slots z → t.away x ≡ true → in_mask absent x ≡ true).
               let y = blind_start all g e in
               subst (λ (b : Begun). (After z F first p w img h t s absent work) b) (sym y)
-              (subst (λ (x : Geometry). (After z F first p w img h t s absent work) (start_of s x absent t.img0 (length work))) (sym e)
+              (subst (λ (x : Geometry). (After z F first p w img h t s absent work) (start_of x absent t.img0 (length work))) (sym e)
               (told_start (λ x q. all x (t.behind.inner x q) q)
-              (subst (λ (x : Geometry). Tie z F first p t.w0 t.img0 (handed (hand_of z h) (start_of s x absent t.img0 (length work)))) e
+              (subst (λ (x : Geometry). Tie z F first p t.w0 t.img0 (handed (hand_of z h) (start_of x absent t.img0 (length work)))) e
               (start_any z F first p t.w0 t.img0 (hand_of z h) s g absent (length work) sits (subst (λ (b : Begun). Allowed z F (outs b)) y ok) t.tie)))))
               (λ (x : (d : ℕ) × (d < slots z) × (t.away d ≡ true) × (in_mask absent d ≡ false)).
-              subst (λ (y : Geometry). (After z F first p w img h t s absent work) (start_of s y absent img (length work))) (sym e) (refused_start NoLabel (unlabelled z img t.behind.disks absent x.0 x.1 x.3 (λ o l. t.behind.blank x.0 o x.2 l))))
+              subst (λ (y : Geometry). (After z F first p w img h t s absent work) (start_of y absent img (length work))) (sym e) (refused_start NoLabel (unlabelled z img t.behind.disks absent x.0 x.1 x.3 (λ o l. t.behind.blank x.0 o x.2 l))))
               (covers z t.away absent (slots z))
 
   -- ---- A STEP of such a start-up is told on the old disks; when it comes to rest, all is told
@@ -386,9 +384,9 @@ module _ (z : Shelf) (F : Family z) (first : Machine Sector) where
           let e0 : other_work s.now (length t.img0) (length work) ≡ false = ap (λ (n : ℕ). other_work s.now n (length work)) (sym lengths) ∙ e in
           let goes : step_with s t.img0 work ≡ (m0 z F first p w img s work t up) = step_goes s t.img0 work fair0.in_range_lem e0 in
           let heard : Heard z t.w0 (step_with s t.img0 work).stepped.answer (step_with s t.img0 work).image heard_told.0 =
-          subst (λ (v : Move). Heard z t.w0 v.stepped.answer v.image heard_told.0) (sym goes) (subst (λ (v : Stepped). Heard z t.w0 v.answer (m0 z F first p w img s work t up).image heard_told.0) (sym same) heard_told.1) in
+          subst (λ (v : Move). Heard z t.w0 v.stepped.answer v.image heard_told.0) (sym goes) (subst (λ (v : Told). Heard z t.w0 v.answer (m0 z F first p w img s work t up).image heard_told.0) (sym same) heard_told.1) in
           let r = call_bound z F first (steps {w = t.w0} {w' = heard_told.0} {img = t.img0} {s = s} {work = work} heard) (λ a n. absurd (Memᴰ.not-nil n)) p (inl t.tie) in
-          subst (λ (v : Stepped). (q : View Sector) × SawStep s.kind v.answer p q × Bound z F first q heard_told.0 (m0 z F first p w img s work t up).image (has v.state work)) same
+          subst (λ (v : Told). (q : View Sector) × SawStep s.kind v.answer p q × Bound z F first q heard_told.0 (m0 z F first p w img s work t up).image (has v.state work)) same
           (subst (λ (v : Move). (q : View Sector) × SawStep s.kind v.stepped.answer p q × Bound z F first q heard_told.0 v.image (has v.stepped.state work)) goes r)
 
       stands_then : (q : View Sector) → Bound z F first q heard_told.0 (m0 z F first p w img s work t up).image (has (m z F first p w img s work t up).stepped.state work) → (StandsAt z F first) q (at w' (m z F first p w img s work t up).image (has (m z F first p w img s work t up).stepped.state work))

@@ -1,15 +1,14 @@
 -- A REPAIR OF A STRIPE THAT IS THE LIST'S finds nothing to mend: a repair that passes the tests has every slot in, so every strip of the
 -- stripe is believed; where each believed strip is what the host's list asks for, the verdict is Sound, and the repair is refused.
 -- Assumes nothing.
-use Rattle.std.specs.Prelude.{◌≡◌, refl, true, List, ℕ, ◌<◌, length}
+use Rattle.std.specs.Prelude.{◌≡◌, refl, true, List, ℕ, ◌<◌, length, Ok, Err}
 use Rattle.std.proofs.Math.Path.{sym}
 use Rattle.std.proofs.Common.{ap, ◌∙◌}
 use Rattle.code.specs.declared.Verdict.{Verdict}
 use Rattle.code.specs.declared.Verdict.TheVariants as verdict
 use Rattle.disk.specs.declared.refusal.Refusal.{Refusal}
 use Rattle.disk.specs.declared.refusal.Refusal.TheVariants.{NotNow}
-use Rattle.disk.specs.declared.refusal.Outcome.{Outcome}
-use Rattle.disk.specs.declared.refusal.Outcome.TheVariants.{Done, Refused}
+use Rattle.disk.specs.Refusal.{Outcome}
 use Rattle.protocol.specs.World.{strip}
 use Rattle.protocol.specs.Label as Label
 use Rattle.protocol.specs.Host.{Host, all_sound}
@@ -21,7 +20,7 @@ use Rattle.stripes.specs.Same.{verdict_of}
 use Rattle.views.specs.Seen.{Lying}
 use Rattle.views.proofs.Whole.{mend_finds}
 use Rattle.requests.specs.Begun.{begun, first}
-use Rattle.requests.specs.declared.begun.Begun.{Begun}
+use Rattle.requests.specs.Begun.{Begun}
 use Rattle.blocks.specs.Slots.{all_slots, none_lost_lem}
 use Rattle.blocks.specs.Repair.{mend_answer, mended, RepairedOf, Repairs}
 use Rattle.stages.specs.declared.state.State.{State}
@@ -29,6 +28,7 @@ use Rattle.refine.specs.Places.{sector_of, strip_is_inside}
 use Rattle.refine.specs.Disks.{Disks, cur_of}
 use Rattle.refine.proofs.Disks.{cur_bytes}
 use Rattle.refine.specs.Mends.{g, Whole, may_whole, asked_refused, stripe_inside, all_believe, repaired_here, l, may}
+use Rattle.requests.specs.Begun.{outcome_of}
 
 -- ---- the verdict
 
@@ -49,14 +49,14 @@ module _ (z : Shelf) (img : List ℕ) (disks : Disks z img) (s : State) (own : o
       finds_nothing = mend_finds z t img (all_slots (slots z)) (g z img disks s own t v list) lies (none_lost_lem (slots z) t (some_slots z)) found stripe (repaired_here z (l z img disks s own t v list) own img t found stripe r) ∙ ap verdict_of sound
 
   -- THE REPAIR IS REFUSED
-  pub mend_refused : (work : List ℕ) (b : Begun) (after : List ℕ) → Repairs s t img work b after → (why : Refusal) × (b.outcome ≡ Refused why)
+  pub mend_refused : (work : List ℕ) (b : Begun) (after : List ℕ) → Repairs s t img work b after → (why : Refusal) × (outcome_of b ≡ Err why)
   mend_refused work b after r = by (may z img disks s own t v list) refl
     where
-      by : (o : Outcome) → (may z img disks s own t v list) ≡ o → (why : Refusal) × (b.outcome ≡ Refused why)
-      by (Refused why) e = (why, asked_refused s t img work b after r why e)
-      by Done e =
+      by : (o : Outcome) → (may z img disks s own t v list) ≡ o → (why : Refusal) × (outcome_of b ≡ Err why)
+      by (Err why) e = (why, asked_refused s t img work b after r why e)
+      by (Ok tt) e =
           let q : r.found ≡ verdict.Sound = finds_nothing (may_whole s img t e) r.found r.stripe (r.repaired e).0 in (
             NotNow,
-            ap (λ (x : Begun). x.outcome) r.answers ∙ ap (λ (o : Outcome). (begun (first o (mend_answer r.found (l z img disks s own t v list) (length work))) s (mended s t r.found)).outcome) e
-                ∙ ap (λ (x : Verdict). (begun (mend_answer x (l z img disks s own t v list) (length work)) s (mended s t x)).outcome) q,
+            ap (λ (x : Begun). outcome_of x) r.answers ∙ ap (λ (o : Outcome). outcome_of (begun (first o (mend_answer r.found (l z img disks s own t v list) (length work))) (mended s t r.found))) e
+                ∙ ap (λ (x : Verdict). outcome_of (begun (mend_answer x (l z img disks s own t v list) (length work)) (mended s t x))) q,
           )

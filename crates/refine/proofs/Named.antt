@@ -1,6 +1,6 @@
 -- NO DISK EVER NAMES ANOTHER SHELF: where no sector of the disks is another shelf's label, whatever a cut leaves, none is after an
 -- action of the protocol's program. Assumes nothing.
-use Rattle.std.specs.Prelude.{◌≡◌, ℕ, ◌<◌}
+use Rattle.std.specs.Prelude.{◌≡◌, ℕ, ◌<◌, Some}
 use Rattle.std.proofs.Math.Path.{ap}
 use Rattle.std.proofs.Common.{◌∙◌}
 use Rattle.std.proofs.Math.Bool.{true}
@@ -9,7 +9,6 @@ use Rattle.disk.specs.Image.{read_of}
 use Rattle.label.specs.Valid.{decode_of}
 use Rattle.label.specs.Newest.{copy_of, shelf_label}
 use Rattle.label.specs.declared.fields.Label as bytes
-use Rattle.label.specs.declared.codec.Decoded.TheVariants.{Valid}
 use Rattle.label.proofs.Counts.{shelf_says, present_says, disk_says}
 use Rattle.protocol.specs.World.{label}
 use Rattle.codecs.specs.Shelf.{Shelf, slots, geometry}
@@ -21,7 +20,7 @@ use Rattle.refine.proofs.Disks.{cur_read}
 use Rattle.refine.specs.Named.{Named, side}
 
 module _ (z : Shelf) (img : List ℕ) (disks : Disks z img) (named : Named z (cur_of z img)) where
-  pub copy_ours : (d s : ℕ) (a : bytes.Label) → d < slots z → s < 2 → copy_of (geometry z) img d s ≡ Valid a → ours z a ≡ true
+  pub copy_ours : (d s : ℕ) (a : bytes.Label) → d < slots z → s < 2 → copy_of (geometry z) img d s ≡ Some a → ours z a ≡ true
   unfolding Named copy_of places.sector_of places.copy_sector
   copy_ours d s a h l e =
       let b = side s l in
@@ -29,7 +28,7 @@ module _ (z : Shelf) (img : List ℕ) (disks : Disks z img) (named : Named z (cu
       (ap (λ (x : List ℕ). decode_of x d (sector_of b.0)) (cur_read z img disks (label d b.0) (label_inside z d b.0 h))
       ∙ ap (λ (x : ℕ). decode_of (read_of (geometry z) img d x) d x) b.1 ∙ e)
 
-  pub lead_ours : (absent : ℕ) (a : bytes.Label) → shelf_label (geometry z) img absent ≡ Valid a → ours z a ≡ true
+  pub lead_ours : (absent : ℕ) (a : bytes.Label) → shelf_label (geometry z) img absent ≡ Some a → ours z a ≡ true
   lead_ours absent a e =
       let n = shelf_says (geometry z) img absent a e in
       let p = present_says (geometry z) img absent n.whose a n.is in

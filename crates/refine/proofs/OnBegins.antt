@@ -1,6 +1,6 @@
 -- GOING ON WITH A REBUILD, accepted at rest: it can be carried out, what the program remembers beside it is what it remembers of that
 -- request, and the program accepts it too. Where the mark is T already, it has no strips: a flush, and then the label. Assumes nothing.
-use Rattle.std.specs.Prelude.{◌≡◌, Bool, ◌&&◌, ◌||◌, ℕ, zero, suc, ◌+◌, ◌-◌, ◌*◌, ◌/◌, ◌%◌, ◌≤◌, ◌<◌, ◌^◌, max, eqb}
+use Rattle.std.specs.Prelude.{◌≡◌, Bool, ◌&&◌, ◌||◌, ℕ, zero, suc, ◌+◌, ◌-◌, ◌*◌, ◌/◌, ◌%◌, ◌≤◌, ◌<◌, ◌^◌, max, eqb, Ok}
 use Rattle.std.proofs.Math.Path.{refl, ap, ap₂, fun_ext}
 use Rattle.std.proofs.Common.{sym, subst, ◌∙◌, inl, true≢false, arith}
 use Rattle.std.proofs.Math.Bool.{true, false, cond, not}
@@ -16,7 +16,6 @@ use Rattle.disk.specs.Limits.{sector_bytes, least_n, most_n}
 use Rattle.disk.specs.Tests.{both}
 use Rattle.disk.specs.Geometry.{strip_length, stripes_of}
 use Rattle.disk.specs.Mask.{in_mask, without_slot, in_with, in_without, in_past}
-use Rattle.disk.specs.declared.refusal.Outcome.TheVariants.{Done}
 use Rattle.label.specs.Fields.{no_slot, most_generation, geometry_of, fits_of}
 use Rattle.label.proofs.Counts.{same_says}
 use Rattle.protocol.specs.World.{Action}
@@ -58,6 +57,7 @@ use Rattle.refine.specs.Requests.{goes, slots_say}
 use Rattle.refine.specs.Relabels.{one_slot}
 use Rattle.refine.proofs.FillList.{fill_list, fill_fair}
 use Rattle.refine.specs.OnBegins.{ones_none, l, Q, r, A, t, geo, n_is, goes_on, passed, one_left, fits, there, a_slot, is_out, on_sized, next_tells, o, on_with, one}
+use Rattle.requests.specs.Begun.{outcome_of, state_of}
 
 none_of : (a b c : Bool) → (a || (b || c)) ≡ false → (a ≡ false) × (b ≡ false) × (c ≡ false)
 none_of true b c e = absurd (true≢false e)
@@ -78,7 +78,7 @@ ones_or =
     omega (arith, ones_step n, ones_step (bit_or n b), ap ones half, odd, le-max_left (n % 2) (b % 2), more (b / 2)))
 
 module _ (z : Shelf) (img : List ℕ) (disks : Disks z img) (s : State) (own : ours z s.now ≡ true) (b : ℕ) (work : List ℕ)
-    (ok : on_answer s.now s.kind s.absent img (length work) ≡ Done)
+    (ok : on_answer s.now s.kind s.absent img (length work) ≡ Ok tt)
     (dark : (d : ℕ) → d < slots z → in_mask s.absent d ≡ true → looked (size z) (label_of z s.now) d ≡ true → ⊥) where
   not_absent : in_mask s.absent (r z img disks s own b work ok dark) ≡ false
   unfolding cannot_go_on
@@ -236,10 +236,10 @@ module _ (z : Shelf) (img : List ℕ) (disks : Disks z img) (s : State) (own : o
       (asked_on' (size z) (no_sets (slots z)) (labels z) (records z) (any_code z) stamps (any_sectors z) (o z img disks s own b work ok dark) (seen_of z (A z img disks s own b work ok dark) img) b) accepted) in_n left
 
 -- A REBUILD THAT GOES ON, at rest: no absent slot is looked at, as the protocol's invariant has it
-pub on_begins : (z : Shelf) (img : List ℕ) → Disks z img → (s : State) → ours z s.now ≡ true → (b : ℕ) (work : List ℕ) → (on_of s b img (length work)).outcome ≡ Done
+pub on_begins : (z : Shelf) (img : List ℕ) → Disks z img → (s : State) → ours z s.now ≡ true → (b : ℕ) (work : List ℕ) → outcome_of (on_of s b img (length work)) ≡ Ok tt
     → ((d : ℕ) → d < slots z → in_mask s.absent d ≡ true → looked (size z) (label_of z s.now) d ≡ true → ⊥)
-    → Fair z (on_of s b img (length work)).state work img
-    × (program_of z (idle (own_of z s s.now)) (cur_of z img) (rebuild_on b) ≡ (memory_of z (on_of s b img (length work)).state work img, accepted))
+    → Fair z (state_of s (on_of s b img (length work))) work img
+    × (program_of z (idle (own_of z s s.now)) (cur_of z img) (rebuild_on b) ≡ (memory_of z (state_of s (on_of s b img (length work))) work img, accepted))
 on_begins z img disks s own b work e dark =
     let p = goes (on_answer s.now s.kind s.absent img (length work)) s (went_on s b img) e in
     subst (λ (x : State). Fair z x work img × (program_of z (idle (own_of z s s.now)) (cur_of z img) (rebuild_on b) ≡ (memory_of z x work img, accepted))) (sym p.1) (

@@ -1,7 +1,7 @@
 -- OTHER NUMBERS THAN THE SHELF'S OWN, on disks whose labels are all this shelf's. Start-up with another n, c or S is refused: BAD_IMAGE if the image is not of that length, else NO_LABEL (TOO_FEW if it
 -- is told that every slot is absent); create is refused where the image is not zeros. Of start-up one thing is asked: if it is told another S, it is not told too that slot 0 is absent. Every other slot
 -- begins elsewhere then, where any bytes may stand, also bytes that read as labels. Assumes nothing.
-use Rattle.std.specs.Prelude.{◌≡◌, Bool, cond, ◌&&◌, List, [], ℕ, zero, suc, ◌+◌, ◌*◌, ◌<◌, ◌/◌, take, drop}
+use Rattle.std.specs.Prelude.{◌≡◌, Bool, cond, ◌&&◌, List, [], ℕ, zero, suc, ◌+◌, ◌*◌, ◌<◌, ◌/◌, take, drop, Err, Some, None}
 use Rattle.std.proofs.Math.Path.{refl, sym, ap, ap₂}
 use Rattle.std.proofs.Common.{◌∙◌, ⊎_elim, true≢false, arith, lt-ltb}
 use Rattle.std.proofs.Math.Bool.{true, false}
@@ -18,11 +18,9 @@ use Rattle.label.specs.Fields.{geometry_of}
 use Rattle.label.specs.Valid.{decode_of}
 use Rattle.label.specs.Newest.{newer, newest_of, copy_of, disk_label, shelf_label, all_of, agreed}
 use Rattle.label.specs.declared.fields.Label.{Label}
-use Rattle.label.specs.declared.codec.Decoded.{Decoded}
-use Rattle.label.specs.declared.codec.Decoded.TheVariants.{Valid, Nothing}
+use Rattle.label.specs.Fields.{Decoded}
 use Rattle.label.proofs.Counts.{all_at, all_not, disk_says, shelf_says, present_says, agreed_says}
 use Rattle.rounds.specs.Survey.{fits_shelf, labelled, table, unless, survey_of}
-use Rattle.rounds.specs.declared.plan.Survey.TheVariants as survey
 use Rattle.codecs.specs.Shelf.{Shelf, slots, geometry, some_slots}
 use Rattle.codecs.specs.Labels.{ours}
 use Rattle.refine.specs.Disks.{Disks, image_fits}
@@ -44,7 +42,7 @@ all_some p (suc n) e = go (λ q. all_some p n q) (all_of p n) refl (p n) refl e
     go ih true q false r h = (n, omega arith, r)
     go ih false q b r h = let y = ih q in (y.0, omega (arith, y.1), y.2)
 
-module _ (z : Shelf) (img : List ℕ) (disks : Disks z img) (own : (d s : ℕ) (a : Label) → d < slots z → s < 2 → copy_of (geometry z) img d s ≡ Valid a → ours z a ≡ true) (g : Geometry) (absent : ℕ) where
+module _ (z : Shelf) (img : List ℕ) (disks : Disks z img) (own : (d s : ℕ) (a : Label) → d < slots z → s < 2 → copy_of (geometry z) img d s ≡ Some a → ours z a ≡ true) (g : Geometry) (absent : ℕ) where
   module _ (fits : fits_image g (length img) ≡ true) where
     -- a slot that begins at the same sector has the same label
     module _ (d : ℕ) (here : d < g.n) (there : d < slots z) (begins : d * g.sectors ≡ d * z.sectors) where
@@ -61,15 +59,15 @@ module _ (z : Shelf) (img : List ℕ) (disks : Disks z img) (own : (d s : ℕ) (
 
       same_disk : disk_label g img d ≡ disk_label (geometry z) img d
       unfolding disk_label newest_of
-      same_disk = ap₂ (λ (x y : Decoded). newer (newer Nothing x) y) (same_copy 0 (omega arith)) (same_copy 1 (omega arith))
+      same_disk = ap₂ (λ (x y : Decoded). newer (newer None x) y) (same_copy 0 (omega arith)) (same_copy 1 (omega arith))
 
-      disk_ours : (a : Label) → disk_label g img d ≡ Valid a → ours z a ≡ true
+      disk_ours : (a : Label) → disk_label g img d ≡ Some a → ours z a ≡ true
       disk_ours a e = let y = disk_says (geometry z) img d a (sym same_disk ∙ e) in own d y.whose a there y.among y.is
 
       -- if it is present, some disk has no label, or they do not agree with each other and with the caller
       not_labelled : (g ≡ geometry z → ⊥) → in_mask absent d ≡ false → (x : Decoded) → labelled g img absent x ≡ false
-      not_labelled other present Nothing = all_not (in_mask absent) g.n d here present
-      not_labelled other present (Valid lead) = go (agreed g img absent lead) refl (fits_shelf g lead) refl
+      not_labelled other present None = all_not (in_mask absent) g.n d here present
+      not_labelled other present (Some lead) = go (agreed g img absent lead) refl (fits_shelf g lead) refl
         where
           go : (a : Bool) → agreed g img absent lead ≡ a → (b : Bool) → fits_shelf g lead ≡ b → (agreed g img absent lead && fits_shelf g lead) ≡ false
           go true p true q =
@@ -79,20 +77,20 @@ module _ (z : Shelf) (img : List ℕ) (disks : Disks z img) (own : (d s : ℕ) (
           go true p false q = ap₂ (λ (x y : Bool). x && y) p q
           go false p b q = ap (λ (x : Bool). x && fits_shelf g lead) p
 
-      no_label : (g ≡ geometry z → ⊥) → in_mask absent d ≡ false → survey_of g img absent ≡ survey.Refused NoLabel
+      no_label : (g ≡ geometry z → ⊥) → in_mask absent d ≡ false → survey_of g img absent ≡ Err NoLabel
       unfolding survey_of
       no_label other present =
           ap (λ (b : Bool). unless b BadImage (table g img absent (shelf_label g img absent))) fits
           ∙ unless_false (labelled g img absent (shelf_label g img absent)) NoLabel _ (not_labelled other present (shelf_label g img absent))
 
     -- all slots are absent
-    all_gone : all_of (in_mask absent) g.n ≡ true → survey_of g img absent ≡ survey.Refused TooFew
+    all_gone : all_of (in_mask absent) g.n ≡ true → survey_of g img absent ≡ Err TooFew
     unfolding survey_of
     all_gone e = ap (λ (b : Bool). unless b BadImage (table g img absent (shelf_label g img absent))) fits ∙ by (shelf_label g img absent) refl
       where
-        by : (x : Decoded) → shelf_label g img absent ≡ x → table g img absent x ≡ survey.Refused TooFew
-        by Nothing q = ap (λ (b : Bool). unless b NoLabel (survey.Refused TooFew)) e
-        by (Valid l) q =
+        by : (x : Decoded) → shelf_label g img absent ≡ x → table g img absent x ≡ Err TooFew
+        by None q = ap (λ (b : Bool). unless b NoLabel (Err TooFew)) e
+        by (Some l) q =
             let n = shelf_says g img absent l q in
             absurd (true≢false (sym (all_at (in_mask absent) g.n e n.whose n.among) ∙ (present_says g img absent n.whose l n.is).0))
 
@@ -106,7 +104,7 @@ module _ (z : Shelf) (img : List ℕ) (disks : Disks z img) (own : (d s : ℕ) (
         let c : g.n * z.sectors ≡ slots z * z.sectors = mul_cancel_r (g.n * z.sectors) (slots z * z.sectors) sector_bytes (omega arith) (sym (ap (λ (x : ℕ). g.n * x * sector_bytes) e) ∙ sym a ∙ b) in
         mul_cancel_r g.n (slots z) z.sectors (omega (arith, q)) c
 
-    fits_other : (g ≡ geometry z → ⊥) → Sits z g absent → (b : Bool) → all_of (in_mask absent) g.n ≡ b → survey_of g img absent ≡ survey.Refused (cond b TooFew NoLabel)
+    fits_other : (g ≡ geometry z → ⊥) → Sits z g absent → (b : Bool) → all_of (in_mask absent) g.n ≡ b → survey_of g img absent ≡ Err (cond b TooFew NoLabel)
     fits_other other sits true e = all_gone e
     fits_other other sits false e =
         ⊎_elim
@@ -114,10 +112,10 @@ module _ (z : Shelf) (img : List ℕ) (disks : Disks z img) (own : (d s : ℕ) (
         (λ (q : in_mask absent 0 ≡ false). no_label 0 (omega (arith, (fits_image_lem g img fits).0.least)) (some_slots z) (let e : 0 * g.sectors ≡ 0 * z.sectors = omega arith in e) other q) sits
 
   -- START-UP WITH ANOTHER GEOMETRY IS REFUSED, and this is the refusal
-  pub start_other : (g ≡ geometry z → ⊥) → Sits z g absent → survey_of g img absent ≡ survey.Refused (other_code g (length img) absent)
+  pub start_other : (g ≡ geometry z → ⊥) → Sits z g absent → survey_of g img absent ≡ Err (other_code g (length img) absent)
   unfolding survey_of
   start_other other sits = by (fits_image g (length img)) refl
     where
-      by : (b : Bool) → fits_image g (length img) ≡ b → survey_of g img absent ≡ survey.Refused (cond b (cond (all_of (in_mask absent) g.n) TooFew NoLabel) BadImage)
+      by : (b : Bool) → fits_image g (length img) ≡ b → survey_of g img absent ≡ Err (cond b (cond (all_of (in_mask absent) g.n) TooFew NoLabel) BadImage)
       by true e = fits_other e other sits (all_of (in_mask absent) g.n) refl
       by false e = ap (λ (b : Bool). unless b BadImage (table g img absent (shelf_label g img absent))) e

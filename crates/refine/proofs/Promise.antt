@@ -2,7 +2,7 @@
 -- the caller in between. No label on any disk lies, names another shelf or loses its shape; the state's own label is true, whatever a cut leaves, and so is the answer Done of a step; no step touches an absent
 -- slot; what was accepted is carried out. For every shelf, where any two of the sets of slots that accepted start-ups and take-outs leave out from one moment of rest to the next leave a slot out in common (Since); for k > m nothing is asked
 -- (`nothing_asked`). (Where they leave none, no start-up can tell what was written: the protocol's Limits.) What reads show meanwhile is in Serves. Assumes nothing.
-use Rattle.std.specs.Prelude.{◌≡◌, refl, Bool, false, ℕ, ◌≤◌, ◌<◌, length}
+use Rattle.std.specs.Prelude.{◌≡◌, refl, Bool, false, ℕ, ◌≤◌, ◌<◌, length, Err, Some}
 use Rattle.std.proofs.Common.{sym, subst, ◌∙◌, ⊎_elim, arith}
 use Rattle.std.proofs.Math.Path.{ap}
 use Rattle.std.proofs.Math.Bool.{true, cond}
@@ -12,12 +12,10 @@ use Rattle.disk.specs.Mask.{in_mask}
 use Rattle.disk.specs.Geometry.{stripes_of}
 use Rattle.disk.specs.declared.geometry.Geometry.{Geometry}
 use Rattle.disk.specs.declared.refusal.Refusal.TheVariants.{BadImage, NotNow}
-use Rattle.disk.specs.declared.refusal.Outcome.TheVariants.{Refused}
 use Rattle.label.specs.Fields.{no_slot}
 use Rattle.label.specs.Newest.{copy_of}
 use Rattle.label.specs.Bytes.{all_zero}
 use Rattle.label.specs.declared.fields.Label as bytes
-use Rattle.label.specs.declared.codec.Decoded.TheVariants.{Valid}
 use Rattle.redo.specs.Decide.{believed}
 use Rattle.protocol.specs.World.{World, after, Possible}
 use Rattle.protocol.specs.Label.{plainly_out as plainly_out'}
@@ -31,8 +29,8 @@ use Rattle.shards.proofs.Quorum.{quorum}
 use Rattle.shelf.specs.Act.{Move}
 use Rattle.shelf.specs.Step.{finished}
 use Rattle.stages.specs.declared.state.State.{State}
-use Rattle.stages.specs.declared.state.Answer.{Answer}
-use Rattle.stages.specs.declared.state.Answer.TheVariants as answer
+use Rattle.stages.specs.Told.{Answer}
+use Rattle.stages.specs.Told as answer
 use Rattle.stages.specs.declared.state.Kind.TheVariants.{Idle, Filling}
 use Rattle.stages.specs.State.{rested}
 use Rattle.requests.specs.Begun.{work_bytes}
@@ -106,7 +104,7 @@ module _ (z : Shelf) (first : List ℕ) (disks : Disks z first) (blank : all_zer
 
     -- START WITH ANOTHER n, c OR S is refused, with this code, and changes nothing
     pub start_elsewhere : (s : State) (g : Geometry) (absent room : ℕ) → (g ≡ geometry z → ⊥) → Sits z g absent
-        → start_of s g absent img room ≡ record { state = s; outcome = Refused (other_code g (length img) absent) }
+        → start_of g absent img room ≡ Err (other_code g (length img) absent)
     start_elsewhere = bound_elsewhere z tie.0 (fresh z first disks blank) tie.1 w img h tie.3
 
     -- NO LABEL ON ANY DISK LIES, whatever a cut leaves, while nothing is under way or anything is
@@ -116,13 +114,13 @@ module _ (z : Shelf) (first : List ℕ) (disks : Disks z first) (blank : all_zer
 
     -- so no slot is called healthy before each of its strips is: whatever a cut leaves, of a slot that such a label does not call out each strip is what the list asks for, or it is one that the write
     -- under way changes, and the log holds the write whole, as the last one, as far as that label believes it (`Carried`): start-up under it writes the new strip
-    pub healthy_labels : (left : List ℕ) (here : Disks z left) (possible : Possible w (cur_of z left)) (d s : ℕ) (a : bytes.Label) → d < slots z → s < 2 → copy_of (geometry z) left d s ≡ Valid a
+    pub healthy_labels : (left : List ℕ) (here : Disks z left) (possible : Possible w (cur_of z left)) (d s : ℕ) (a : bytes.Label) → d < slots z → s < 2 → copy_of (geometry z) left d s ≡ Some a
         → (honest_labels left here possible).settled ≤ a.generation → (e t : ℕ) → e < slots z → t < stripes_of (geometry z) → in_mask a.out e ≡ false
         → StripTrue z a view (honest_labels left here possible).stripe (honest_labels left here possible).changes (honest_labels left here possible).stamp left e t
     healthy_labels left here possible d s a i l c g e t j u o = (honest_labels left here possible).right d s a i l c g e t (healthy_believed z a e t j u o)
 
     -- NO DISK NAMES ANOTHER SHELF
-    pub own_labels : (left : List ℕ) → Disks z left → Possible w (cur_of z left) → (d s : ℕ) (a : bytes.Label) → d < slots z → s < 2 → copy_of (geometry z) left d s ≡ Valid a → ours z a ≡ true
+    pub own_labels : (left : List ℕ) → Disks z left → Possible w (cur_of z left) → (d s : ℕ) (a : bytes.Label) → d < slots z → s < 2 → copy_of (geometry z) left d s ≡ Some a → ours z a ≡ true
     own_labels = bound_labels z tie.0 (fresh z first disks blank) tie.1 w img h tie.3
 
     -- EVERY DISK'S LABEL HAS ITS SHAPE
@@ -153,7 +151,7 @@ module _ (z : Shelf) (first : List ℕ) (disks : Disks z first) (blank : all_zer
     rests_labelled e = let t = tie chain two in bound_labelled z t.0 (fresh z first disks blank) t.1 w img s work e t.3
 
     pub create_again : s.kind ≡ Idle → (t : State) (k m c S number room : ℕ)
-        → create_of t k m c S number img room ≡ record { state = t; outcome = Refused (cond (shelf_fits k m c S (length img)) NotNow BadImage) }
+        → create_of k m c S number img room ≡ Err (cond (shelf_fits k m c S (length img)) NotNow BadImage)
     create_again e = let t = tie chain two in bound_create_again z t.0 (fresh z first disks blank) t.1 w img s work e t.3
 
     -- A STEP CAN BE FOLLOWED

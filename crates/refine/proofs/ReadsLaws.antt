@@ -1,6 +1,6 @@
 -- WHAT A READ SHOWS, at any moment of a chain of calls with writes, is the entry of the host's view. In the words of read's contract.
 -- Assumes nothing.
-use Rattle.std.specs.Prelude.{◌≡◌, ◌&&◌, eqb, leb, ltb}
+use Rattle.std.specs.Prelude.{◌≡◌, ◌&&◌, eqb, leb, ltb, Ok}
 use Rattle.std.proofs.Math.Path.{refl, sym, ap, ap₂, subst, fun_ext}
 use Rattle.std.proofs.Common.{◌∙◌, inl, inr, mod-eq_of_lt, mul_assoc, lit<, lt-ltb, le-ltb, le-leb, leb-true, eq-eqb, ne_eqb, eqb-true}
 use Rattle.std.proofs.Math.Logic.{⊎_elim}
@@ -18,7 +18,6 @@ use Rattle.disk.specs.Geometry.{slot_of, slot_lt, shard_slot}
 use Rattle.disk.specs.Image.{sector, lt_or_ge}
 use Rattle.disk.specs.Mask.{in_mask, in_past}
 use Rattle.disk.specs.declared.geometry.Geometry.{Geometry}
-use Rattle.disk.specs.declared.refusal.Outcome.TheVariants.{Done}
 use Rattle.label.specs.Fields.{geometry_of}
 use Rattle.label.specs.declared.fields.Label as bytes
 use Rattle.label.proofs.Counts.{same_says}
@@ -205,7 +204,7 @@ module _ (z : Shelf) (img : List ℕ) (s : State) (b : ℕ) (work buf : List ℕ
           )
 
 module _ (z : Shelf) (F : Family z) (first_one : Machine Sector) (p : View Sector) (w : World Sector) (img : List ℕ) (s : State) (b : ℕ) (work buf : List ℕ)
-    (ok : read_answer s.now s.kind s.absent b (length img) (length buf) (length work) ≡ Done) where
+    (ok : read_answer s.now s.kind s.absent b (length img) (length buf) (length work) ≡ Ok tt) where
   served : serves s.kind ≡ true
   unfolding block_answer
   served =
@@ -384,7 +383,7 @@ module _ (z : Shelf) (F : Family z) (first_one : Machine Sector) (p : View Secto
       (read_before t.before (to_do z s work img) t.disks t.reads t.fair.ours_now t.same_label_lem (λ d i a. ap (λ (x : ℕ → Bool). x d) t.same_absent ∙ beyond_below (slots z) s.absent d i ∙ a) t.reached)
 
   -- A READ, whenever it answers Done, shows the view's entry
-  pub read_right : Bound z F first_one p w img (has s work) → after_read Done s b img work buf ≡ strip_bytes (list_of p (b / z.k) (b % z.k)) z.c
+  pub read_right : Bound z F first_one p w img (has s work) → after_read (Ok tt) s b img work buf ≡ strip_bytes (list_of p (b / z.k) (b % z.k)) z.c
   read_right (inl t) =
       let own = ⊎_elim (λ (f : Fair z s [] img × (plain s.kind ≡ true)). f.0.ours_now) (λ (q : (s.kind ≡ Idle) × (ours z s.now ≡ true)). q.1) t.order.1 in
       read_plain t ∙ ap (λ (k : ℕ). strip_bytes (list_of p (b / k) (b % k)) z.c) (sym (same_says (fields_of z 0 (no_label z)) s.now own).same_k)

@@ -1,13 +1,12 @@
 -- A REBUILD UNDER WAY, beside the protocol's machine: an accepted one begins where the machine is at rest; each of its steps is the machine's,
 -- and leaves it under way or at rest. Assumes nothing.
-use Rattle.std.specs.Prelude.{◌≡◌, refl, ◌⊎◌, true, ℕ, ◌*◌, ◌≤◌, ◌<◌, length}
+use Rattle.std.specs.Prelude.{◌≡◌, refl, ◌⊎◌, true, ℕ, ◌*◌, ◌≤◌, ◌<◌, length, Ok}
 use Rattle.std.proofs.Common.{sym, ap, ◌∙◌, inl, inr, ⊎_elim}
 use Rattle.std.proofs.Math.Path.{subst}
 use mathlib.Core.List.Memᴰ
 use mathlib.Core.List.{List, []}
 use Rattle.disk.specs.Limits.{sector_bytes}
 use Rattle.disk.specs.Mask.{in_mask}
-use Rattle.disk.specs.declared.refusal.Outcome.TheVariants.{Done}
 use Rattle.label.specs.declared.fields.Label as bytes
 use Rattle.protocol.specs.World.{World, Action, Always}
 use Rattle.protocol.specs.Label.{looked}
@@ -42,14 +41,15 @@ use Rattle.refine.specs.Named.{Named, Names, left_in, on_names, step_names}
 use Rattle.refine.specs.Chain.{Heard, has, Reached, Tie, off, accepted_none, idle_is}
 use Rattle.refine.proofs.Chain.{asks_to, rests, step_some, step_leaves, heard_is}
 use Rattle.refine.specs.Refills.{Heals, Refilling, rest_dark, saw_label}
+use Rattle.requests.specs.Begun.{outcome_of, state_of}
 
 module _ (z : Shelf) (F : Family z) (first : Machine Sector) where
   -- GOING ON WITH A REBUILD, accepted: the program begins it too, and the view stays
-  pub on_kept : (p : View Sector) (w : World Sector) (img : List ℕ) (s : State) (b : ℕ) (work : List ℕ) → Tie z F first p w img (has s) → (on_of s b img (length work)).outcome ≡ Done
-      → (Refilling z F first) p w img (on_of s b img (length work)).state work
+  pub on_kept : (p : View Sector) (w : World Sector) (img : List ℕ) (s : State) (b : ℕ) (work : List ℕ) → Tie z F first p w img (has s) → outcome_of (on_of s b img (length work)) ≡ Ok tt
+      → (Refilling z F first) p w img (state_of s (on_of s b img (length work))) work
   on_kept p w img s b work t e = subst (λ (x : State). (Refilling z F first) p w img x work) (sym g.1) begun
     where
-      g : (on_answer s.now s.kind s.absent img (length work) ≡ Done) × ((on_of s b img (length work)).state ≡ went_on s b img)
+      g : (on_answer s.now s.kind s.absent img (length work) ≡ Ok tt) × (state_of s (on_of s b img (length work)) ≡ went_on s b img)
       g = goes (on_answer s.now s.kind s.absent img (length work)) s (went_on s b img) e
 
       own : ours z s.now ≡ true

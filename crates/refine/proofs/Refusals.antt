@@ -1,7 +1,7 @@
 -- Start-up's refusals that are made before there is a label to go by: a present disk without any label, and no disk at all. (The
 -- other refusals: `start_is` in Rounds.) One refusal is the code's alone, and changes nothing: a disk whose newest label is of
 -- another shelf, which the protocol, to which such a copy is no label, may take for the older copy beside it. Assumes nothing.
-use Rattle.std.specs.Prelude.{◌≡◌, ◌&&◌, ◌||◌, List, ltb}
+use Rattle.std.specs.Prelude.{◌≡◌, ◌&&◌, ◌||◌, List, ltb, Some, None}
 use Rattle.std.proofs.Math.Path.{refl, sym, ap}
 use Rattle.std.proofs.Common.{ap₂, ◌∙◌, lt-ltb}
 use Rattle.std.proofs.Math.Bool.{Bool, true, false, cond, or-true}
@@ -9,8 +9,7 @@ use Prim.Native.Nat.{ℕ, zero, suc, ◌<◌}
 use native.Mathlib.Omega.{arith}
 use Rattle.disk.specs.Mask.{in_mask}
 use Rattle.label.specs.Newest.{copy_of, disk_label}
-use Rattle.label.specs.declared.codec.Decoded.{Decoded}
-use Rattle.label.specs.declared.codec.Decoded.TheVariants.{Valid, Nothing}
+use Rattle.label.specs.Fields.{Decoded}
 use Rattle.label.proofs.Counts.{newest_none}
 use Rattle.protocol.specs.Slots.{from, in_from, of_from, every_of, every_all}
 use Rattle.protocol.specs.Label.{Label, copy}
@@ -40,7 +39,7 @@ count_all p (suc n) h = rw (h n (omega arith)) (omega (arith, count_all p n (λ 
 module _ (z : Shelf) (img : List ℕ) (disks : Disks z img) (absent : ℕ) (A : ℕ → Bool) (are : (d : ℕ) → d < slots z → A d ≡ in_mask absent d) where
   -- ---- a disk with no label
 
-  copy_none : (d : ℕ) (b : Bool) → d < slots z → in_mask absent d ≡ false → disk_label (geometry z) img d ≡ Nothing → (copy (labels z) (f0 z img disks absent A are) d b).generation ≡ 0
+  copy_none : (d : ℕ) (b : Bool) → d < slots z → in_mask absent d ≡ false → disk_label (geometry z) img d ≡ None → (copy (labels z) (f0 z img disks absent A are) d b).generation ≡ 0
   unfolding disk_label
   copy_none d b h e q = ap (λ (x : Label). x.generation) (copy_is z img disks absent A are d b h e) ∙ by (copy_of (geometry z) img d (Labels.sector_of b)) refl
     where
@@ -49,10 +48,10 @@ module _ (z : Shelf) (img : List ℕ) (disks : Disks z img) (absent : ℕ) (A : 
       side false = omega arith
 
       by : (x : Decoded) → copy_of (geometry z) img d (Labels.sector_of b) ≡ x → (meant z x).generation ≡ 0
-      by Nothing p = refl
-      by (Valid a) p = absurd (newest_none (copy_of (geometry z) img d) 2 q (Labels.sector_of b) a (side b) p)
+      by None p = refl
+      by (Some a) p = absurd (newest_none (copy_of (geometry z) img d) 2 q (Labels.sector_of b) a (side b) p)
 
-  seen_none : (d : ℕ) → d < slots z → in_mask absent d ≡ false → disk_label (geometry z) img d ≡ Nothing → seen (size z) (labels z) A (f0 z img disks absent A are) d ≡ 0
+  seen_none : (d : ℕ) → d < slots z → in_mask absent d ≡ false → disk_label (geometry z) img d ≡ None → seen (size z) (labels z) A (f0 z img disks absent A are) d ≡ 0
   seen_none d h e q =
       ap (λ (b : Bool). cond b 0 (newest (size z) (labels z) A (f0 z img disks absent A are) d).generation) (are d h ∙ e)
       ∙ by (ltb (copy (labels z) (f0 z img disks absent A are) d false).generation (copy (labels z) (f0 z img disks absent A are) d true).generation)
@@ -61,7 +60,7 @@ module _ (z : Shelf) (img : List ℕ) (disks : Disks z img) (absent : ℕ) (A : 
       by true = copy_none d true h e q
       by false = copy_none d false h e q
 
-  pub unlabelled : (d : ℕ) → d < slots z → in_mask absent d ≡ false → disk_label (geometry z) img d ≡ Nothing → labelled (size z) (labels z) A (f0 z img disks absent A are) ≡ false
+  pub unlabelled : (d : ℕ) → d < slots z → in_mask absent d ≡ false → disk_label (geometry z) img d ≡ None → labelled (size z) (labels z) A (f0 z img disks absent A are) ≡ false
   unlabelled d h e q = by (labelled (size z) (labels z) A (f0 z img disks absent A are)) refl
     where
       test : ℕ → Bool
@@ -73,7 +72,7 @@ module _ (z : Shelf) (img : List ℕ) (disks : Disks z img) (absent : ℕ) (A : 
           ∙ ap₂ (λ (x : Bool) (n : ℕ). x || ltb 0 n) (are d h ∙ e) (seen_none d h e q)
       by false p = refl
 
-  pub no_label : (d : ℕ) → d < slots z → in_mask absent d ≡ false → disk_label (geometry z) img d ≡ Nothing
+  pub no_label : (d : ℕ) → d < slots z → in_mask absent d ≡ false → disk_label (geometry z) img d ≡ None
       → may_start_by (size z) (no_sets (slots z)) (labels z) (records z) (any_code z) stamps (any_sectors z) (few_of z) A (f0 z img disks absent A are) ≡ because NO_LABEL
   no_label d h e q = rw (unlabelled d h e q)
 

@@ -2,7 +2,7 @@
 -- the write of the accused shard, mended, that it makes, and it can be carried out. Whatever the strips hold: nothing is asked of them, nor
 -- of the host's list. And one that is refused is refused by the program too, with the same code for BAD_BLOCK and NOT_NOW, but for what the code alone looks at. In the
 -- words of repair's contract. Assumes nothing.
-use Rattle.std.specs.Prelude.{◌≡◌, Bool, cond, ◌&&◌, ◌||◌, ℕ, suc, ◌+◌, ◌-◌, ◌*◌, ◌≤◌, ◌<◌}
+use Rattle.std.specs.Prelude.{◌≡◌, Bool, cond, ◌&&◌, ◌||◌, ℕ, suc, ◌+◌, ◌-◌, ◌*◌, ◌≤◌, ◌<◌, Ok, Err}
 use Rattle.std.proofs.Math.Path.{refl, sym, ap, ap₂, subst}
 use Rattle.std.proofs.Common.{◌∙◌, inl, arith, lit<, pow_pos, get_or-take}
 use Rattle.std.proofs.Math.Logic.{⊎_elim}
@@ -25,8 +25,7 @@ use Rattle.disk.specs.Mask.{in_mask, with_slot, in_with, with_lt, in_past}
 use Rattle.disk.specs.declared.geometry.Geometry.{Geometry}
 use Rattle.disk.specs.declared.refusal.Refusal.{Refusal}
 use Rattle.disk.specs.declared.refusal.Refusal.TheVariants as why
-use Rattle.disk.specs.declared.refusal.Outcome.{Outcome}
-use Rattle.disk.specs.declared.refusal.Outcome.TheVariants.{Done, Refused}
+use Rattle.disk.specs.Refusal.{Outcome}
 use Rattle.label.specs.Fields.{geometry_of, fits_of}
 use Rattle.label.proofs.Counts.{SameShelf, same_says}
 use Rattle.protocol.specs.Label as Label
@@ -51,10 +50,10 @@ use Rattle.strips.specs.Whole.{stripe_seen}
 use Rattle.views.specs.Seen.{Lying}
 use Rattle.views.proofs.Whole.{mend_finds, mended_is}
 use Rattle.views.proofs.Program.{repair_mended}
-use Rattle.requests.specs.Begun.{begun}
+use Rattle.requests.specs.Begun.{begun, state_of}
 use Rattle.requests.specs.Begun as requests
 use Rattle.requests.specs.Ready.{is_idle, has_shelf, ready_of}
-use Rattle.requests.specs.declared.begun.Begun.{Begun}
+use Rattle.requests.specs.Begun.{Begun}
 use Rattle.blocks.specs.Slots.{missing_at, missing, too_few, none_missing, all_slots, none_lost_lem}
 use Rattle.blocks.specs.Answers.{answered, stripe_answer, sized_of, never, sized_half}
 use Rattle.blocks.specs.Write.{most_count, stamp_left}
@@ -78,6 +77,7 @@ use Rattle.refine.proofs.Writes.{log_begins, write_fair}
 use Rattle.refine.specs.WriteAsked.{stamped_sound}
 use Rattle.refine.specs.Mends.{Whole, may_whole, stripe_inside, none_missing_lem, all_believe, repaired_here}
 use Rattle.refine.specs.RepairAsked.{seen, in_order, stamp_remains, replies, l, n, f, W, D, may, whole, in_T, found_so, r, half, starts, Refuses, accuses, la, num, blamed, P, held, sense, tests, asked}
+use Rattle.requests.specs.Begun.{outcome_of}
 
 -- a mask of one slot
 one_slot : (m e : ℕ) → in_mask (with_slot 0 m) e ≡ eqb e m
@@ -114,7 +114,7 @@ sees_all z img disks i own t whole =
 -- ---- a repair that is accepted
 
 module _ (z : Shelf) (img : List ℕ) (disks : Disks z img) (i : State) (own : ours z i.now ≡ true) (t : ℕ) (work : List ℕ) (b : Begun) (after : List ℕ) (small : Bytes after)
-    (w : Repairs i t img work b after) (done : b.outcome ≡ Done) where
+    (w : Repairs i t img work b after) (done : outcome_of b ≡ Ok tt) where
   passed : MayMend i img t
   passed = may_done i img t (may z img disks i own t work b after small w done)
 
@@ -125,21 +125,21 @@ module _ (z : Shelf) (img : List ℕ) (disks : Disks z img) (i : State) (own : o
   unfolding sized_answer
   sized = by (sized_of (l z img disks i own t work b after small w done) (length work)) refl
     where
-      says : b.outcome ≡ (begun (sized_answer (l z img disks i own t work b after small w done) (length work)) i (mending i t (r z img disks i own t work b after small w done))).outcome
+      says : outcome_of b ≡ (outcome_of (begun (sized_answer (l z img disks i own t work b after small w done) (length work)) (mending i t (r z img disks i own t work b after small w done))))
       says =
-          ap (λ (x : Begun). x.outcome) w.answers
-          ∙ ap₂ (λ (o : Outcome) (v : Verdict). (begun (requests.first o (mend_answer v (l z img disks i own t work b after small w done) (length work))) i (mended i t v)).outcome) (may z img disks i own t work b after small w done) (found_so z img disks i own t work b after small w done).1
+          ap (λ (x : Begun). outcome_of x) w.answers
+          ∙ ap₂ (λ (o : Outcome) (v : Verdict). (outcome_of (begun (requests.first o (mend_answer v (l z img disks i own t work b after small w done) (length work))) (mended i t v)))) (may z img disks i own t work b after small w done) (found_so z img disks i own t work b after small w done).1
 
       by : (a : Bool) → sized_of (l z img disks i own t work b after small w done) (length work) ≡ a → a ≡ true
       by true e = refl
-      by false e = absurd (never why.BadBuffer (sym (says ∙ ap (λ (a : Bool). (begun (cond a Done (Refused why.BadBuffer)) i (mending i t (r z img disks i own t work b after small w done))).outcome) e) ∙ done))
+      by false e = absurd (never why.BadBuffer (sym (says ∙ ap (λ (a : Bool). outcome_of (begun (cond a (Ok tt) (Err why.BadBuffer)) (mending i t (r z img disks i own t work b after small w done)))) e) ∙ done))
 
   half_bytes : Bytes (half z img disks i own t work b after small w done)
   half_bytes = bytes_take (stripe_bytes (l z img disks i own t work b after small w done)) after small
 
-  here : Repaired z.k ((n z img disks i own t work b after small w done) - z.k) (shard_bytes z) (verdict.Accused (r z img disks i own t work b after small w done)) (stripe_seen (geometry z) img (all_slots (n z img disks i own t work b after small w done)) t) (half z img disks i own t work b after small w done)
+  here : Repaired z.k ((n z img disks i own t work b after small w done) - z.k) (shard_bytes z) (Ok (verdict.Accused (r z img disks i own t work b after small w done))) (stripe_seen (geometry z) img (all_slots (n z img disks i own t work b after small w done)) t) (half z img disks i own t work b after small w done)
   here =
-      subst (λ (v : Verdict). Repaired z.k ((n z img disks i own t work b after small w done) - z.k) (shard_bytes z) v (stripe_seen (geometry z) img (all_slots (n z img disks i own t work b after small w done)) t) (half z img disks i own t work b after small w done)) (found_so z img disks i own t work b after small w done).1
+      subst (λ (v : Verdict). Repaired z.k ((n z img disks i own t work b after small w done) - z.k) (shard_bytes z) (Ok v) (stripe_seen (geometry z) img (all_slots (n z img disks i own t work b after small w done)) t) (half z img disks i own t work b after small w done)) (found_so z img disks i own t work b after small w done).1
       (repaired_here z (l z img disks i own t work b after small w done) own img t w.found (half z img disks i own t work b after small w done) (repair_half i t img work b after w done))
 
   lies : Lying z t img (all_slots (n z img disks i own t work b after small w done)) (strips_of (size z) (no_sets (n z img disks i own t work b after small w done)) (records z) (any_code z) (f z img disks i own t work b after small w done) t)
@@ -238,9 +238,9 @@ module _ (z : Shelf) (img : List ℕ) (disks : Disks z img) (i : State) (own : o
       write_fair z (starts z img disks i own t work b after small w done) after img (stamped_sound z i own passed.lies.fits t (in_T z img disks i own t work b after small w done) (starts z img disks i own t work b after small w done).marks) own disks refl refl present (in_T z img disks i own t work b after small w done) (with_lt (n z img disks i own t work b after small w done) 0 (r z img disks i own t work b after small w done) (pow_pos (n z img disks i own t work b after small w done)) finds.1) (omega (arith, passed.stamp)) works
 
   -- THE STATE AND THE WORK AREA describe the write that the protocol's program makes, and what is remembered of it is what the program remembers
-  pub repair_goes : Fair z b.state after img × Writes z b.state after (W z img disks i own t work b after small w done)
-      × (memory_with z (W z img disks i own t work b after small w done) b.state after img ≡ asked_repair (size z) (no_sets (n z img disks i own t work b after small w done)) (labels z) (records z) (any_code z) stamps (any_sectors z) (own_of z i (l z img disks i own t work b after small w done)) (f z img disks i own t work b after small w done) t)
-      × (b.state.next ≡ (l z img disks i own t work b after small w done)) × (length after ≡ length work)
+  pub repair_goes : Fair z (state_of i b) after img × Writes z (state_of i b) after (W z img disks i own t work b after small w done)
+      × (memory_with z (W z img disks i own t work b after small w done) (state_of i b) after img ≡ asked_repair (size z) (no_sets (n z img disks i own t work b after small w done)) (labels z) (records z) (any_code z) stamps (any_sectors z) (own_of z i (l z img disks i own t work b after small w done)) (f z img disks i own t work b after small w done) t)
+      × ((state_of i b).next ≡ (l z img disks i own t work b after small w done)) × (length after ≡ length work)
   repair_goes =
       subst (λ (x : State). Fair z x after img × Writes z x after (W z img disks i own t work b after small w done)
       × (memory_with z (W z img disks i own t work b after small w done) x after img ≡ asked_repair (size z) (no_sets (n z img disks i own t work b after small w done)) (labels z) (records z) (any_code z) stamps (any_sectors z) (own_of z i (l z img disks i own t work b after small w done)) (f z img disks i own t work b after small w done) t)
@@ -264,29 +264,29 @@ blames_so several = refl
 module _ (z : Shelf) (img : List ℕ) (disks : Disks z img) (i : State) (own : ours z i.now ≡ true)
     (dark : (d : ℕ) → d < slots z → in_mask i.absent d ≡ true → Label.looked (size z) (label_of z i.now) d ≡ true → ⊥)
     (rest : is_idle i.kind ≡ true) (fits : fits_of i.now ≡ true) (t : ℕ) (work : List ℕ) (b : Begun) (after : List ℕ) (w : Repairs i t img work b after) where
-  kept : (o : Outcome) (x : State) → (P z img disks i own dark rest fits t work b after w) o → (P z img disks i own dark rest fits t work b after w) (begun o i x).outcome
-  kept Done x p = p
-  kept (Refused y) x p = p
+  kept : (o : Outcome) (x : State) → (P z img disks i own dark rest fits t work b after w) o → (P z img disks i own dark rest fits t work b after w) (outcome_of (begun o x))
+  kept (Ok tt) x p = p
+  kept (Err y) x p = p
 
   -- ---- the program's side
 
-  outside : ltb t (stripes_of (geometry z)) ≡ false → (P z img disks i own dark rest fits t work b after w) (Refused why.BadBlock)
+  outside : ltb t (stripes_of (geometry z)) ≡ false → (P z img disks i own dark rest fits t work b after w) (Err why.BadBlock)
   outside e = program_replies z img i t ∙ (λ j. replies z img i t (e j) (in_order z img i t) (stamp_remains z img i t) (blamed z img disks i own dark rest fits t work b after w))
 
-  none_in : ltb t (stripes_of (geometry z)) ≡ true → in_order z img i t ≡ false → (P z img disks i own dark rest fits t work b after w) (Refused why.NotNow)
+  none_in : ltb t (stripes_of (geometry z)) ≡ true → in_order z img i t ≡ false → (P z img disks i own dark rest fits t work b after w) (Err why.NotNow)
   none_in e a = program_replies z img i t ∙ (λ j. replies z img i t (e j) (a j) (stamp_remains z img i t) (blamed z img disks i own dark rest fits t work b after w))
 
-  no_stamp : ltb t (stripes_of (geometry z)) ≡ true → stamp_remains z img i t ≡ false → (P z img disks i own dark rest fits t work b after w) (Refused why.NotNow)
+  no_stamp : ltb t (stripes_of (geometry z)) ≡ true → stamp_remains z img i t ≡ false → (P z img disks i own dark rest fits t work b after w) (Err why.NotNow)
   no_stamp e c = by (in_order z img i t) refl
     where
-      by : (a : Bool) → in_order z img i t ≡ a → (P z img disks i own dark rest fits t work b after w) (Refused why.NotNow)
+      by : (a : Bool) → in_order z img i t ≡ a → (P z img disks i own dark rest fits t work b after w) (Err why.NotNow)
       by true a = program_replies z img i t ∙ (λ j. replies z img i t (e j) (a j) (c j) (blamed z img disks i own dark rest fits t work b after w))
       by false a = none_in e a
 
-  nobody : ltb t (stripes_of (geometry z)) ≡ true → (blamed z img disks i own dark rest fits t work b after w) ≡ false → (P z img disks i own dark rest fits t work b after w) (Refused why.NotNow)
+  nobody : ltb t (stripes_of (geometry z)) ≡ true → (blamed z img disks i own dark rest fits t work b after w) ≡ false → (P z img disks i own dark rest fits t work b after w) (Err why.NotNow)
   nobody e x = by (in_order z img i t) refl (stamp_remains z img i t) refl
     where
-      by : (a : Bool) → in_order z img i t ≡ a → (c : Bool) → stamp_remains z img i t ≡ c → (P z img disks i own dark rest fits t work b after w) (Refused why.NotNow)
+      by : (a : Bool) → in_order z img i t ≡ a → (c : Bool) → stamp_remains z img i t ≡ c → (P z img disks i own dark rest fits t work b after w) (Err why.NotNow)
       by true a true c = program_replies z img i t ∙ (λ j. replies z img i t (e j) (a j) (c j) (x j))
       by true a false c = no_stamp e c
       by false a u c = none_in e a
@@ -329,15 +329,15 @@ module _ (z : Shelf) (img : List ℕ) (disks : Disks z img) (i : State) (own : o
       by true q = absurd (omega (arith, ltb-true (la z img disks i own dark rest fits t work b after w).m (ones (missing (la z img disks i own dark rest fits t work b after w) i.absent)) e, ap ones (eqb-true (missing (la z img disks i own dark rest fits t work b after w) i.absent) 0 q), ones_none))
       by false q = refl
 
-  ready_is : ready_of (la z img disks i own dark rest fits t work b after w) i.kind i.absent img ≡ cond (held z img disks i own dark rest fits t work b after w) Done (Refused why.NoLabel)
+  ready_is : ready_of (la z img disks i own dark rest fits t work b after w) i.kind i.absent img ≡ cond (held z img disks i own dark rest fits t work b after w) (Ok tt) (Err why.NoLabel)
   unfolding ready_of has_shelf
   ready_is = by i.kind rest
     where
       image : fits_image (geometry_of (la z img disks i own dark rest fits t work b after w)) (length img) ≡ true
       image = subst (λ (g : Geometry). fits_image g (length img) ≡ true) (sym (shelf_geometry z (la z img disks i own dark rest fits t work b after w) own)) (image_fits z img disks)
 
-      by : (k : Kind) → is_idle k ≡ true → ready_of (la z img disks i own dark rest fits t work b after w) k i.absent img ≡ cond (held z img disks i own dark rest fits t work b after w) Done (Refused why.NoLabel)
-      by Idle e = ap₂ (λ (x y : Bool). cond x (cond y (cond (held z img disks i own dark rest fits t work b after w) Done (Refused why.NoLabel)) (Refused why.BadImage)) (Refused why.NotNow)) fits image
+      by : (k : Kind) → is_idle k ≡ true → ready_of (la z img disks i own dark rest fits t work b after w) k i.absent img ≡ cond (held z img disks i own dark rest fits t work b after w) (Ok tt) (Err why.NoLabel)
+      by Idle e = ap₂ (λ (x y : Bool). cond x (cond y (cond (held z img disks i own dark rest fits t work b after w) (Ok tt) (Err why.NoLabel)) (Err why.BadImage)) (Err why.NotNow)) fits image
       by Nothing e = absurd (false≢true e)
       by Creating e = absurd (false≢true e)
       by Starting e = absurd (false≢true e)
@@ -349,10 +349,10 @@ module _ (z : Shelf) (img : List ℕ) (disks : Disks z img) (i : State) (own : o
   may_is : (asked z img disks i own dark rest fits t work b after w) ≡ (tests z img disks i own dark rest fits t work b after w) (held z img disks i own dark rest fits t work b after w) (too_few (la z img disks i own dark rest fits t work b after w) i.absent) (ltb t (stripes_of (geometry_of (la z img disks i own dark rest fits t work b after w)))) (sense z img disks i own dark rest fits t work b after w)
   unfolding stripe_answer answered
   may_is =
-      ap₂ (λ (o : Outcome) (x : Bool). requests.first o (cond (too_few (la z img disks i own dark rest fits t work b after w) i.absent) (Refused why.TooFew) (cond (ltb t (stripes_of (geometry_of (la z img disks i own dark rest fits t work b after w)))) (cond x (cond (sense z img disks i own dark rest fits t work b after w) Done (Refused why.NotNow)) (Refused why.Busy)) (Refused why.BadBlock)))) ready_is rest
+      ap₂ (λ (o : Outcome) (x : Bool). requests.first o (cond (too_few (la z img disks i own dark rest fits t work b after w) i.absent) (Err why.TooFew) (cond (ltb t (stripes_of (geometry_of (la z img disks i own dark rest fits t work b after w)))) (cond x (cond (sense z img disks i own dark rest fits t work b after w) (Ok tt) (Err why.NotNow)) (Err why.Busy)) (Err why.BadBlock)))) ready_is rest
 
   -- nobody is accused by the one where nobody is by the other
-  by_verdict : (asked z img disks i own dark rest fits t work b after w) ≡ Done → ltb t (stripes_of (geometry z)) ≡ true → (P z img disks i own dark rest fits t work b after w) (mend_answer w.found (la z img disks i own dark rest fits t work b after w) (length work))
+  by_verdict : (asked z img disks i own dark rest fits t work b after w) ≡ Ok tt → ltb t (stripes_of (geometry z)) ≡ true → (P z img disks i own dark rest fits t work b after w) (mend_answer w.found (la z img disks i own dark rest fits t work b after w) (length work))
   unfolding sized_answer
   by_verdict e inside = by w.found refl
     where
@@ -366,12 +366,11 @@ module _ (z : Shelf) (img : List ℕ) (disks : Disks z img) (i : State) (own : o
       by : (v : Verdict) → w.found ≡ v → (P z img disks i own dark rest fits t work b after w) (mend_answer v (la z img disks i own dark rest fits t work b after w) (length work))
       by (verdict.Accused r) q = go (sized_of (la z img disks i own dark rest fits t work b after w) (length work))
         where
-          go : (a : Bool) → (P z img disks i own dark rest fits t work b after w) (cond a Done (Refused why.BadBuffer))
+          go : (a : Bool) → (P z img disks i own dark rest fits t work b after w) (cond a (Ok tt) (Err why.BadBuffer))
           go true = tt
           go false = tt
       by verdict.Sound q = nobody inside (found_is ∙ ap accuses q)
       by verdict.Unsound q = nobody inside (found_is ∙ ap accuses q)
-      by (verdict.Refused x) q = nobody inside (found_is ∙ ap accuses q)
 
   -- ---- each way out
 
@@ -384,15 +383,15 @@ module _ (z : Shelf) (img : List ℕ) (disks : Disks z img) (i : State) (own : o
   refused_by true false true true a c d e = by_verdict e c
   refused_by true false true false a c d e = by (stamp_left i.count) refl
     where
-      by : (x : Bool) → stamp_left i.count ≡ x → (P z img disks i own dark rest fits t work b after w) (Refused why.NotNow)
+      by : (x : Bool) → stamp_left i.count ≡ x → (P z img disks i own dark rest fits t work b after w) (Err why.NotNow)
       by false q = no_stamp c (left_is z img i t ∙ q)
       by true q = none_in c (some_out (sym (ap (λ (x : Bool). x && none_missing (la z img disks i own dark rest fits t work b after w) i.absent) q) ∙ d))
 
   -- A REPAIR THAT THE CODE REFUSES AT REST
-  pub repair_refused_says : (x : Refusal) → b.outcome ≡ Refused x → Refuses x z img i t
+  pub repair_refused_says : (x : Refusal) → outcome_of b ≡ Err x → Refuses x z img i t
   repair_refused_says x e =
       let same : ltb t (stripes_of (geometry_of (la z img disks i own dark rest fits t work b after w))) ≡ ltb t (stripes_of (geometry z)) = ap (λ (g : Geometry). ltb t (stripes_of g)) (shelf_geometry z (la z img disks i own dark rest fits t work b after w) own) in
       let so = may_is ∙ ap (λ (a : Bool). (tests z img disks i own dark rest fits t work b after w) (held z img disks i own dark rest fits t work b after w) (too_few (la z img disks i own dark rest fits t work b after w) i.absent) a (sense z img disks i own dark rest fits t work b after w)) same in
       let o : Outcome = (tests z img disks i own dark rest fits t work b after w) (held z img disks i own dark rest fits t work b after w) (too_few (la z img disks i own dark rest fits t work b after w) i.absent) (ltb t (stripes_of (geometry z))) (sense z img disks i own dark rest fits t work b after w) in
-      subst (P z img disks i own dark rest fits t work b after w) (sym (ap (λ (y : Begun). y.outcome) w.answers ∙ ap (λ (y : Outcome). (begun (requests.first y (mend_answer w.found (la z img disks i own dark rest fits t work b after w) (length work))) i (mended i t w.found)).outcome) so) ∙ e)
+      subst (P z img disks i own dark rest fits t work b after w) (sym (ap (λ (y : Begun). outcome_of y) w.answers ∙ ap (λ (y : Outcome). outcome_of (begun (requests.first y (mend_answer w.found (la z img disks i own dark rest fits t work b after w) (length work))) (mended i t w.found))) so) ∙ e)
       (kept (requests.first o (mend_answer w.found (la z img disks i own dark rest fits t work b after w) (length work))) (mended i t w.found) (refused_by (held z img disks i own dark rest fits t work b after w) (too_few (la z img disks i own dark rest fits t work b after w) i.absent) (ltb t (stripes_of (geometry z))) (sense z img disks i own dark rest fits t work b after w) refl refl refl so))

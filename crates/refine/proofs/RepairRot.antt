@@ -1,14 +1,13 @@
 -- A REPAIR WHILE STRIPS ROT, for k > m: what the protocol promises then (`rot_promise`) it promises of the code's repair. At rest, with at
 -- most one strip of a stripe rotten: an accepted repair leaves the host's list as it is, so does each of its steps, and when one answers Done,
 -- as it does in the end, nothing of the stripe is rotten any more. Meanwhile nothing else rots here. Assumes nothing.
-use Rattle.std.specs.Prelude.{◌≡◌, ◌⊎◌, Bool, true, false, cond, not, ◌&&◌, ℕ, ◌-◌, ◌<◌, eqb, ltb}
+use Rattle.std.specs.Prelude.{◌≡◌, ◌⊎◌, Bool, true, false, cond, not, ◌&&◌, ℕ, ◌-◌, ◌<◌, eqb, ltb, Ok}
 use Rattle.std.proofs.Math.Path.{refl, ap}
 use Rattle.std.proofs.Common.{sym, subst, ◌∙◌, ⊎_elim, arith, eq-eqb}
 use Rattle.std.proofs.Math.Logic.{inl, inr}
 use mathlib.Core.List.{List, [], ◌∷◌}
 use Rattle.disk.specs.Geometry.{stripes_of, slot_of, slot_lt}
 use Rattle.disk.specs.Mask.{in_mask}
-use Rattle.disk.specs.declared.refusal.Outcome.TheVariants as outcome
 use Rattle.label.specs.declared.fields.Label as bytes
 use Rattle.protocol.specs.World.{Image, World, Action, put, flush}
 use Rattle.protocol.specs.Log.{Write, Belief}
@@ -34,12 +33,12 @@ use Rattle.shards.proofs.Promise.{sectors}
 use Rattle.shards.proofs.Even.{any_code, any_sectors}
 use Rattle.shelf.specs.Act.{Move}
 use Rattle.shelf.specs.Step.{finished, step_move}
-use Rattle.requests.specs.declared.begun.Begun.{Begun}
+use Rattle.requests.specs.Begun.{Begun, state_of}
 use Rattle.blocks.specs.Repair.{Repairs, repair_accuses}
 use Rattle.stages.specs.Limits.{most_stages}
 use Rattle.stages.specs.declared.state.State.{State}
 use Rattle.stages.specs.declared.state.Kind.{Kind}
-use Rattle.stages.specs.declared.state.Answer.TheVariants as answer
+use Rattle.stages.specs.Told as answer
 use Rattle.refine.specs.Disks.{Disks, cur_of, seen_of}
 use Rattle.refine.specs.ToDo.{left_of, to_do}
 use Rattle.refine.specs.Steps.{Fair, Does}
@@ -51,6 +50,7 @@ use Rattle.refine.proofs.Writes.{write_tied}
 use Rattle.refine.specs.RepairAsked.{repair_asked, repair_whole}
 use Rattle.refine.proofs.RepairAsked.{repair_finds, repair_goes, repair_accepted}
 use Rattle.refine.specs.RepairRot.{Stepping, RottenIn, follows, F, Part, move, later, rot_out, RepairStep, rot_then, Mended, last_step, then_on}
+use Rattle.requests.specs.Begun.{outcome_of}
 
 -- no two of these replies are the same
 not_safe : (a : Action Sector) → did a ≡ safe → ⊥
@@ -105,9 +105,9 @@ module _ (z : Shelf) (more : z.m < z.k) where
 
   -- AN ACCEPTED REPAIR: the list is as it was
   pub repair_rot_begins : (img : List ℕ) (disks : Disks z img) (i : State) (own : ours z i.now ≡ true) (t : ℕ) (work : List ℕ) (b : Begun) (after : List ℕ) (small : Bytes after)
-      → Repairs i t img work b after → b.outcome ≡ outcome.Done → (rot : Rot) (w : World Sector) → w.cur ≡ cur_of z img → (v : Host Sector)
+      → Repairs i t img work b after → outcome_of b ≡ Ok tt → (rot : Rot) (w : World Sector) → w.cur ≡ cur_of z img → (v : Host Sector)
       → (RottenIn z more) rot w (idle (own_of z i i.now)) (sure v)
-      → (RottenIn z more) rot w (memory_with z (repair_asked z (seen_of z (beyond (slots z) (in_mask i.absent)) img) t) b.state after img) (sure v)
+      → (RottenIn z more) rot w (memory_with z (repair_asked z (seen_of z (beyond (slots z) (in_mask i.absent)) img) t) (state_of i b) after img) (sure v)
   repair_rot_begins img disks i own t work b after small r ok rot w reads v h =
       let f = seen_of z (beyond (slots z) (in_mask i.absent)) img in
       let o = own_of z i i.now in
@@ -265,7 +265,7 @@ module _ (z : Shelf) (more : z.m < z.k) where
 
   -- A REPAIR FROM REST TO REST: the list is as it was, nothing of its stripe is rotten any more, and nothing else has rotted
   pub repair_mends : (img : List ℕ) (disks : Disks z img) (i : State) (own : ours z i.now ≡ true) (t : ℕ) (work : List ℕ) (b : Begun) (after : List ℕ) (small : Bytes after)
-      (r : Repairs i t img work b after) (ok : b.outcome ≡ outcome.Done) {s' : State} {img' : List ℕ} → Stepping after b.state img s' img'
+      (r : Repairs i t img work b after) (ok : outcome_of b ≡ Ok tt) {s' : State} {img' : List ℕ} → Stepping after (state_of i b) img s' img'
       → (rot : Rot) (w : World Sector) → w.cur ≡ cur_of z img → (v : Host Sector) → (RottenIn z more) rot w (idle (own_of z i i.now)) (sure v)
       → (rot' : Rot) × (Mended z more) rot' s' img' v × ((d : ℕ) → rot' d t ≡ false) × ((d u : ℕ) → rot' d u ≡ true → rot d u ≡ true)
   unfolding repair_of belief mask seen_of

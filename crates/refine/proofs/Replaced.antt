@@ -3,7 +3,7 @@
 -- there still. And so it is at rest, with a slot that is out but not called absent: every request that would change something is refused then, until the shelf is started anew, and reads do not look at the slot.
 -- So the host's view goes on as without the exchange, and every read shows it. Nothing else is asked of the caller than in Hosts, but that create is not called on an image of zeros any more; and of the sets
 -- of slots that are left out the same is asked as without exchanges (Since): from one moment of rest to the next any two leave a slot out in common; for k > m nothing. Assumes nothing.
-use Rattle.std.specs.Prelude.{◌≡◌, ◌⊎◌, ◌≢◌, Bool, true, false, cond, not, ◌||◌, ℕ, ◌+◌, ◌<◌, ◌/◌, ◌%◌, eqb}
+use Rattle.std.specs.Prelude.{◌≡◌, ◌⊎◌, ◌≢◌, Bool, true, false, cond, not, ◌||◌, ℕ, ◌+◌, ◌<◌, ◌/◌, ◌%◌, eqb, Ok, Err, Some, None}
 use Rattle.std.proofs.Math.Path.{refl, sym, ap, subst, fun_ext}
 use Rattle.std.proofs.Common.{◌∙◌, inl, inr, true≢false, arith, eq-eqb, ne_eqb, eqb-true}
 use Rattle.std.proofs.Math.Logic.{⊎_elim}
@@ -16,13 +16,11 @@ use Rattle.disk.specs.Mask.{in_mask}
 use Rattle.disk.specs.Image.{sector}
 use Rattle.disk.specs.declared.geometry.Geometry.{Geometry}
 use Rattle.disk.specs.declared.refusal.Refusal.TheVariants.{NotNow}
-use Rattle.disk.specs.declared.refusal.Outcome.{Outcome}
-use Rattle.disk.specs.declared.refusal.Outcome.TheVariants.{Done, Refused}
+use Rattle.disk.specs.Refusal.{Outcome}
 use Rattle.disk.specs.Tests.{and_left}
 use Rattle.label.specs.Bytes.{all_zero}
 use Rattle.label.specs.Fields.{geometry_of}
 use Rattle.label.specs.Newest.{copy_of, disk_label}
-use Rattle.label.specs.declared.codec.Decoded.TheVariants.{Valid, Nothing}
 use Rattle.redo.specs.Decide.{looked}
 use Rattle.protocol.specs.Apart.{same_nat}
 use Rattle.protocol.specs.World.{Possible, Place, slot, Image, World, after, strip}
@@ -44,8 +42,8 @@ use Rattle.shelf.specs.Act.{Move, named}
 use Rattle.stages.specs.declared.state.State.{State}
 use Rattle.stages.specs.declared.state.Kind.{Kind}
 use Rattle.stages.specs.declared.state.Kind.TheVariants.{Idle}
-use Rattle.stages.specs.declared.state.Answer.TheVariants as answer
-use Rattle.requests.specs.Begun.{begun}
+use Rattle.stages.specs.Told as answer
+use Rattle.requests.specs.Begun.{begun, state_of}
 use Rattle.requests.specs.Create.{created}
 use Rattle.requests.specs.TakeOut.{take_answer, took_out}
 use Rattle.requests.specs.Step.{step_with}
@@ -134,13 +132,13 @@ module _ (z : Shelf) (F : Family z) (first : Machine Sector) where
     mine = ⊎_elim (λ (f : Fair z s [] t.img0 × (plain s.kind ≡ true)). f.0.ours_now) (λ (q : (s.kind ≡ Idle) × (ours z s.now ≡ true)). q.1) t.tie.order.1
 
     -- their disks have not the state's label
-    not_ready : ready_of s.now s.kind s.absent img ≡ Done → ⊥
+    not_ready : ready_of s.now s.kind s.absent img ≡ Ok tt → ⊥
     not_ready e =
         let g : geometry_of s.now ≡ geometry z = shelf_geometry z s.now mine in
         let i : lost.one < s.now.k + s.now.m = subst (λ (x : Geometry). lost.one < x.n) (sym g) (t.behind.inner lost.one lost.is_one) in
         let y = ready_labels s.now s.kind s.absent img e (ap is_idle lost.rests) lost.one i (lost.present lost.one lost.is_one) in
         not_valid z (named s.now lost.one)
-        (sym (bare z img lost.one (λ o l. t.behind.blank lost.one o lost.is_one l)) ∙ subst (λ (x : Geometry). disk_label x img lost.one ≡ Valid (named s.now lost.one)) g y)
+        (sym (bare z img lost.one (λ o l. t.behind.blank lost.one o lost.is_one l)) ∙ subst (λ (x : Geometry). disk_label x img lost.one ≡ Some (named s.now lost.one)) g y)
 
     -- no step is taken
     pulled_step : (w' : World Sector) → Heard z w (step_with s img work).stepped.answer (step_with s img work).image w'
@@ -199,20 +197,20 @@ module _ (z : Shelf) (F : Family z) (first : Machine Sector) where
           })
 
     -- a read looks at none of them
-    pulled_read : (b : ℕ) (buf : List ℕ) → read_answer s.now s.kind s.absent b (length img) (length buf) (length work) ≡ Done → after_read Done s b img work buf ≡ strip_bytes (list_of p (b / z.k) (b % z.k)) z.c
+    pulled_read : (b : ℕ) (buf : List ℕ) → read_answer s.now s.kind s.absent b (length img) (length buf) (length work) ≡ Ok tt → after_read (Ok tt) s b img work buf ≡ strip_bytes (list_of p (b / z.k) (b % z.k)) z.c
     unfolding laid_by read
     pulled_read b buf ok = over img ∙ same_shown ∙ sym (over t.img0) ∙ told_read
       where
         lengths : length img ≡ length t.img0
         lengths = same_length z img t.img0 t.behind.disks t.tie.disks
 
-        ok0 : read_answer s.now s.kind s.absent b (length t.img0) (length buf) (length work) ≡ Done
+        ok0 : read_answer s.now s.kind s.absent b (length t.img0) (length buf) (length work) ≡ Ok tt
         ok0 = ap (λ (n : ℕ). read_answer s.now s.kind s.absent b n (length buf) (length work)) (sym lengths) ∙ ok
 
-        told_read : after_read Done s b t.img0 work buf ≡ strip_bytes (list_of p (b / z.k) (b % z.k)) z.c
+        told_read : after_read (Ok tt) s b t.img0 work buf ≡ strip_bytes (list_of p (b / z.k) (b % z.k)) z.c
         told_read = read_right z F first p t.w0 t.img0 s b work buf ok0 (inl t.tie)
 
-        over : (y : List ℕ) → after_read Done s b y work buf ≡ shown_of s.now s.absent 0 y work b
+        over : (y : List ℕ) → after_read (Ok tt) s b y work buf ≡ shown_of s.now s.absent 0 y work b
         over y = ap (λ (k : Kind). shown_of s.now s.absent (laid_by k s.cursor.stage s.marks.redo s.marks.stripe (b / s.now.k)) y work b) lost.rests
 
         ready : Reached z F first p t.w0 (idle (own_of z s s.now))
@@ -261,43 +259,43 @@ module _ (z : Shelf) (F : Family z) (first : Machine Sector) where
             ∙ sym (shown_read z t.img0 t.tie.disks s.now mine s.absent b work buf (read_done s.now s.kind s.absent b t.img0 work buf ok0) dark)
 
   -- what needs a ready shelf is refused
-  late_refused : (p : View Sector) (w : World Sector) (img : List ℕ) (s : State) (work : List ℕ) → Late z F first p w img (has s work) → is_idle s.kind ≡ true → ready_of s.now s.kind s.absent img ≡ Done → ⊥
+  late_refused : (p : View Sector) (w : World Sector) (img : List ℕ) (s : State) (work : List ℕ) → Late z F first p w img (has s work) → is_idle s.kind ≡ true → ready_of s.now s.kind s.absent img ≡ Ok tt → ⊥
   late_refused p w img s work t e r = ⊎_elim (λ (up : Starts z t.away s). late_busy z F first p w img s work t up e) (λ (lost : Pulled z t.away s). not_ready p w img s work t lost r) t.waits
 
   -- ---- EVERY CALL: those that are neither start-ups, steps nor cuts are refused meanwhile, and change nothing
 
   late_call : {a b : Time} (x : HostCalls z a b) → NotAnew x → Allowed z F (sets_call x) → (p : View Sector) → LateAt z F first p a → (q : View Sector) × Saw x p q × StandsAt z F first q b
   late_call (creates {w} {img} {h} s work) e ok p t =
-      (p, refl, subst (λ (o : Outcome). StandsAt z F first p (at w img (held h (begun o s (created z.k z.m z.c z.sectors z.number)) work))) (sym (create_late z.k z.m z.c z.sectors img (length work) e)) (inr t))
+      (p, refl, subst (λ (o : Outcome). StandsAt z F first p (at w img (held h (begun o (created z.k z.m z.c z.sectors z.number)) work))) (sym (create_late z.k z.m z.c z.sectors img (length work) e)) (inr t))
   late_call (creates_late {w} {img} {h} s k m c S number work e) u ok p t =
-      (p, refl, subst (λ (o : Outcome). StandsAt z F first p (at w img (held h (begun o s (created k m c S number)) work))) (sym (create_late k m c S img (length work) e)) (inr t))
+      (p, refl, subst (λ (o : Outcome). StandsAt z F first p (at w img (held h (begun o (created k m c S number)) work))) (sym (create_late k m c S img (length work) e)) (inr t))
   late_call (starts {w} {img} {h} s g absent work sits) u ok p t = (p, refl, late_start z F first p w img h t s absent work g sits ok)
   late_call (takes_out {w} {img} {s} {work} d) u ok p t = (p, refl, by (take_answer s.now s.kind s.absent img d (length work)) refl)
     where
-      by : (o : Outcome) → take_answer s.now s.kind s.absent img d (length work) ≡ o → StandsAt z F first p (at w img (held (has s work) (begun o s (took_out s d)) work))
-      by Done e = absurd (late_refused p w img s work t (take_done s.now s.kind s.absent img d (length work) e).1.at_rest (first_done (ready_of s.now s.kind s.absent img) _ e).0)
-      by (Refused why) e = inr t
+      by : (o : Outcome) → take_answer s.now s.kind s.absent img d (length work) ≡ o → StandsAt z F first p (at w img (held (has s work) (begun o (took_out s d)) work))
+      by (Ok tt) e = absurd (late_refused p w img s work t (take_done s.now s.kind s.absent img d (length work) e).1.at_rest (first_done (ready_of s.now s.kind s.absent img) _ e).0)
+      by (Err why) e = inr t
   late_call (begins {w} {img} {s} {work} d) u ok p t = (p, refl, by (begin_answer s.now s.kind s.absent img d (length work)) refl)
     where
-      by : (o : Outcome) → begin_answer s.now s.kind s.absent img d (length work) ≡ o → StandsAt z F first p (at w img (held (has s work) (begun o s (began s d img)) work))
-      by Done e = absurd (late_refused p w img s work t (begin_goes s.now s.kind s.absent img d (length work) e).at_rest (first_done (ready_of s.now s.kind s.absent img) _ e).0)
-      by (Refused why) e = inr t
+      by : (o : Outcome) → begin_answer s.now s.kind s.absent img d (length work) ≡ o → StandsAt z F first p (at w img (held (has s work) (begun o (began s d img)) work))
+      by (Ok tt) e = absurd (late_refused p w img s work t (begin_goes s.now s.kind s.absent img d (length work) e).at_rest (first_done (ready_of s.now s.kind s.absent img) _ e).0)
+      by (Err why) e = inr t
   late_call (ons {w} {img} {s} {work} b) u ok p t = (p, refl, by (on_answer s.now s.kind s.absent img (length work)) refl)
     where
-      by : (o : Outcome) → on_answer s.now s.kind s.absent img (length work) ≡ o → StandsAt z F first p (at w img (held (has s work) (begun o s (went_on s b img)) work))
-      by Done e = absurd (late_refused p w img s work t (on_rests s.now s.kind s.absent img (length work) e) (first_done (ready_of s.now s.kind s.absent img) _ e).0)
-      by (Refused why) e = inr t
+      by : (o : Outcome) → on_answer s.now s.kind s.absent img (length work) ≡ o → StandsAt z F first p (at w img (held (has s work) (begun o (went_on s b img)) work))
+      by (Ok tt) e = absurd (late_refused p w img s work t (on_rests s.now s.kind s.absent img (length work) e) (first_done (ready_of s.now s.kind s.absent img) _ e).0)
+      by (Err why) e = inr t
   late_call (writes {w} {img} {s} {work} b given s' then x y e) u ok p t = by (write_answer s.now s.kind s.absent s.count img b (length given) (length work)) refl e
     where
       by : (o : Outcome) → write_answer s.now s.kind s.absent s.count img b (length given) (length work) ≡ o → AfterWrite o s b given img work s' then
           → (q : View Sector) × SawAsked o (b / z.k) (b % z.k) (sectors_of z.c given) p q × StandsAt z F first q (at w img (has s' then))
-      by Done i a = absurd (late_refused p w img s work t (rest_of z F first p w img s work b given s' then x y i) (first_done (ready_of s.now s.kind s.absent img) _ i).0)
-      by (Refused why) i a = (p, refl, subst (λ (v : State). StandsAt z F first p (at w img (has v then))) (sym a.0) (subst (λ (v : List ℕ). StandsAt z F first p (at w img (has s v))) (sym a.1) (inr t)))
+      by (Ok tt) i a = absurd (late_refused p w img s work t (rest_of z F first p w img s work b given s' then x y i) (first_done (ready_of s.now s.kind s.absent img) _ i).0)
+      by (Err why) i a = (p, refl, subst (λ (v : State). StandsAt z F first p (at w img (has v then))) (sym a.0) (subst (λ (v : List ℕ). StandsAt z F first p (at w img (has s v))) (sym a.1) (inr t)))
   late_call (repairs {w} {img} {s} {work} i b then r) u ok p t = (p, refl, by (may_repair s.now s.kind s.absent s.count i img) refl)
     where
-      by : (o : Outcome) → may_repair s.now s.kind s.absent s.count i img ≡ o → StandsAt z F first p (at w img (has b.state then))
-      by Done e = absurd (late_refused p w img s work t (may_whole s img i e).at_rest (first_done (ready_of s.now s.kind s.absent img) _ e).0)
-      by (Refused why) e =
+      by : (o : Outcome) → may_repair s.now s.kind s.absent s.count i img ≡ o → StandsAt z F first p (at w img (has (state_of s b) then))
+      by (Ok tt) e = absurd (late_refused p w img s work t (may_whole s img i e).at_rest (first_done (ready_of s.now s.kind s.absent img) _ e).0)
+      by (Err why) e =
           let y = repair_refused s i img work b then r why (asked_refused s i img work b then r why e) in
           subst (λ (v : State). StandsAt z F first p (at w img (has v then))) (sym y.0) (subst (λ (v : List ℕ). StandsAt z F first p (at w img (has s v))) (sym y.1) (inr t))
   late_call (steps {w} {w'} {img} {s} {work} heard) u ok p t = ⊎_elim (λ (up : Starts z t.away s). late_step z F first p w img s work t up w' heard) (λ (lost : Pulled z t.away s). pulled_step p w img s work t lost w' heard) t.waits
@@ -338,7 +336,7 @@ module _ (z : Shelf) (F : Family z) (first : Machine Sector) where
             reads = reads;
             alike = λ e u i l q. let y = not_d e q in x.others e u i l y.0 ∙ b.alike e u i l y.1;
             blank = λ e o q l.
-                ⊎_elim (λ (y : e ≡ d). subst (λ (v : ℕ). copy_of (geometry z) left v o ≡ Nothing) (sym y) (x.blank o (omega (arith, l))))
+                ⊎_elim (λ (y : e ≡ d). subst (λ (v : ℕ). copy_of (geometry z) left v o ≡ None) (sym y) (x.blank o (omega (arith, l))))
                 (λ (y : (e ≢ d) × (A e ≡ true)). copy_alike z left img x.disks b.disks e o (b.inner e y.1) l (x.others e o (b.inner e y.1) (few_low z o l) y.0) ∙ b.blank e o y.1 l) (in_also d A e q);
           }
 

@@ -1,6 +1,6 @@
 -- THE REQUESTS OF THE CODE begin with states in order, beside which the protocol's program remembers that same request: create and
 -- taking a slot out; and a step of theirs is the program's. Assumes nothing.
-use Rattle.std.specs.Prelude.{◌≡◌, refl, Bool, not, ◌&&◌, List, [], eqb, length}
+use Rattle.std.specs.Prelude.{◌≡◌, refl, Bool, not, ◌&&◌, List, [], eqb, length, Ok}
 use Rattle.std.proofs.Common.{sym, ap, ap₂, subst, ◌∙◌, arith, eq-eqb}
 use Rattle.std.proofs.Math.Path.{fun_ext}
 use Rattle.std.proofs.Math.Bool.{true, false}
@@ -9,7 +9,6 @@ use Rattle.std.proofs.lemmas.Bool.{not-true}
 use Rattle.disk.specs.Image.{fits_image}
 use Rattle.disk.specs.Mask.{in_mask, in_past}
 use Rattle.disk.specs.declared.geometry.Geometry.{Geometry}
-use Rattle.disk.specs.declared.refusal.Outcome.TheVariants.{Done}
 use Rattle.label.specs.Fields.{geometry_of}
 use Rattle.protocol.specs.Program.{new_label, asked_create, asked_out}
 use Rattle.protocol.specs.Pairs.{no_sets}
@@ -37,6 +36,7 @@ use Rattle.refine.specs.Tied.{own_of, memory_of, plain, Tied}
 use Rattle.refine.proofs.Tied.{step_tied}
 use Rattle.refine.proofs.Asked.{create_asked, out_asked}
 use Rattle.refine.specs.Requests.{goes, slots_say, first_state, first_ours, l, n_is, out_ours, out_label}
+use Rattle.requests.specs.Begun.{outcome_of, state_of}
 
 module _ (z : Shelf) (img : List ℕ) (disks : Disks z img) where
   none_in : (d : ℕ) → in_mask 0 d ≡ false
@@ -49,11 +49,11 @@ module _ (z : Shelf) (img : List ℕ) (disks : Disks z img) where
   first_label = ap (λ (out : ℕ → Bool). record { generation = 1; out = out; rebuilding = slots z; mark = 0 }) (fun_ext none_in)
 
   -- CREATE, accepted on an image of this shelf
-  pub create_begins : (s : State) (room : ℕ) → (create_of s z.k z.m z.c z.sectors z.number img room).outcome ≡ Done
-      → Fair z (create_of s z.k z.m z.c z.sectors z.number img room).state [] img
-      × (memory_of z (create_of s z.k z.m z.c z.sectors z.number img room).state [] img ≡ asked_create (size z) (no_sets (slots z)) (labels z) (records z) (any_code z) stamps (any_sectors z))
+  pub create_begins : (s : State) (room : ℕ) → outcome_of (create_of z.k z.m z.c z.sectors z.number img room) ≡ Ok tt
+      → Fair z (state_of s (create_of z.k z.m z.c z.sectors z.number img room)) [] img
+      × (memory_of z (state_of s (create_of z.k z.m z.c z.sectors z.number img room)) [] img ≡ asked_create (size z) (no_sets (slots z)) (labels z) (records z) (any_code z) stamps (any_sectors z))
   create_begins s room e =
-      let t = (create_of s z.k z.m z.c z.sectors z.number img room).state in
+      let t = (state_of s (create_of z.k z.m z.c z.sectors z.number img room)) in
       let q = (goes (create_answer z.k z.m z.c z.sectors img room) s (first_state z img disks) e).1 in
       let h = subst Steps q (create_steps s z.k z.m z.c z.sectors z.number img room e) in
       subst (λ (x : State). Fair z x [] img × (memory_of z x [] img ≡ asked_create (size z) (no_sets (slots z)) (labels z) (records z) (any_code z) stamps (any_sectors z))) (sym q)
@@ -66,9 +66,9 @@ module _ (z : Shelf) (img : List ℕ) (disks : Disks z img) where
     rest_say e i = ap (λ (n : ℕ). in_mask (slots_but s.absent n) e) (n_is z img disks s own d) ∙ slots_say z s.absent e i
 
     -- TAKING SLOT d OUT, accepted in a state of this shelf
-    pub out_begins : (room : ℕ) → (take_out_of s d img room).outcome ≡ Done
-        → Fair z (take_out_of s d img room).state [] img
-        × (memory_of z (take_out_of s d img room).state [] img ≡ asked_out (size z) (no_sets (slots z)) (labels z) (records z) (any_code z) stamps (any_sectors z) (own_of z s s.now) d)
+    pub out_begins : (room : ℕ) → outcome_of (take_out_of s d img room) ≡ Ok tt
+        → Fair z (state_of s (take_out_of s d img room)) [] img
+        × (memory_of z (state_of s (take_out_of s d img room)) [] img ≡ asked_out (size z) (no_sets (slots z)) (labels z) (records z) (any_code z) stamps (any_sectors z) (own_of z s s.now) d)
     out_begins room e =
         let p = goes (take_answer (l z img disks s own d) s.kind s.absent img d room) s (took_out s d) e in
         let h = subst Steps p.1 (out_steps s d img room e) in

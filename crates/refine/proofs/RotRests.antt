@@ -3,7 +3,7 @@
 -- repair of the stripe, stepped to Done, ends with that list and with nothing of the stripe rotten. So it goes on, strip after strip and repair
 -- after repair; meanwhile every strip that is not rotten is what the list asks for, and blocks that are fine are read right, also while a repair
 -- is under way. Assumes nothing.
-use Rattle.std.specs.Prelude.{◌≡◌, ◌≢◌, Bool, ◌&&◌, List, [], ◌∷◌, ℕ, ◌-◌, ◌<◌, ◌/◌, ◌%◌, eqb, length}
+use Rattle.std.specs.Prelude.{◌≡◌, ◌≢◌, Bool, ◌&&◌, List, [], ◌∷◌, ℕ, ◌-◌, ◌<◌, ◌/◌, ◌%◌, eqb, length, Ok}
 use Rattle.std.proofs.Math.Path.{refl, sym, ap, fun_ext}
 use Rattle.std.proofs.Common.{subst, ◌∙◌, ⊎_elim, inl, inr}
 use Rattle.std.proofs.Math.Bool.{true, false, cond, not, false≢true}
@@ -11,7 +11,6 @@ use Rattle.std.proofs.Math.Dec.{ltb}
 use borrow.Author.Tests.{eq-eqb, eqb-true, ltb-true, lt-ltb}
 use Rattle.disk.specs.Geometry.{slot_of}
 use Rattle.disk.specs.Mask.{in_mask}
-use Rattle.disk.specs.declared.refusal.Outcome.TheVariants as outcome
 use Rattle.label.specs.Bytes.{all_zero}
 use Rattle.label.proofs.Counts.{same_says}
 use Rattle.redo.specs.Decide.{believed}
@@ -45,7 +44,7 @@ use Rattle.shards.proofs.CodeLaws.{code}
 use Rattle.shards.proofs.Promise.{sectors}
 use Rattle.shards.proofs.Even.{any_code, any_sectors}
 use Rattle.requests.specs.Ready.{is_idle}
-use Rattle.requests.specs.declared.begun.Begun.{Begun}
+use Rattle.requests.specs.Begun.{Begun, state_of}
 use Rattle.shelf.specs.Act.{Move}
 use Rattle.shelf.specs.Step.{finished, step_move}
 use Rattle.blocks.specs.Read.{laid_by, shown_of, read_answer, after_read, read_done}
@@ -81,6 +80,7 @@ use Rattle.refine.proofs.Serves.{served_bound}
 use Rattle.refine.specs.RepairRot.{RottenIn, follows, Stepping, last_step, then_on}
 use Rattle.refine.proofs.RepairRot.{repair_rot_begins, repair_rot_step, step_ways, comes_to_done, repair_mends}
 use Rattle.refine.specs.RotRests.{Decays, none_rotten, on_strip, rotted, FineBlock, SoFar, RestsRotten, but_stripe, Ages, no_step, one_step, none_yet, rots, mends}
+use Rattle.requests.specs.Begun.{outcome_of}
 
 module _ (z : Shelf) (d t : ℕ) where
   -- a sector of the strip is one
@@ -211,8 +211,8 @@ module _ (z : Shelf) (more : z.m < z.k) where
         ∙ Kept.sound (size z) (quorum z more) (labels z) (records z) (code z more) stamps (sectors z more) v c (own_of z s s.now) h.holds.holds (cleaned z.c rot c g) p d t j (believe_is z s.now d t ∙ b) l)
 
     -- A BLOCK THAT IS FINE IS READ RIGHT: a read that answers Done shows the list's entry
-    pub unrotten_reads : (b : ℕ) (work buf : List ℕ) → read_answer s.now s.kind s.absent b (length img) (length buf) (length work) ≡ outcome.Done → FineBlock z rot s b
-        → after_read outcome.Done s b img work buf ≡ strip_bytes (v (b / z.k) (b % z.k)) z.c
+    pub unrotten_reads : (b : ℕ) (work buf : List ℕ) → read_answer s.now s.kind s.absent b (length img) (length buf) (length work) ≡ Ok tt → FineBlock z rot s b
+        → after_read (Ok tt) s b img work buf ≡ strip_bytes (v (b / z.k) (b % z.k)) z.c
     unfolding program_by mask seen_of laid_by
     unrotten_reads b work buf ok fine =
         let shows = read_done s.now s.kind s.absent b img work buf ok in
@@ -226,8 +226,8 @@ module _ (z : Shelf) (more : z.m < z.k) where
 
   -- also while a repair is under way
   module _ (wr : Write Sector) (s : State) (work img : List ℕ) (h : Writes z s work wr) (fair : Fair z s work img) (rot : Rot) (w : World Sector) (reads : w.cur ≡ cur_of z img) (v : Host Sector) (inv : RottenIn z more rot w (memory_with z wr s work img) (sure v)) where
-    mending_reads : (b : ℕ) (buf : List ℕ) → read_answer s.now s.kind s.absent b (length img) (length buf) (length work) ≡ outcome.Done → FineBlock z rot s b
-        → after_read outcome.Done s b img work buf ≡ strip_bytes (v (b / z.k) (b % z.k)) z.c
+    mending_reads : (b : ℕ) (buf : List ℕ) → read_answer s.now s.kind s.absent b (length img) (length buf) (length work) ≡ Ok tt → FineBlock z rot s b
+        → after_read (Ok tt) s b img work buf ≡ strip_bytes (v (b / z.k) (b % z.k)) z.c
     unfolding write_memory
     mending_reads b buf ok fine =
         let l = left_of z work (cur_of z img) (2 - s.cursor.stage) s in
@@ -269,22 +269,22 @@ module _ (z : Shelf) (more : z.m < z.k) where
   -- ---- A REPAIR FROM REST TO REST
 
   module _ (rot : Rot) (w : World Sector) (img : List ℕ) (s : State) (v : Host Sector) (h : (RestsRotten z more) rot w img s v) (t : ℕ) (work : List ℕ) (b : Begun) (then : List ℕ) (small : Bytes then)
-      (r : Repairs s t img work b then) (ok : b.outcome ≡ outcome.Done) where
+      (r : Repairs s t img work b then) (ok : outcome_of b ≡ Ok tt) where
     -- its steps come to Done
-    pub repair_comes_to_done : (s' : State) × (img' : List ℕ) × Stepping then b.state img s' img'
-    repair_comes_to_done = comes_to_done z then (to_do z b.state then img) b.state img (repair_goes z img h.disks s h.own t work b then small r ok).0 refl
+    pub repair_comes_to_done : (s' : State) × (img' : List ℕ) × Stepping then (state_of s b) img s' img'
+    repair_comes_to_done = comes_to_done z then (to_do z (state_of s b) then img) (state_of s b) img (repair_goes z img h.disks s h.own t work b then small r ok).0 refl
 
     -- AT EVERY MOMENT UNTIL THEN a block that is fine is read right
-    pub repair_reads : {s' : State} {img' : List ℕ} → SoFar then b.state img s' img' → (n : ℕ) (buf : List ℕ) → read_answer s'.now s'.kind s'.absent n (length img') (length buf) (length then) ≡ outcome.Done → FineBlock z rot s' n
-        → after_read outcome.Done s' n img' then buf ≡ strip_bytes (v (n / z.k) (n % z.k)) z.c
+    pub repair_reads : {s' : State} {img' : List ℕ} → SoFar then (state_of s b) img s' img' → (n : ℕ) (buf : List ℕ) → read_answer s'.now s'.kind s'.absent n (length img') (length buf) (length then) ≡ Ok tt → FineBlock z rot s' n
+        → after_read (Ok tt) s' n img' then buf ≡ strip_bytes (v (n / z.k) (n % z.k)) z.c
     repair_reads {s'} {img'} a n buf done fine =
         let W = repair_asked z (seen_of z (beyond (slots z) (in_mask s.absent)) img) t in
         let g = repair_goes z img h.disks s h.own t work b then small r ok in
-        let y = steps_keep W then b.state img g.1 g.0 rot w h.reads v (repair_rot_begins z more img h.disks s h.own t work b then small r ok rot w h.reads v h.holds) a in
+        let y = steps_keep W then (state_of s b) img g.1 g.0 rot w h.reads v (repair_rot_begins z more img h.disks s h.own t work b then small r ok rot w h.reads v h.holds) a in
         mending_reads W s' then img' y.2 y.3 rot y.0 y.1 v y.4 n buf done fine
 
     -- AND THEN THE SHELF RESTS AGAIN, with the same list under the same label; nothing of the stripe is rotten, and nothing else has rotted
-    pub repair_rests : {s' : State} {img' : List ℕ} → Stepping then b.state img s' img'
+    pub repair_rests : {s' : State} {img' : List ℕ} → Stepping then (state_of s b) img s' img'
         → (rot' : Rot) × (w' : World Sector) × (RestsRotten z more) rot' w' img' s' v × (s'.now ≡ s.now) × ((d : ℕ) → rot' d t ≡ false) × ((d u : ℕ) → rot' d u ≡ true → rot d u ≡ true)
     repair_rests steps =
         let f = repair_mends z more img h.disks s h.own t work b then small r ok steps rot w h.reads v h.holds in
@@ -414,8 +414,8 @@ module _ (z : Shelf) (more : z.m < z.k) where
           (y.0, y.1, g.0, g.1, g.2)
 
       -- ONE STRIP ROTS, AND ITS STRIPE IS REPAIRED: the shelf rests again, with the same list under the same label, and nothing is rotten any more
-      pub rots_then_mends : (d t : ℕ) (left : List ℕ) → Decays z d t img left → (room : List ℕ) (b : Begun) (then : List ℕ) → Bytes then → Repairs s t left room b then → b.outcome ≡ outcome.Done
-          → {s' : State} {left' : List ℕ} → Stepping then b.state left s' left'
+      pub rots_then_mends : (d t : ℕ) (left : List ℕ) → Decays z d t img left → (room : List ℕ) (b : Begun) (then : List ℕ) → Bytes then → Repairs s t left room b then → outcome_of b ≡ Ok tt
+          → {s' : State} {left' : List ℕ} → Stepping then (state_of s b) left s' left'
           → (v : Host Sector) × Served c (sure blocks) (sure v) × (w' : World Sector) × (RestsRotten z more) none_rotten w' left' s' v × (s'.now ≡ s.now)
       rots_then_mends d t left x room b then small r ok {s'} {left'} steps =
           let y = calls_then_ages (mends (rots none_yet d t left x (λ e q. absurd (false≢true q))) t room b then small r ok steps) in

@@ -3,7 +3,7 @@
 use Rattle.std.proofs.Math.Path.{◌≡◌, refl, sym, ap, ap₂, fun_ext}
 use Rattle.std.proofs.Common.{◌∙◌, eqb-true, le-ltb}
 use Rattle.std.proofs.Math.Logic.{⊎_elim}
-use Rattle.std.specs.Prelude.{Bool, ◌&&◌, ◌||◌, List, [], ◌∷◌}
+use Rattle.std.specs.Prelude.{Bool, ◌&&◌, ◌||◌, List, [], ◌∷◌, Some, None}
 use Rattle.std.proofs.Math.Bool.{true, false, cond, not}
 use Prim.Native.Nat.{ℕ, suc, ◌+◌, ◌≤◌, ◌<◌, ◌%◌}
 use native.Mathlib.Omega.{arith}
@@ -16,14 +16,12 @@ use Rattle.disk.specs.Mask.{in_mask, mask_lt, mask_below, mask_past, in_past}
 use Rattle.label.specs.Fields.{no_slot, most_generation}
 use Rattle.label.specs.Newest.{copy_of, disk_label, present_label, same_shelf}
 use Rattle.label.specs.declared.fields.Label as bytes
-use Rattle.label.specs.declared.codec.Decoded.{Decoded}
-use Rattle.label.specs.declared.codec.Decoded.TheVariants.{Valid, Nothing}
+use Rattle.label.specs.Fields.{Decoded}
 use Rattle.label.proofs.Fits.{fits_says}
 use Rattle.label.proofs.Counts.{SameShelf, same_says, agreed_says}
-use Rattle.rounds.specs.Slot.{age_of, age_under, plainly_out, calls_out, goes_out, adopts, copy_age, wiped, gets_zeros, gets_label, asked}
+use Rattle.rounds.specs.Slot.{age_of, age_under, plainly_out, calls_out, goes_out, adopts, copy_age, wiped, gets_zeros, gets_label, takes_part}
 use Rattle.rounds.specs.Slot as Slot
 use Rattle.rounds.specs.Survey.{slots_that, next_of}
-use Rattle.rounds.specs.declared.slot.Question.TheVariants.{Out, Parts, Late, Zeroed, Kept}
 use Rattle.protocol.specs.World.{label}
 use Rattle.protocol.specs.Label.{Label, again, plainly_out as plainly_out', copy, prep_value}
 use Rattle.protocol.specs.Label as Label
@@ -64,7 +62,7 @@ module _ (z : Shelf) (img : List ℕ) (absent : ℕ) (A : ℕ → Bool) (l : byt
       let p2 = M_is z img absent A l led in
       let p3 = newest_of_lem z img absent A l led d a h e s.is in
       let p4 = L_is z img absent A l led in
-      let there : present_label (geometry z) img absent d ≡ Valid a = ap (λ (b : Bool). cond b Nothing (disk_label (geometry z) img d)) e ∙ s.is in
+      let there : present_label (geometry z) img absent d ≡ Some a = ap (λ (b : Bool). cond b None (disk_label (geometry z) img d)) e ∙ s.is in
       (λ i. Startup.behind (p1 i) (p2 i) || Startup.disowned (p3 i) (p4 i) d)
       ∙ ap₂ (λ (x y : Bool). ltb (suc a.generation) l.generation || (x && not y)) (plainly_same a d h) (plainly_same l d h)
       ∙ ap (λ (x : ℕ). ltb x l.generation || (plainly_out a d && not (plainly_out l d))) (let q : suc a.generation ≡ a.generation + 1 = omega arith in q)
@@ -96,7 +94,7 @@ module _ (z : Shelf) (img : List ℕ) (absent : ℕ) (A : ℕ → Bool) (l : byt
       in_past (l.k + l.m) l.out d f.out_below (omega (arith, same.same_k, same.same_m))
 
   -- Out', as the protocol says it, and as a mask
-  out_is : (d : ℕ) → (in_mask l.out d || (gone_of z img absent A l led) d) ≡ in_mask (slots_that (geometry z) img absent Out l) d
+  out_is : (d : ℕ) → (in_mask l.out d || (gone_of z img absent A l led) d) ≡ in_mask (slots_that (geometry z) img absent goes_out l) d
   unfolding slots_that goes_out
   out_is d =
       ap (λ (b : Bool). in_mask l.out d || b) (gone_is d)
@@ -118,7 +116,7 @@ module _ (z : Shelf) (img : List ℕ) (absent : ℕ) (A : ℕ → Bool) (l : byt
       let n = slots z in
       let r = l.rebuilding in
       let gen : suc (suc (M (size z) (labels z) A (f0 z img absent A l led))) ≡ l.generation + 2 = omega (arith, M_is z img absent A l led) in
-      let o : ◌≡◌ {A = ℕ → Bool} (λ d. in_mask l.out d || (gone_of z img absent A l led) d) (in_mask (slots_that (geometry z) img absent Out l)) = fun_ext out_is in
+      let o : ◌≡◌ {A = ℕ → Bool} (λ d. in_mask l.out d || (gone_of z img absent A l led) d) (in_mask (slots_that (geometry z) img absent goes_out l)) = fun_ext out_is in
       let s : cond ((gone_of z img absent A l led) (slot_meant n r)) n (slot_meant n r) ≡ slot_meant n (cond (Slot.gone (geometry z) img absent l r) no_slot r) =
       ap (λ (b : Bool). cond b n (slot_meant n r)) gone_slot ∙ ended (Slot.gone (geometry z) img absent l r) in
       let m : cond ((gone_of z img absent A l led) (slot_meant n r)) 0 l.mark ≡ cond (Slot.gone (geometry z) img absent l r) 0 l.mark = ap (λ (b : Bool). cond b 0 l.mark) gone_slot in
@@ -129,26 +127,26 @@ module _ (z : Shelf) (img : List ℕ) (absent : ℕ) (A : ℕ → Bool) (l : byt
       ended true = refl
       ended false = refl
 
-  pub left_out_is : (d : ℕ) → (left_out z img absent A l led) d ≡ in_mask (slots_that (geometry z) img absent Out l) d
+  pub left_out_is : (d : ℕ) → (left_out z img absent A l led) d ≡ in_mask (slots_that (geometry z) img absent goes_out l) d
   unfolding left_out'
   left_out_is d = ap (λ (x : Label). x.out d || (gone_of z img absent A l led) d) (L_is z img absent A l led) ∙ out_is d
 
-  pub few_is : few_of z (left_out z img absent A l led) ≡ leb (ones (slots_that (geometry z) img absent Out l)) l.m
+  pub few_is : few_of z (left_out z img absent A l led) ≡ leb (ones (slots_that (geometry z) img absent goes_out l)) l.m
   unfolding slots_that
   few_is =
       ap (few_of z) (fun_ext left_out_is)
-      ∙ few_mask z (slots_that (geometry z) img absent Out l) (mask_lt (goes_out (geometry z) img absent l) (slots z))
-      ∙ ap (leb (ones (slots_that (geometry z) img absent Out l))) same.same_m
+      ∙ few_mask z (slots_that (geometry z) img absent goes_out l) (mask_lt (goes_out (geometry z) img absent l) (slots z))
+      ∙ ap (leb (ones (slots_that (geometry z) img absent goes_out l))) same.same_m
 
   -- ---- who takes part, and who adopts
 
-  pub parts_is : (d : ℕ) → d < slots z → in_mask (slots_that (geometry z) img absent Parts l) d ≡ not ((gone_of z img absent A l led) d)
+  pub parts_is : (d : ℕ) → d < slots z → in_mask (slots_that (geometry z) img absent takes_part l) d ≡ not ((gone_of z img absent A l led) d)
   unfolding slots_that
-  parts_is d h = mask_below (asked Parts (geometry z) img absent l) (slots z) d h ∙ ap not (sym (gone_is d))
+  parts_is d h = mask_below (takes_part (geometry z) img absent l) (slots z) d h ∙ ap not (sym (gone_is d))
 
-  pub late_is : (d : ℕ) → d < slots z → in_mask (slots_that (geometry z) img absent Late l) d ≡ (not (A d) && Startup.stale (size z) (labels z) A (f0 z img absent A l led) d)
+  pub late_is : (d : ℕ) → d < slots z → in_mask (slots_that (geometry z) img absent adopts l) d ≡ (not (A d) && Startup.stale (size z) (labels z) A (f0 z img absent A l led) d)
   unfolding slots_that adopts
-  late_is d h = mask_below (asked Late (geometry z) img absent l) (slots z) d h ∙ sym (by (in_mask absent d) refl)
+  late_is d h = mask_below (adopts (geometry z) img absent l) (slots z) d h ∙ sym (by (in_mask absent d) refl)
     where
       by : (b : Bool) → in_mask absent d ≡ b → (not (A d) && Startup.stale (size z) (labels z) A (f0 z img absent A l led) d) ≡ (not (in_mask absent d) && Slot.stale (geometry z) img absent l d)
       by true e = ap (λ (b : Bool). not b && Startup.stale (size z) (labels z) A (f0 z img absent A l led) d) (led.are d h ∙ e) ∙ sym (ap (λ (b : Bool). not b && Slot.stale (geometry z) img absent l d) e)
@@ -164,8 +162,8 @@ module _ (z : Shelf) (img : List ℕ) (absent : ℕ) (A : ℕ → Bool) (l : byt
       && (eqb (same.same_c i) b.c && (eqb (same.same_sectors i) b.sectors && eqb (same.same_number i) b.shelf)))
 
   age_same : (x : Decoded) → (meant z x).generation ≡ age_under l x
-  age_same Nothing = refl
-  age_same (Valid b) = ap (λ (t : Bool). (cond t (label_of z b) (no_label z)).generation) (ours_lead b) ∙ go (same_shelf l b)
+  age_same None = refl
+  age_same (Some b) = ap (λ (t : Bool). (cond t (label_of z b) (no_label z)).generation) (ours_lead b) ∙ go (same_shelf l b)
     where
       go : (t : Bool) → (cond t (label_of z b) (no_label z)).generation ≡ cond t b.generation 0
       go true = refl
@@ -206,35 +204,35 @@ module _ (z : Shelf) (img : List ℕ) (absent : ℕ) (A : ℕ → Bool) (l : byt
 
   -- of those that adopt, these get zeros; and these the new content
   pub zeroed_is : (d : ℕ) → d < slots z
-      → in_mask (slots_that (geometry z) img absent Zeroed l) d ≡ (in_mask (slots_that (geometry z) img absent Late l) d && (not (Label.prepared (labels z) (f0 z img absent A l led) (after z img absent A l led) d) && (may_wipe z img absent A l led) d))
+      → in_mask (slots_that (geometry z) img absent gets_zeros l) d ≡ (in_mask (slots_that (geometry z) img absent adopts l) d && (not (Label.prepared (labels z) (f0 z img absent A l led) (after z img absent A l led) d) && (may_wipe z img absent A l led) d))
   unfolding slots_that gets_zeros
   zeroed_is d h =
-      mask_below (asked Zeroed (geometry z) img absent l) (slots z) d h
+      mask_below (gets_zeros (geometry z) img absent l) (slots z) d h
       ∙ given d h (λ (p w : Bool). not p && w)
-      ∙ ap (λ (b : Bool). b && (not (Label.prepared (labels z) (f0 z img absent A l led) (after z img absent A l led) d) && (may_wipe z img absent A l led) d)) (sym (mask_below (asked Late (geometry z) img absent l) (slots z) d h))
+      ∙ ap (λ (b : Bool). b && (not (Label.prepared (labels z) (f0 z img absent A l led) (after z img absent A l led) d) && (may_wipe z img absent A l led) d)) (sym (mask_below (adopts (geometry z) img absent l) (slots z) d h))
 
   pub kept_is : (d : ℕ) → d < slots z
-      → in_mask (slots_that (geometry z) img absent Kept l) d ≡ (in_mask (slots_that (geometry z) img absent Late l) d && (not (Label.prepared (labels z) (f0 z img absent A l led) (after z img absent A l led) d) && not ((may_wipe z img absent A l led) d)))
+      → in_mask (slots_that (geometry z) img absent gets_label l) d ≡ (in_mask (slots_that (geometry z) img absent adopts l) d && (not (Label.prepared (labels z) (f0 z img absent A l led) (after z img absent A l led) d) && not ((may_wipe z img absent A l led) d)))
   unfolding slots_that gets_label
   kept_is d h =
-      mask_below (asked Kept (geometry z) img absent l) (slots z) d h
+      mask_below (gets_label (geometry z) img absent l) (slots z) d h
       ∙ given d h (λ (p w : Bool). not p && not w)
-      ∙ ap (λ (b : Bool). b && (not (Label.prepared (labels z) (f0 z img absent A l led) (after z img absent A l led) d) && not ((may_wipe z img absent A l led) d))) (sym (mask_below (asked Late (geometry z) img absent l) (slots z) d h))
+      ∙ ap (λ (b : Bool). b && (not (Label.prepared (labels z) (f0 z img absent A l led) (after z img absent A l led) d) && not ((may_wipe z img absent A l led) d))) (sym (mask_below (adopts (geometry z) img absent l) (slots z) d h))
 
   -- what they get, in the protocol's words; `new` is the settled label
   module _ (new : Label) (d : ℕ) (h : d < slots z) where
-    pub zeroed_value : in_mask (slots_that (geometry z) img absent Zeroed l) d ≡ true → prep_value (labels z) (f0 z img absent A l led) (after z img absent A l led) new (label d (side_of (after z img absent A l led))) ≡ zeros
+    pub zeroed_value : in_mask (slots_that (geometry z) img absent gets_zeros l) d ≡ true → prep_value (labels z) (f0 z img absent A l led) (after z img absent A l led) new (label d (side_of (after z img absent A l led))) ≡ zeros
     zeroed_value e =
-        let w = and_right (not (Label.prepared (labels z) (f0 z img absent A l led) (after z img absent A l led) d)) ((may_wipe z img absent A l led) d) (and_right (in_mask (slots_that (geometry z) img absent Late l) d) _ (sym (zeroed_is d h) ∙ e)) in
+        let w = and_right (not (Label.prepared (labels z) (f0 z img absent A l led) (after z img absent A l led) d)) ((may_wipe z img absent A l led) d) (and_right (in_mask (slots_that (geometry z) img absent adopts l) d) _ (sym (zeroed_is d h) ∙ e)) in
         ap (λ (b : Bool). cond b zeros (encode_label z d (again new (after z img absent A l led)))) w
 
-    pub kept_value : in_mask (slots_that (geometry z) img absent Kept l) d ≡ true → prep_value (labels z) (f0 z img absent A l led) (after z img absent A l led) new (label d (side_of (after z img absent A l led))) ≡ encode_label z d (again new (after z img absent A l led))
+    pub kept_value : in_mask (slots_that (geometry z) img absent gets_label l) d ≡ true → prep_value (labels z) (f0 z img absent A l led) (after z img absent A l led) new (label d (side_of (after z img absent A l led))) ≡ encode_label z d (again new (after z img absent A l led))
     kept_value e =
-        let w = and_right (not (Label.prepared (labels z) (f0 z img absent A l led) (after z img absent A l led) d)) (not ((may_wipe z img absent A l led) d)) (and_right (in_mask (slots_that (geometry z) img absent Late l) d) _ (sym (kept_is d h) ∙ e)) in
+        let w = and_right (not (Label.prepared (labels z) (f0 z img absent A l led) (after z img absent A l led) d)) (not ((may_wipe z img absent A l led) d)) (and_right (in_mask (slots_that (geometry z) img absent adopts l) d) _ (sym (kept_is d h) ∙ e)) in
         ap (λ (b : Bool). cond b zeros (encode_label z d (again new (after z img absent A l led)))) (not-true ((may_wipe z img absent A l led) d) w)
 
   pub start_is : may_start_by (size z) (no_sets (slots z)) (labels z) (records z) (any_code z) stamps (any_sectors z) (few_of z) A (f0 z img absent A l led)
-      ≡ (verdict z img absent A l led) (leb (ones (slots_that (geometry z) img absent Out l)) l.m) (leb (l.generation + 2) most_generation)
+      ≡ (verdict z img absent A l led) (leb (ones (slots_that (geometry z) img absent goes_out l)) l.m) (leb (l.generation + 2) most_generation)
   unfolding any_sectors medium
   start_is =
       let p = labelled_is z img absent A l led in
@@ -243,7 +241,7 @@ module _ (z : Shelf) (img : List ℕ) (absent : ℕ) (A : ℕ → Bool) (l : byt
       λ i. first (record { why = NO_LABEL; holds = not (p i) } ∷ record { why = TOO_FEW; holds = not (q i) } ∷ record { why = NOT_NOW; holds = not (r i) } ∷ [])
 
   -- START-UP MAY GO ON IN A FAMILY in which the slots lie that go out
-  pub start_in : (F : Family z) → F.sets.few (in_mask (slots_that (geometry z) img absent Out l)) ≡ true → leb (l.generation + 2) most_generation ≡ true
+  pub start_in : (F : Family z) → F.sets.few (in_mask (slots_that (geometry z) img absent goes_out l)) ≡ true → leb (l.generation + 2) most_generation ≡ true
       → may_start (size z) F.sets (labels z) (records z) (code_in z F) stamps (sectors_in z F) A (f0 z img absent A l led) ≡ clear
   unfolding any_sectors medium left_out'
   start_in F few left =

@@ -3,12 +3,11 @@
 -- repair is refused, since it finds nothing to mend. For every shelf, where any two of the sets of slots that the chain leaves out from
 -- one moment of rest to the next leave a slot out in common (`AnyTwoSince`); for k > m nothing is asked. And what the list's entries are:
 -- those of a write that is acknowledged are the bytes given, all others stay. Assumes nothing.
-use Rattle.std.specs.Prelude.{◌≡◌, List, ℕ, ◌<◌}
+use Rattle.std.specs.Prelude.{◌≡◌, List, ℕ, ◌<◌, Err}
 use Rattle.std.proofs.Math.Path.{refl}
 use Rattle.std.proofs.Common.{subst}
 use Rattle.std.proofs.Math.Bool.{true}
 use Rattle.disk.specs.declared.refusal.Refusal.{Refusal}
-use Rattle.disk.specs.declared.refusal.Outcome.TheVariants.{Refused}
 use Rattle.label.specs.Bytes.{all_zero}
 use Rattle.protocol.specs.World.{World, after}
 use Rattle.protocol.specs.Host.{Host}
@@ -18,7 +17,7 @@ use Rattle.codecs.specs.Sector.{Sector}
 use Rattle.codecs.specs.Shelf.{Shelf, slots}
 use Rattle.stages.specs.declared.state.State.{State}
 use Rattle.stages.specs.declared.state.Kind.TheVariants.{Idle}
-use Rattle.requests.specs.declared.begun.Begun.{Begun}
+use Rattle.requests.specs.Begun.{Begun, state_of}
 use Rattle.blocks.specs.Repair.{Repairs}
 use Rattle.refine.specs.Family.{Family, every_few, parts_few}
 use Rattle.refine.specs.Disks.{Disks, cur_of}
@@ -32,6 +31,7 @@ use Rattle.refine.proofs.Since.{one_suits, since_suits, some_family}
 use Rattle.refine.proofs.Since as Since
 use Rattle.refine.proofs.ReadsLaws.{read_right}
 use Rattle.refine.specs.Serves.{ReadsAs, Served}
+use Rattle.requests.specs.Begun.{outcome_of}
 
 module _ (z : Shelf) (F : Family z) (first : Machine Sector) where
   reads_as : (t : Time) (p : View Sector) → BoundAt z F first p t → ReadsAs z t p
@@ -86,17 +86,17 @@ module _ (z : Shelf) (img : List ℕ) (disks : Disks z img) (blank : all_zero im
 
   -- A REPAIR IS REFUSED at every moment, since it finds nothing to mend, and changes nothing
   repair_bound : (F : Family z) (p : View Sector) (w : World Sector) (left : List ℕ) (s : State) (work : List ℕ) → Bound z F (fresh z img disks blank) p w left (has s work)
-      → (t : ℕ) (b : Begun) (then : List ℕ) → Repairs s t left work b then → ((why : Refusal) × (b.outcome ≡ Refused why)) × (b.state ≡ s) × (then ≡ work)
+      → (t : ℕ) (b : Begun) (then : List ℕ) → Repairs s t left work b then → ((why : Refusal) × (outcome_of b ≡ Err why)) × (state_of s b ≡ s) × (then ≡ work)
   repair_bound F p w left s work h t b then r =
       let same = repair_changes_nothing z F (fresh z img disks blank) p w left s work t b then r h in
       (repair_refused_there z F (fresh z img disks blank) p w left s work t b then r h, same.0, same.1)
 
   -- for every shelf
   pub any_repair_refused : {w : World Sector} {left : List ℕ} {s : State} {work : List ℕ} (c : HostChain z (at (after (cur_of z img)) img none) (at w left (has s work))) → AnyTwoSince c
-      → (t : ℕ) (b : Begun) (then : List ℕ) → Repairs s t left work b then → ((why : Refusal) × (b.outcome ≡ Refused why)) × (b.state ≡ s) × (then ≡ work)
+      → (t : ℕ) (b : Begun) (then : List ℕ) → Repairs s t left work b then → ((why : Refusal) × (outcome_of b ≡ Err why)) × (state_of s b ≡ s) × (then ≡ work)
   any_repair_refused {w} {left} {s} {work} c two = let y = bound_since c two in repair_bound y.0 y.1 w left s work y.3
 
   -- for k > m
   pub repairs_refused : z.m < z.k → {w : World Sector} {left : List ℕ} {s : State} {work : List ℕ} (c : HostChain z (at (after (cur_of z img)) img none) (at w left (has s work)))
-      → (t : ℕ) (b : Begun) (then : List ℕ) → Repairs s t left work b then → ((why : Refusal) × (b.outcome ≡ Refused why)) × (b.state ≡ s) × (then ≡ work)
+      → (t : ℕ) (b : Begun) (then : List ℕ) → Repairs s t left work b then → ((why : Refusal) × (outcome_of b ≡ Err why)) × (state_of s b ≡ s) × (then ≡ work)
   repairs_refused more {w} {left} {s} {work} c = let y = served_bound (every_few z more) c (λ s m e. e) in repair_bound (every_few z more) y.0 w left s work y.2

@@ -11,8 +11,8 @@ use Rattle.disk.specs.Mask.{in_mask}
 use Rattle.label.specs.declared.fields.Label as bytes
 use Rattle.redo.specs.Decide.{looked, redo_of}
 use Rattle.redo.specs.declared.Redo.TheVariants.{Forward, Kill}
+use Rattle.rounds.specs.Slot.{gets_label}
 use Rattle.rounds.specs.Survey.{slots_that, next_of}
-use Rattle.rounds.specs.declared.slot.Question.TheVariants.{Kept}
 use Rattle.protocol.specs.World.{Place, label, log, strip, slot, Action, put}
 use Rattle.protocol.specs.Batch.{puts, flushes, actions}
 use Rattle.protocol.specs.Slots.{from, keep, slots, rows, of_rows, of_slots}
@@ -70,7 +70,7 @@ module _ (z : Shelf) (img : List ℕ) (absent : ℕ) (A : ℕ → Bool) (l : byt
     where
       by : (b : Bool) → (zeroed_in z img absent A l led) d ≡ b → prep_value (labels z) (f0 z img absent A l led) (after z img absent A l led) new (label d (side_of (after z img absent A l led))) ≡ cond b zeros (encode_label z d (again new (after z img absent A l led)))
       by true q = zeroed_value z img absent A l led new d h q
-      by false q = kept_value z img absent A l led new d h (sym (ap (λ (b : Bool). b || in_mask (slots_that (geometry z) img absent Kept l) d) q) ∙ e)
+      by false q = kept_value z img absent A l led new d h (sym (ap (λ (b : Bool). b || in_mask (slots_that (geometry z) img absent gets_label l) d) q) ∙ e)
 
   prep_giving : (new : Label) → prep (labels z) (f0 z img absent A l led) (after z img absent A l led) new (Startup.late (size z) (labels z) A (f0 z img absent A l led)) ≡ giving z (prep_in z img absent A l led) (zeroed_in z img absent A l led) (again new (after z img absent A l led))
   unfolding slots

@@ -1,6 +1,6 @@
 -- START-UP, as the code begins it: by the plan of the survey and the decision about the log it begins with a state in order,
 -- beside which the protocol's program remembers that same start-up. Assumes nothing.
-use Rattle.std.specs.Prelude.{◌≡◌, Bool, cond, ◌&&◌, ◌||◌, List, [], ℕ, suc, ◌+◌, ◌≤◌, ◌<◌}
+use Rattle.std.specs.Prelude.{◌≡◌, Bool, cond, ◌&&◌, ◌||◌, List, [], ℕ, suc, ◌+◌, ◌≤◌, ◌<◌, Ok, Err}
 use Rattle.std.proofs.Math.Path.{refl, sym, ap, ap₂}
 use Rattle.std.proofs.Common.{subst, ◌∙◌, inl, inr, arith, lt-ltb}
 use Rattle.std.proofs.Math.Bool.{true, false, not}
@@ -9,7 +9,6 @@ use Rattle.disk.specs.Tests.{and_left, and_right, both}
 use Rattle.disk.specs.Mask.{in_mask, in_past}
 use Rattle.disk.specs.declared.geometry.Geometry.{Geometry}
 use Rattle.disk.specs.declared.refusal.Refusal.TheVariants.{BadBuffer}
-use Rattle.disk.specs.declared.refusal.Outcome.TheVariants.{Done}
 use Rattle.label.specs.Fields.{most_generation, fits_of}
 use Rattle.label.specs.Newest.{same_shelf}
 use Rattle.label.specs.declared.fields.Label as bytes
@@ -17,12 +16,11 @@ use Rattle.label.proofs.Fits.{fits_says}
 use Rattle.redo.specs.Decide.{redo_of}
 use Rattle.redo.specs.declared.Redo.{Redo}
 use Rattle.redo.specs.declared.Redo.TheVariants as redo
+use Rattle.rounds.specs.Slot as Slot
 use Rattle.rounds.specs.Survey.{slots_that, next_of, plan_of, survey_of}
 use Rattle.rounds.specs.Plans.{Sound}
-use Rattle.rounds.specs.declared.slot.Question.TheVariants.{Late, Zeroed}
 use Rattle.rounds.specs.declared.plan.Plan.{Plan}
-use Rattle.rounds.specs.declared.plan.Survey.{Survey}
-use Rattle.rounds.specs.declared.plan.Survey.TheVariants as survey
+use Rattle.rounds.specs.Survey.{Survey}
 use Rattle.rounds.proofs.Plans.{survey_grounds, plan_sound}
 use Rattle.protocol.specs.World.{log}
 use Rattle.protocol.specs.Label.{Label, belief, prepared}
@@ -38,9 +36,9 @@ use Rattle.shards.proofs.Even.{any_code, any_sectors}
 use Rattle.shelf.specs.Step.{sound}
 use Rattle.stages.specs.declared.state.State.{State}
 use Rattle.stages.specs.declared.state.Kind.TheVariants.{Starting}
-use Rattle.requests.specs.Begun.{slots_but, work_bytes, accepted, refused}
+use Rattle.requests.specs.Begun.{slots_but, work_bytes}
 use Rattle.requests.specs.Start.{marks_by, started, by_survey, start_of}
-use Rattle.requests.specs.declared.begun.Begun.{Begun}
+use Rattle.requests.specs.Begun.{Begun}
 use Rattle.refine.specs.Disks.{cur_of}
 use Rattle.refine.specs.Labels.{Led}
 use Rattle.refine.proofs.Labels.{L_is}
@@ -58,6 +56,7 @@ use Rattle.refine.specs.Tied.{memory_of}
 use Rattle.refine.proofs.Asked.{start_asked}
 use Rattle.refine.specs.Requests.{slots_say}
 use Rattle.refine.specs.StartBegins.{A, p, new, begins}
+use Rattle.requests.specs.Begun.{outcome_of, state_of}
 
 -- those that get zeros, and those that get the label: all that are not prepared
 cover : (a b w : Bool) → ((a && (b && w)) || (a && (b && not w))) ≡ (a && b)
@@ -68,19 +67,19 @@ cover false b w = refl
 
 module _ (z : Shelf) (img : List ℕ) (absent : ℕ) (l : bytes.Label) where
   module _ (led : Led z img absent (A z img absent l) l) (plan_is : Sound (geometry z) absent (p z img absent l)) where
-    late_says : Says z (slots_that (geometry z) img absent Late l) (adopts z (A z img absent l) img)
+    late_says : Says z (slots_that (geometry z) img absent Slot.adopts l) (adopts z (A z img absent l) img)
     late_says = late_is z img absent (A z img absent l) l led
 
     -- every slot that adopts is given something first
-    prep_says : Says z (slots_that (geometry z) img absent Late l) (readies z (A z img absent l) img)
+    prep_says : Says z (slots_that (geometry z) img absent Slot.adopts l) (readies z (A z img absent l) img)
     unfolding plan_of
     prep_says d i =
-        let late = in_mask (slots_that (geometry z) img absent Late l) d in
+        let late = in_mask (slots_that (geometry z) img absent Slot.adopts l) d in
         let b = not (prepared (labels z) (sight z (A z img absent l) img) (suc (top z (A z img absent l) img)) d) in
         sym (plan_is.given d) ∙ ap₂ (λ (x y : Bool). x || y) (zeroed_is z img absent (A z img absent l) l led d i) (kept_is z img absent (A z img absent l) l led d i) ∙ cover late b (blanked z (A z img absent l) img d)
         ∙ ap (λ (x : Bool). x && b) (late_says d i)
 
-    zeroed_says : (d : ℕ) → d < slots z → readies z (A z img absent l) img d ≡ true → in_mask (slots_that (geometry z) img absent Zeroed l) d ≡ blanked z (A z img absent l) img d
+    zeroed_says : (d : ℕ) → d < slots z → readies z (A z img absent l) img d ≡ true → in_mask (slots_that (geometry z) img absent Slot.gets_zeros l) d ≡ blanked z (A z img absent l) img d
     zeroed_says d i e =
         let b = not (prepared (labels z) (sight z (A z img absent l) img) (suc (top z (A z img absent l) img)) d) in
         zeroed_is z img absent (A z img absent l) l led d i
@@ -163,23 +162,23 @@ module _ (z : Shelf) (img : List ℕ) (absent : ℕ) (l : bytes.Label) where
       )
 
 -- an accepted start-up begins with the plan's state
-goes : (b : Bool) (s t : State) → (cond {A = Begun} b (accepted t) (refused s BadBuffer)).outcome ≡ Done → (cond {A = Begun} b (accepted t) (refused s BadBuffer)).state ≡ t
+goes : (b : Bool) (s t : State) → outcome_of (cond {A = Begun} b (Ok t) (Err BadBuffer)) ≡ Ok tt → state_of s (cond {A = Begun} b (Ok t) (Err BadBuffer)) ≡ t
 goes true s t e = refl
 goes false s t e = absurd (let z : ◌≡◌ {A = ℕ} 0 1 = cc in omega arith)
 
 -- START-UP, accepted, where no tail that is looked at under the settled label is garbage
 pub start_begins : (z : Shelf) (img : List ℕ) (absent : ℕ) (p : Plan) (led : Led z img absent (beyond (slots z) (in_mask absent)) p.lead)
-    → survey_of (geometry z) img absent ≡ survey.Plan p
+    → survey_of (geometry z) img absent ≡ Ok p
     → Redo.Fair z (next_of (geometry z) img absent p.lead) img led.disks (beyond (slots z) (in_mask absent)) (settled_dark z img absent (beyond (slots z) (in_mask absent)) p.lead led)
-    → (s : State) (room : ℕ) → (start_of s (geometry z) absent img room).outcome ≡ Done
-    → Fair z (start_of s (geometry z) absent img room).state [] img
-    × (memory_of z (start_of s (geometry z) absent img room).state [] img
+    → (s : State) (room : ℕ) → outcome_of (start_of (geometry z) absent img room) ≡ Ok tt
+    → Fair z (state_of s (start_of (geometry z) absent img room)) [] img
+    × (memory_of z (state_of s (start_of (geometry z) absent img room)) [] img
     ≡ asked_start (size z) (no_sets (slots z)) (labels z) (records z) (any_code z) stamps (any_sectors z) (beyond (slots z) (in_mask absent)) (mask (size z) (no_sets (slots z)) (labels z) (records z) (any_code z) stamps (any_sectors z) (beyond (slots z) (in_mask absent)) (cur_of z img)))
 start_begins z img absent p led e real s room d =
     let g = geometry z in
     let r = survey_grounds g img absent p e in
     let P : State → Type 0 = λ x. Fair z x [] img × (memory_of z x [] img ≡ asked_start (size z) (no_sets (slots z)) (labels z) (records z) (any_code z) stamps (any_sectors z) (beyond (slots z) (in_mask absent)) (mask (size z) (no_sets (slots z)) (labels z) (records z) (any_code z) stamps (any_sectors z) (beyond (slots z) (in_mask absent)) (cur_of z img))) in
-    let by : start_of s g absent img room ≡ cond (eqb room (work_bytes (slots z) z.c)) (accepted (started g absent p img)) (refused s BadBuffer) = ap (λ (x : Survey). by_survey x s g absent img room) e in
-    let q : (start_of s g absent img room).state ≡ started g absent p img = ap (λ (x : Begun). x.state) by ∙ goes (eqb room (work_bytes (slots z) z.c)) s (started g absent p img) (sym (ap (λ (x : Begun). x.outcome) by) ∙ d) in
+    let by : start_of g absent img room ≡ cond (eqb room (work_bytes (slots z) z.c)) (Ok (started g absent p img)) (Err BadBuffer) = ap (λ (x : Survey). by_survey x g absent img room) e in
+    let q : state_of s (start_of g absent img room) ≡ started g absent p img = ap (state_of s) by ∙ goes (eqb room (work_bytes (slots z) z.c)) s (started g absent p img) (sym (ap (λ (x : Begun). outcome_of x) by) ∙ d) in
     subst P (sym q)
     (subst (λ (x : Plan). P (started g absent x img)) (sym r.is) (start_state z img absent p.lead led (subst (Sound g absent) r.is (plan_sound g img absent p e)) real (omega (arith, r.left))))

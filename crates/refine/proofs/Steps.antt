@@ -2,7 +2,7 @@
 -- protocol counts it, and the others are left; where nothing is left, the request is done. Assumes nothing.
 use Rattle.std.proofs.Math.Path.{◌≡◌, refl, sym, ap, ap₂, subst}
 use Rattle.std.proofs.Common.{◌∙◌, ⊎_elim}
-use Rattle.std.specs.Prelude.{Bool, leb, length, replicate}
+use Rattle.std.specs.Prelude.{Bool, leb, length, replicate, Ok}
 use Rattle.std.proofs.Math.Bool.{true, false, cond, false≢true}
 use mathlib.Core.List.{List, [], ◌∷◌, ◌++◌}
 use Prim.Native.Nat.{ℕ, zero, suc, ◌+◌, ◌*◌, ◌≤◌, ◌<◌, ◌%◌}
@@ -15,11 +15,9 @@ use Rattle.disk.specs.Geometry.{in_range, stripes_of, strip_of, found}
 use Rattle.disk.specs.Image.{put_sector, put_answer, on_shelf, lt_or_ge}
 use Rattle.disk.specs.Mask.{in_mask}
 use Rattle.disk.specs.declared.geometry.Geometry.{Geometry}
-use Rattle.disk.specs.declared.geometry.Found.{Found}
-use Rattle.disk.specs.declared.geometry.Found.TheVariants as spot
+use Rattle.disk.specs.Geometry.{Found}
 use Rattle.disk.specs.declared.refusal.Refusal.TheVariants.{NotNow}
-use Rattle.disk.specs.declared.refusal.Outcome.{Outcome}
-use Rattle.disk.specs.declared.refusal.Outcome.TheVariants as outcome
+use Rattle.disk.specs.Refusal.{Outcome}
 use Rattle.label.specs.Fields.{fits_of}
 use Rattle.label.specs.Bytes.{sealed}
 use Rattle.label.specs.declared.fields.Label as bytes
@@ -46,8 +44,8 @@ use Rattle.shelf.specs.Says.{when, unless, step_goes}
 use Rattle.shelf.specs.Bound.{width_of}
 use Rattle.shelf.specs.Kept.{kept_of}
 use Rattle.stages.specs.declared.state.State.{State}
-use Rattle.stages.specs.declared.state.Stepped.{Stepped}
-use Rattle.stages.specs.declared.state.Answer.TheVariants as answer
+use Rattle.stages.specs.Told.{Told}
+use Rattle.stages.specs.Told as answer
 use Rattle.stages.specs.declared.stage.Stage.{Stage}
 use Rattle.stages.specs.declared.stage.Stage.TheVariants.{Flush, Give, Wipe, Restore, Log, Store, Clear, Erase, Fill, End}
 use Rattle.refine.specs.Places.{sector_of, inside, slot_below, label_inside, log_inside, strip_is_inside}
@@ -177,7 +175,7 @@ module _ (z : Shelf) (s : State) (work img : List ℕ) (fair : Fair z s work img
       ≡ record { stepped = record { state = onward s (slot k) count; answer = answer.Put (slot k) (sector_of z k) }; image = put_sector z.sectors img (slot k) (sector_of z k) v.bytes }
   unfolding put_move put_answer on_shelf
   put_done k v count i a =
-      let e : put_answer (G z s work img fair) (length img) (slot k) (sector_of z k) (length v.bytes) ≡ outcome.Done =
+      let e : put_answer (G z s work img fair) (length img) (slot k) (sector_of z k) (length v.bytes) ≡ (Ok tt) =
       rw (image_fits z img fair.disks, lt-ltb (slot k) (slots z) (slot_below z k i), lt-ltb (sector_of z k) z.sectors (sector_below z k i), eq-eqb (length v.bytes) sector_bytes v.whole) in
       unless (in_mask s.absent (slot k)) _ _ a ∙ ap (λ (o : Outcome). by_outcome o s (G z s work img fair) (slot k) (sector_of z k) count v.bytes img) e
 
@@ -276,7 +274,7 @@ module _ (z : Shelf) (s : State) (work img : List ℕ) (fair : Fair z s work img
           state = onward s ((D z s work img fair k enough more) mask) 1;
           kept = onward_kept ((D z s work img fair k enough more) mask) 1;
           at = at_here (Flush mask) e refl h ((D z s work img fair k enough more) mask) 1;
-          is = ap (λ (x : Stepped). record { stepped = x; image = img }) (unless (in_mask s.absent ((D z s work img fair k enough more) mask)) _ _ (can (Flush mask) e ((D z s work img fair k enough more) mask) h.below h.set));
+          is = ap (λ (x : Told). record { stepped = x; image = img }) (unless (in_mask s.absent ((D z s work img fair k enough more) mask)) _ _ (can (Flush mask) e ((D z s work img fair k enough more) mask) h.below h.set));
           rest = left_once (Flush mask) e (F z s work img fair k enough more) (alike_same z s (F z s work img fair k enough more)) ((D z s work img fair k enough more) mask);
           fair = fair_onward img fair.disks ((D z s work img fair k enough more) mask) 1 (within_stage (Flush mask) e 1 (omega arith));
         })
@@ -380,7 +378,7 @@ module _ (z : Shelf) (s : State) (work img : List ℕ) (fair : Fair z s work img
           ≡ put_move s (G z s work img fair) ((D z s work img fair k enough more) mask) (sector_of z (strip ((D z s work img fair k enough more) mask) t s.cursor.sector)) z.c (restored z (F z s work img fair k enough more) (strip ((D z s work img fair k enough more) mask) t s.cursor.sector)).bytes img
       unfolding restore_move sector_of
       restore_puts =
-          let there : found (in_range (G z s work img fair)) (ltb t (stripes_of (G z s work img fair))) (strip_of (G z s work img fair) t) ≡ spot.At (strip_of (G z s work img fair) t) = rw (in_limits z, lt-ltb t (stripes_of (G z s work img fair)) there_restore) in
+          let there : found (in_range (G z s work img fair)) (ltb t (stripes_of (G z s work img fair))) (strip_of (G z s work img fair) t) ≡ Ok (strip_of (G z s work img fair) t) = rw (in_limits z, lt-ltb t (stripes_of (G z s work img fair)) there_restore) in
           ap (λ (o : Outcome). by_restored o s (G z s work img fair) ((D z s work img fair k enough more) mask) t img) (restores z img fair.disks ((D z s work img fair k enough more) mask) h.below s.cursor.sector (within (Restore mask t) e refl))
           ∙ ap (λ (f : Found). by_strip f s (G z s work img fair) ((D z s work img fair k enough more) mask) img) there
           ∙ ap (λ (b : List ℕ). put_move s (G z s work img fair) ((D z s work img fair k enough more) mask) (strip_of (G z s work img fair) t + s.cursor.sector) z.c b img) (piece_is z img fair.disks ((D z s work img fair k enough more) mask) h.below s.cursor.sector (within (Restore mask t) e refl))
@@ -399,7 +397,7 @@ module _ (z : Shelf) (s : State) (work img : List ℕ) (fair : Fair z s work img
           ≡ put_move s (G z s work img fair) ((D z s work img fair k enough more) mask) (sector_of z (strip ((D z s work img fair k enough more) mask) t s.cursor.sector)) z.c (kept_strip z work t ((D z s work img fair k enough more) mask) s.cursor.sector).bytes img
       unfolding store_move sector_of
       store_puts =
-          let there : found (in_range (G z s work img fair)) (ltb t (stripes_of (G z s work img fair))) (strip_of (G z s work img fair) t) ≡ spot.At (strip_of (G z s work img fair) t) = rw (in_limits z, lt-ltb t (stripes_of (G z s work img fair)) there_store) in
+          let there : found (in_range (G z s work img fair)) (ltb t (stripes_of (G z s work img fair))) (strip_of (G z s work img fair) t) ≡ Ok (strip_of (G z s work img fair) t) = rw (in_limits z, lt-ltb t (stripes_of (G z s work img fair)) there_store) in
           ap (λ (f : Found). by_stored f s (G z s work img fair) ((D z s work img fair k enough more) mask) (kept_of (G z s work img fair) t ((D z s work img fair k enough more) mask) work) img) there
           ∙ ap (λ (b : List ℕ). put_move s (G z s work img fair) ((D z s work img fair k enough more) mask) (strip_of (G z s work img fair) t + s.cursor.sector) z.c b img)
           (kept_part z work (can (Store mask t) e).2 t ((D z s work img fair k enough more) mask) there_store h.below s.cursor.sector (within (Store mask t) e refl))

@@ -1,6 +1,6 @@
 -- ANOTHER DISK IN A SLOT while the program is at rest and its state calls the slot absent: a fresh one, one that held something else, or one that was in the slot before. It may hold anything but
 -- a label of another shelf, or one of this shelf of the settled generation or newer. To the protocol's machine it is a disk that is exchanged, and what ties the two is kept. Assumes nothing.
-use Rattle.std.specs.Prelude.{◌≡◌, ◌⊎◌, ◌≢◌, Bool, true, not, ℕ, suc, ◌≤◌, ◌<◌, eqb}
+use Rattle.std.specs.Prelude.{◌≡◌, ◌⊎◌, ◌≢◌, Bool, true, not, ℕ, suc, ◌≤◌, ◌<◌, eqb, Some, None}
 use Rattle.std.proofs.Math.Path.{refl, ap, subst, fun_ext}
 use Rattle.std.proofs.Common.{sym, ◌∙◌, inl, inr, arith, eq-eqb, ne_eqb}
 use Rattle.std.proofs.Math.Logic.{⊎_elim}
@@ -11,8 +11,7 @@ use Rattle.disk.specs.Image.{sector}
 use Rattle.label.specs.Valid.{decode_of}
 use Rattle.label.specs.Newest.{copy_of}
 use Rattle.label.specs.declared.fields.Label as bytes
-use Rattle.label.specs.declared.codec.Decoded.{Decoded}
-use Rattle.label.specs.declared.codec.Decoded.TheVariants.{Valid, Nothing}
+use Rattle.label.specs.Fields.{Decoded}
 use Rattle.protocol.specs.World.{Place, label, log, strip, slot, Image, update, update_here, update_cases, World, Possible, Sane, Always}
 use Rattle.protocol.specs.Label.{Label, looked, copy, copy_same}
 use Rattle.protocol.specs.Shape.{ShapeBy, shape_same}
@@ -127,8 +126,8 @@ module _ (z : Shelf) (F : Family z) (first : Machine Sector) (p : View Sector) (
   copy_older b = subst (λ (l : Label). l.generation < s.now.generation) (sym (copy_meant z F left x.disks d b x.there)) (by (copy_of (geometry z) left d (sector_of b)) refl)
     where
       by : (c : Decoded) → copy_of (geometry z) left d (sector_of b) ≡ c → (meant z c).generation < s.now.generation
-      by Nothing e = some
-      by (Valid a) e = let y = x.older (sector_of b) a (two b) e in subst (λ (o : Bool). (cond o (label_of z a) (no_label z)).generation < s.now.generation) (sym y.0) (omega (arith, y.1))
+      by None e = some
+      by (Some a) e = let y = x.older (sector_of b) a (two b) e in subst (λ (o : Bool). (cond o (label_of z a) (no_label z)).generation < s.now.generation) (sym y.0) (omega (arith, y.1))
 
   -- and the labels have their shape
   zero_is : (b : Bool) → sector z.sectors left d (sector_of b) ≡ zeros.bytes → cur_of z left (label d b) ≡ zeros
@@ -141,7 +140,7 @@ module _ (z : Shelf) (F : Family z) (first : Machine Sector) (p : View Sector) (
       G : Bool → ℕ
       G b = (copy (labels z) (cur_of z left) d b).generation
 
-      valid : (b : Bool) → 0 < G b → (a : bytes.Label) × (copy_of (geometry z) left d (sector_of b) ≡ Valid a) × (G b ≡ a.generation)
+      valid : (b : Bool) → 0 < G b → (a : bytes.Label) × (copy_of (geometry z) left d (sector_of b) ≡ Some a) × (G b ≡ a.generation)
       valid b h = let y = copy_there z F left x.disks named_left d b 1 x.there (omega arith) h in (y.0, y.1, (copy_counts z F left x.disks named_left d b y.0 x.there y.1).0)
 
       calm : (b : Bool) → (false ≡ true) ⊎ (0 < G (not b)) → (cur_of z left (label d b) ≡ zeros) ⊎ (0 < G b)
@@ -149,7 +148,7 @@ module _ (z : Shelf) (F : Family z) (first : Machine Sector) (p : View Sector) (
       calm b (inr h) =
           let y = valid (not b) h in
           ⊎_elim (λ (e : sector z.sectors left d (sector_of b) ≡ zeros.bytes). inl (zero_is b e))
-          (λ (q : (a : bytes.Label) × (copy_of (geometry z) left d (sector_of b) ≡ Valid a)). let c = copy_counts z F left x.disks named_left d b q.0 x.there q.1 in inr (omega (arith, c.0, c.1)))
+          (λ (q : (a : bytes.Label) × (copy_of (geometry z) left d (sector_of b) ≡ Some a)). let c = copy_counts z F left x.disks named_left d b q.0 x.there q.1 in inr (omega (arith, c.0, c.1)))
           (x.shape.calm (sector_of b) (sector_of (not b)) y.0 (two b) (two (not b)) y.1)
 
       follow : (b : Bool) → 0 < G b → 0 < G (not b) → (G b ≡ suc (G (not b))) ⊎ (G (not b) ≡ suc (G b))

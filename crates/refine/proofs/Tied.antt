@@ -27,8 +27,8 @@ use Rattle.stages.specs.declared.state.Kind.{Kind}
 use Rattle.stages.specs.declared.state.Kind.TheVariants.{Nothing, Idle, Creating, Starting, Labelling, Writing, Beginning, Filling}
 use Rattle.stages.specs.declared.stage.Stage.{Stage}
 use Rattle.stages.specs.declared.stage.Stage.TheVariants.{Flush, Give, Wipe, Restore, Clear, Erase, End}
-use Rattle.stages.specs.declared.state.Answer.{Answer}
-use Rattle.stages.specs.declared.state.Answer.TheVariants as answer
+use Rattle.stages.specs.Told.{Answer}
+use Rattle.stages.specs.Told as answer
 use Rattle.refine.specs.Disks.{cur_of}
 use Rattle.refine.specs.ToDo.{under_of, acts_of, left_of, to_do, round_each, create_each, start_each, begin_each}
 use Rattle.refine.specs.Steps.{Can, Fair, Moved, Does}

@@ -1,6 +1,6 @@
 -- A WRITE THAT IS ACCEPTED, at rest, is the protocol's: its program accepts it too, what the state and the work area then describe is
 -- the write that it makes, and it can be carried out. In the words of write's contract. Assumes nothing.
-use Rattle.std.specs.Prelude.{◌≡◌, Bool, ◌&&◌, ◌||◌, eqb, length}
+use Rattle.std.specs.Prelude.{◌≡◌, Bool, ◌&&◌, ◌||◌, eqb, length, Ok}
 use Rattle.std.proofs.Math.Path.{refl, sym, ap, ap₂}
 use Rattle.std.proofs.Common.{subst, ◌∙◌, mul_assoc, arith, length-drop, get_or-take}
 use Rattle.std.proofs.Math.Bool.{true, false, cond, not}
@@ -15,7 +15,6 @@ use Rattle.disk.specs.Limits.{sector_bytes}
 use Rattle.disk.specs.Geometry.{stripes_of, shard_of, shard_lt, slot_shard, block_inside}
 use Rattle.disk.specs.Mask.{in_mask, mask_of, mask_lt, mask_below}
 use Rattle.disk.specs.declared.geometry.Geometry.{Geometry}
-use Rattle.disk.specs.declared.refusal.Outcome.TheVariants.{Done}
 use Rattle.label.specs.Fields.{geometry_of}
 use Rattle.label.proofs.Fits.{fits_says}
 use Rattle.label.proofs.Counts.{SameShelf, same_says}
@@ -63,7 +62,7 @@ use Rattle.refine.specs.WriteAsked.{stamped_sound, l, n, stripe, in_stripe, aske
 
 module _ (z : Shelf) (img : List ℕ) (disks : Disks z img) (i : State) (own : ours z i.now ≡ true)
     (dark : (d : ℕ) → d < slots z → in_mask i.absent d ≡ true → Label.looked (size z) (label_of z i.now) d ≡ true → ⊥)
-    (b : ℕ) (given work : List ℕ) (small : Bytes given) (ok : write_answer i.now i.kind i.absent i.count img b (length given) (length work) ≡ Done) where
+    (b : ℕ) (given work : List ℕ) (small : Bytes given) (ok : write_answer i.now i.kind i.absent i.count img b (length given) (length work) ≡ Ok tt) where
   shows : Shows (l z img disks i own dark b given work small ok) i.absent img work b given
   shows = (write_done (l z img disks i own dark b given work small ok) i.kind i.absent i.count img b given work ok).0
 

@@ -1,11 +1,10 @@
 -- HOW MANY STEPS A WRITE TAKES, in the words of its contract: at most (m + 1)(2c + 1) puts and 2(m + 1) flushes; where the stripe's shards contradicted each other and all of them change, n in m + 1's
 -- place. Assumes nothing.
-use Rattle.std.specs.Prelude.{◌≡◌, refl, Bool, true, false, cond, List, ℕ, zero, suc, ◌+◌, ◌*◌, ◌≤◌, ◌<◌, ◌/◌, ◌%◌, length}
+use Rattle.std.specs.Prelude.{◌≡◌, refl, Bool, true, false, cond, List, ℕ, zero, suc, ◌+◌, ◌*◌, ◌≤◌, ◌<◌, ◌/◌, ◌%◌, length, Ok}
 use Rattle.std.proofs.Common.{sym, ap, ap₂, subst, ◌∙◌, add-zero, add-suc, mul-le-mul_left, mul-le-mul_right, arith, eq-eqb, ne_eqb}
 use Rattle.std.proofs.lemmas.Bool.{lt-leb}
 use Rattle.disk.specs.Geometry.{slot_of, shard_of, shard_slot, block_inside}
 use Rattle.disk.specs.Mask.{in_mask, tally, mask_below}
-use Rattle.disk.specs.declared.refusal.Outcome.TheVariants.{Done}
 use Rattle.label.specs.Fields.{geometry_of}
 use Rattle.label.proofs.Fits.{fits_says}
 use Rattle.protocol.specs.Write.{both}
@@ -68,7 +67,7 @@ changed_few k m t i th all h =
 -- ---- the theorem
 
 -- A WRITE THAT IS ACCEPTED takes at most so many puts and flushes, whatever the disks and the work area hold at each step
-pub write_steps : {p f : ℕ} (s s' : State) (b : ℕ) (given img work after : List ℕ) → write_answer s.now s.kind s.absent s.count img b (length given) (length work) ≡ Done
+pub write_steps : {p f : ℕ} (s s' : State) (b : ℕ) (given img work after : List ℕ) → write_answer s.now s.kind s.absent s.count img b (length given) (length work) ≡ Ok tt
     → (w : Written s b given img work s' after) → Steps p f s'
     → (p ≤ wide s.now.k s.now.m w.all * (2 * s.now.c + 1)) × (f ≤ 2 * wide s.now.k s.now.m w.all)
 write_steps {p} {f} s s' b given img work after e w r =

@@ -4,13 +4,12 @@
 use Rattle.std.proofs.Math.Path.{◌≡◌, refl, sym, ap}
 use Rattle.std.proofs.Common.{subst, ◌∙◌, arith}
 use Rattle.std.proofs.Math.Bool.{Bool, true, false, cond, not}
-use Rattle.std.specs.Prelude.{◌&&◌, List, [], ◌∷◌, eqb, get_or}
+use Rattle.std.specs.Prelude.{◌&&◌, List, [], ◌∷◌, eqb, get_or, Ok}
 use Prim.Native.Nat.{ℕ, zero, suc, ◌+◌, ◌<◌, ◌^◌}
 use Rattle.std.specs.Int.Count.{ones}
 use borrow.Author.Tests.{eq-eqb, ne_eqb, eqb-true, eqb-false, lt-ltb, le-leb}
 use Rattle.disk.specs.Tests.{and_left, and_right}
 use Rattle.disk.specs.Mask.{in_mask, with_slot, with_lt}
-use Rattle.disk.specs.declared.refusal.Outcome.TheVariants.{Done}
 use Rattle.label.specs.Fields.{no_slot, fits_of}
 use Rattle.label.specs.Bytes.{all_zero}
 use Rattle.label.specs.declared.fields.Label as bytes
@@ -18,7 +17,6 @@ use Rattle.label.proofs.Fits.{fits_says}
 use Rattle.label.proofs.Counts.{same_says}
 use Rattle.rounds.specs.Survey.{next_of, survey_of}
 use Rattle.rounds.specs.declared.plan.Plan.{Plan}
-use Rattle.rounds.specs.declared.plan.Survey.TheVariants as survey
 use Rattle.protocol.specs.World.{Image, World}
 use Rattle.protocol.specs.Log.{Belief}
 use Rattle.protocol.specs.Label.{Label, plainly_out as plainly_out'}
@@ -77,7 +75,7 @@ none_there (x ∷ b) e (suc p) = none_there b (and_right (eqb x 0) (all_zero b) 
 
 module _ (z : Shelf) (img : List ℕ) where
   -- START-UP
-  module _ (absent : ℕ) (p : Plan) (e : survey_of (geometry z) img absent ≡ survey.Plan p) (led : Led z img absent (beyond (slots z) (in_mask absent)) p.lead) where
+  module _ (absent : ℕ) (p : Plan) (e : survey_of (geometry z) img absent ≡ Ok p) (led : Led z img absent (beyond (slots z) (in_mask absent)) p.lead) where
     abbrev pub A : ℕ → Bool
     A = beyond (slots z) (in_mask absent)
 
@@ -99,7 +97,7 @@ module _ (z : Shelf) (img : List ℕ) where
       D = Under (size z) F.sets (labels z) (records z) (code_in z F) stamps (sectors_in z F) g view
 
   -- TAKING A SLOT OUT, at rest
-  module _ (disks : Disks z img) (s : State) (own : ours z s.now ≡ true) (d room : ℕ) (e : take_answer s.now s.kind s.absent img d room ≡ Done) where
+  module _ (disks : Disks z img) (s : State) (own : ours z s.now ≡ true) (d room : ℕ) (e : take_answer s.now s.kind s.absent img d room ≡ Ok tt) where
     abbrev pub now : bytes.Label
     now = s.now
 

@@ -1,7 +1,7 @@
 -- EVERY BLOCK CAN BE READ. Along every chain of calls from an image of zeros on, whatever was cut, taken out or exchanged on it, a read at rest of any block of the shelf, with a block's buffer and the chain's
 -- work area, is answered Done: at most m slots are out or absent, and the state's label is in range. With Serves: at rest every block reads as its entry of the host's list. And a write of
 -- any block is accepted where each present disk holds the state's label. What is asked is what Promise asks. Assumes nothing.
-use Rattle.std.specs.Prelude.{◌≡◌, not, ◌&&◌, ◌||◌, List, length}
+use Rattle.std.specs.Prelude.{◌≡◌, not, ◌&&◌, ◌||◌, List, length, Ok, Err}
 use Rattle.std.proofs.Math.Path.{refl, ap, ap₂}
 use Rattle.std.proofs.Common.{sym, ◌∙◌, arith}
 use Rattle.std.proofs.Math.Bool.{Bool, true, false, cond}
@@ -16,7 +16,6 @@ use Rattle.disk.specs.Geometry.{blocks_of}
 use Rattle.disk.specs.Image.{fits_image}
 use Rattle.disk.specs.declared.geometry.Geometry.{Geometry}
 use Rattle.disk.specs.declared.refusal.Refusal.TheVariants.{BadImage, TooFew, BadBlock, Busy, NotNow, BadBuffer}
-use Rattle.disk.specs.declared.refusal.Outcome.TheVariants.{Done, Refused}
 use Rattle.label.specs.Fields.{geometry_of, fits_of}
 use Rattle.label.proofs.Counts.{same_says}
 use Rattle.label.specs.declared.fields.Label as bytes
@@ -81,7 +80,7 @@ module _ (z : Shelf) (l : bytes.Label) (own : ours z l ≡ true) (fit : fits_of 
 
   module _ (few : too_few l absent ≡ false) (b : ℕ) (buf work : List ℕ) (inner : b < blocks_of (geometry z) z.k) (whole : length buf ≡ z.c * sector_bytes) (room : length work ≡ work_bytes (slots z) z.c) where
     -- a block of the shelf, with a block's buffer and the work area
-    pub block_goes : (idle sense : Bool) → idle ≡ true → sense ≡ true → block_answer l absent idle sense b (length buf) (length work) ≡ Done
+    pub block_goes : (idle sense : Bool) → idle ≡ true → sense ≡ true → block_answer l absent idle sense b (length buf) (length work) ≡ Ok tt
     unfolding block_answer answered sizes
     block_goes idle sense p q =
         let s = same_says (fields_of z 0 (no_label z)) l own in
@@ -89,12 +88,12 @@ module _ (z : Shelf) (l : bytes.Label) (own : ours z l ≡ true) (fit : fits_of 
         let sized : (eqb (length work) (work_bytes (l.k + l.m) l.c) && eqb (length buf) (l.c * sector_bytes)) ≡ true =
         both (eqb (length work) (work_bytes (l.k + l.m) l.c)) (eqb (length buf) (l.c * sector_bytes)) (eq-eqb (length work) _ (room ∙ ap₂ work_bytes (sym n_is) s.same_c))
         (eq-eqb (length buf) _ (whole ∙ ap (λ (c : ℕ). c * sector_bytes) s.same_c)) in
-        λ i. cond (few i) (Refused TooFew) (cond (there i) (cond (p i) (cond (q i) (cond (sized i) Done (Refused BadBuffer)) (Refused NotNow)) (Refused Busy)) (Refused BadBlock))
+        λ i. cond (few i) (Err TooFew) (cond (there i) (cond (p i) (cond (q i) (cond (sized i) (Ok tt) (Err BadBuffer)) (Err NotNow)) (Err Busy)) (Err BadBlock))
 
     -- is read at rest
-    pub read_goes : (kind : Kind) → kind ≡ Idle → (img : List ℕ) → Disks z img → read_answer l kind absent b (length img) (length buf) (length work) ≡ Done
+    pub read_goes : (kind : Kind) → kind ≡ Idle → (img : List ℕ) → Disks z img → read_answer l kind absent b (length img) (length buf) (length work) ≡ Ok tt
     unfolding look_answer has_shelf
     read_goes kind e img disks =
         let fits : fits_image (geometry_of l) (length img) ≡ true = ap (λ (g : Geometry). fits_image g (length img)) (shelf_geometry z l own) ∙ image_fits z img disks in
-        let look : look_answer l kind (length img) ≡ Done = λ i. cond (not (is_nothing (e i)) && fit i) (cond (fits i) Done (Refused BadImage)) (Refused NotNow) in
+        let look : look_answer l kind (length img) ≡ (Ok tt) = λ i. cond (not (is_nothing (e i)) && fit i) (cond (fits i) (Ok tt) (Err BadImage)) (Err NotNow) in
         ap₂ first look (block_goes true (serves kind) refl (ap serves e))

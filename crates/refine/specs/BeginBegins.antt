@@ -1,7 +1,7 @@
 -- BEGIN, ACCEPTED AT REST, is accepted by the protocol's program too: it begins with a state in order, beside which the program remembers
 -- that same request. Asked is that the slot, if it is absent, is not looked at, as the protocol's invariant has it at rest; so it is out.
 -- Assumes nothing.
-use Rattle.std.specs.Prelude.{◌≡◌, Bool, cond, ◌&&◌, ◌||◌, List, [], ◌∷◌, eqb, ltb, leb}
+use Rattle.std.specs.Prelude.{◌≡◌, Bool, cond, ◌&&◌, ◌||◌, List, [], ◌∷◌, eqb, ltb, leb, Ok}
 use Rattle.std.proofs.Math.Path.{refl}
 use Rattle.std.proofs.Common.{sym, ap, ◌∙◌, true≢false, arith}
 use Rattle.std.proofs.Math.Bool.{true, false, not}
@@ -11,7 +11,6 @@ use Rattle.disk.specs.Limits.{most_k, most_m}
 use Rattle.disk.specs.Tests.{and_left, and_right, both}
 use Rattle.disk.specs.Geometry.{in_range_with, stripes_of}
 use Rattle.disk.specs.Mask.{in_mask, with_slot, in_with, in_without, with_lt}
-use Rattle.disk.specs.declared.refusal.Outcome.TheVariants.{Done}
 use Rattle.label.specs.Fields.{no_slot, most_generation, geometry_of, rebuild_fits, fits_of}
 use Rattle.label.specs.Newest.{same_shelf}
 use Rattle.label.specs.declared.fields.Label as bytes
@@ -75,7 +74,7 @@ pub record Goes (l : bytes.Label) (kind : Kind) (absent d room : ℕ) : Type 0 w
   pub more : l.generation < most_generation
   pub whole : room ≡ work_bytes (l.k + l.m) l.c
 
-pub begin_goes : (l : bytes.Label) (kind : Kind) (absent : ℕ) (img : List ℕ) (d room : ℕ) → begin_answer l kind absent img d room ≡ Done → Goes l kind absent d room
+pub begin_goes : (l : bytes.Label) (kind : Kind) (absent : ℕ) (img : List ℕ) (d room : ℕ) → begin_answer l kind absent img d room ≡ Ok tt → Goes l kind absent d room
 unfolding asked_begin cannot_begin sized
 begin_goes l kind absent img d room e =
     let q = first_done (ready_of l kind absent img) (asked_begin l (is_idle kind) absent d room) e in
@@ -91,7 +90,7 @@ begin_goes l kind absent img d room e =
       whole = eqb-true room (work_bytes (l.k + l.m) l.c) p.room;
     }
 
-module _ (z : Shelf) (img : List ℕ) (disks : Disks z img) (s : State) (own : ours z s.now ≡ true) (d room : ℕ) (e : begin_answer s.now s.kind s.absent img d room ≡ Done)
+module _ (z : Shelf) (img : List ℕ) (disks : Disks z img) (s : State) (own : ours z s.now ≡ true) (d room : ℕ) (e : begin_answer s.now s.kind s.absent img d room ≡ Ok tt)
     (dark : in_mask s.absent d ≡ true → protocol.looked (size z) (label_of z s.now) d ≡ true → ⊥) where
   abbrev pub l : bytes.Label
   l = s.now

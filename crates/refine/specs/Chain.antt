@@ -5,7 +5,7 @@
 --
 -- A refusal is an answer that leaves everything as it was, and needs no event. The code may refuse more than the protocol's program:
 -- a disk whose newest label is another shelf's.
-use Rattle.std.specs.Prelude.{◌≡◌, ◌⊎◌, Bool, true, ◌&&◌, ℕ, leb, length}
+use Rattle.std.specs.Prelude.{◌≡◌, ◌⊎◌, Bool, true, ◌&&◌, ℕ, leb, length, Ok, Err}
 use Rattle.std.proofs.Math.Path.{refl, ap, subst}
 use Rattle.std.proofs.Common.{◌∙◌, true≢false}
 use Rattle.std.proofs.Math.Bool.{false, cond}
@@ -15,8 +15,6 @@ use Rattle.std.proofs.Math.Dec.{ltb}
 use Rattle.disk.specs.Mask.{in_mask}
 use Rattle.disk.specs.Image.{fits_image}
 use Rattle.disk.specs.declared.refusal.Refusal.TheVariants.{BadImage, NotNow}
-use Rattle.disk.specs.declared.refusal.Outcome.{Outcome}
-use Rattle.disk.specs.declared.refusal.Outcome.TheVariants.{Done, Refused}
 use Rattle.label.specs.Fields.{geometry_of, fits_of}
 use Rattle.label.specs.Bytes.{all_zero}
 use Rattle.protocol.specs.World.{Place, slot, World, put, flush, act, after, Always}
@@ -47,11 +45,11 @@ use Rattle.stages.specs.Limits.{most_stages}
 use Rattle.stages.specs.declared.state.State.{State}
 use Rattle.stages.specs.declared.state.Kind.{Kind}
 use Rattle.stages.specs.declared.state.Kind.TheVariants.{Nothing, Idle, Creating, Starting, Labelling, Writing, Beginning, Filling}
-use Rattle.stages.specs.declared.state.Answer.{Answer}
-use Rattle.stages.specs.declared.state.Answer.TheVariants as answer
+use Rattle.stages.specs.Told.{Answer}
+use Rattle.stages.specs.Told as answer
 use Rattle.requests.specs.Step.{step_with, step_unsound}
 use Rattle.requests.specs.Ready.{is_idle}
-use Rattle.requests.specs.declared.begun.Begun.{Begun}
+use Rattle.requests.specs.Begun.{Begun}
 use Rattle.refine.specs.Family.{Family, code_in, sectors_in, HappensIn, KeepsIn}
 use Rattle.refine.specs.Places.{sector_of, inside}
 use Rattle.refine.specs.Disks.{Disks, cur_of}
@@ -67,12 +65,9 @@ pub data Hand : Type 0 where
   has : State → Hand
 
 -- the state of a request that was accepted; a refusal leaves what was held
-abbrev answered : Outcome → Hand → State → Hand
-answered Done h s = has s
-answered (Refused why) h s = h
-
 abbrev pub handed : Hand → Begun → Hand
-handed h b = answered b.outcome h b.state
+handed h (Ok s) = has s
+handed h (Err why) = h
 
 -- what the disks are once the caller has done what a step's answer says, with the image that the step left: the sector put is read
 -- at once, and may or may not be there after a cut; a flush makes certain what its slot reads as; no other answer does anything
@@ -83,12 +78,9 @@ Heard z w answer.Done img w' = w' ≡ w
 Heard z w (answer.Refused why) img w' = w' ≡ w
 
 -- THE SET OF SLOTS THAT A START-UP OR A TAKE-OUT LEAVES OUT, if it is accepted: those that the label calls out which it settles
-abbrev outs_by : Outcome → State → List (ℕ → Bool)
-outs_by Done s = in_mask s.next.out ∷ []
-outs_by (Refused why) s = []
-
 abbrev pub outs : Begun → List (ℕ → Bool)
-outs b = outs_by b.outcome b.state
+outs (Ok s) = in_mask s.next.out ∷ []
+outs (Err why) = []
 
 -- ---- THE TIE with the protocol's machine
 

@@ -9,7 +9,7 @@ use Rattle.shelf.specs.Step.{done, finished, sound, step_move}
 use Rattle.shelf.specs.Laws.{step_done}
 use Rattle.shelf.specs.Bound.{acted}
 use Rattle.stages.specs.declared.state.State.{State}
-use Rattle.stages.specs.declared.state.Answer.TheVariants as answer
+use Rattle.stages.specs.Told as answer
 use Rattle.requests.specs.Step.{other_work, step_with}
 
 -- one step after the other, each with the state and the image that the one before left: the last of i + 1

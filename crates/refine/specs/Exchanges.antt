@@ -1,11 +1,10 @@
 -- CHAINS OF CALLS WITH DISKS EXCHANGED WHILE NO PROGRAM RUNS, or at rest where the slot is out, what is asked of the sets of slots that they leave out, and what they do to the host's view. (Exchanges in
 -- slots that the state calls absent are calls of Hosts.) Assumes nothing.
-use Rattle.std.specs.Prelude.{◌≡◌, ◌≢◌, Bool, false, List, [], ◌++◌, ℕ, ◌<◌}
+use Rattle.std.specs.Prelude.{◌≡◌, ◌≢◌, Bool, false, List, [], ◌++◌, ℕ, ◌<◌, None}
 use Rattle.disk.specs.Mask.{in_mask}
 use Rattle.disk.specs.Image.{sector}
 use Rattle.label.specs.Bytes.{all_zero}
 use Rattle.label.specs.Newest.{copy_of}
-use Rattle.label.specs.declared.codec.Decoded.TheVariants.{Nothing}
 use Rattle.redo.specs.Decide.{looked}
 use Rattle.protocol.specs.World.{World, after, Possible}
 use Rattle.protocol.specs.Machine.{View}
@@ -25,7 +24,7 @@ pub record Blanked (z : Shelf) (d : ℕ) (img left : List ℕ) : Type 0 where
   pub there : d < slots z
   pub disks : Disks z left
   pub others : (e i : ℕ) → e < slots z → i < z.sectors → e ≢ d → sector z.sectors left e i ≡ sector z.sectors img e i
-  pub blank : (o : ℕ) → o < 2 → copy_of (geometry z) left d o ≡ Nothing
+  pub blank : (o : ℕ) → o < 2 → copy_of (geometry z) left d o ≡ None
 
 -- the shelf is not created anew: create is not called on an image of zeros any more
 abbrev pub NotAnew : {z : Shelf} {a b : Time} → HostCalls z a b → Type 0

@@ -1,6 +1,6 @@
 -- A STRIP THAT IS REBUILT. What a rebuild asks of the shelf's label, its slot, its strips and the work area; and then each of its sectors is the
 -- one that the protocol's program rebuilds, and goes to its place. Assumes nothing.
-use Rattle.std.specs.Prelude.{◌≡◌, ◌&&◌, take}
+use Rattle.std.specs.Prelude.{◌≡◌, ◌&&◌, take, Ok}
 use Rattle.std.proofs.Math.Path.{refl, sym, ap}
 use Rattle.std.proofs.Common.{◌∙◌, ⊎_elim, true≢false, suc-mul, div-lt_iff_lt-mul, mod-lt}
 use Rattle.std.proofs.Math.Bool.{Bool, true, false, not}
@@ -18,9 +18,7 @@ use Rattle.disk.specs.Geometry.{in_range, splits, in_range_with, stripes_of, sha
 use Rattle.disk.specs.Image.{fits_image}
 use Rattle.disk.specs.Mask.{in_mask, mask_of, mask_below}
 use Rattle.disk.specs.declared.geometry.Geometry.{Geometry}
-use Rattle.disk.specs.declared.geometry.Found.{Found}
-use Rattle.disk.specs.declared.geometry.Found.TheVariants as spot
-use Rattle.disk.specs.declared.refusal.Outcome.TheVariants.{Done}
+use Rattle.disk.specs.Geometry.{Found}
 use Rattle.label.specs.declared.fields.Label as bytes
 use Rattle.label.proofs.Counts.{same_says}
 use Rattle.redo.specs.Decide.{believed}
@@ -139,11 +137,11 @@ module _ (z : Shelf) (absent : ℕ) (l : bytes.Label) (work : List ℕ) (mask fi
 
       module _ (d : ℕ) (hd : d < slots z) (off : Label.believed (size z) Q d t ≡ false) (j : ℕ) (hj : j < z.c) where
         -- and nothing is in its way
-        pub can_rebuild : Fill.rebuild_answer l absent G d t j work img ≡ Done
+        pub can_rebuild : Fill.rebuild_answer l absent G d t j work img ≡ Ok tt
         unfolding Fill.rebuild_answer shown_answer part_of in_range_with
         can_rebuild =
             let r : ℕ = shard_of (slots z) t d in
-            let there : found (in_range G) (ltb t (stripes_of G) && ltb d (slots z)) r ≡ spot.At r = rw (in_limits z, lt-ltb t (stripes_of G) ht, lt-ltb d (slots z) hd) in
+            let there : found (in_range G) (ltb t (stripes_of G) && ltb d (slots z)) r ≡ Ok r = rw (in_limits z, lt-ltb t (stripes_of G) ht, lt-ltb d (slots z) hd) in
             let split : splits (slots z) l.k ≡ true = ap (splits (slots z)) k_is ∙ and_right (in_range G) (splits (slots z) z.k) z.range in
             let few : few_lost (slots z) l.k t th ≡ true = ap (λ (k : ℕ). few_lost (slots z) k t th) k_is ∙ few_lost_lem z t th ∙ few_gone in
             let one : 1 * sector_bytes ≡ sector_bytes = omega arith in

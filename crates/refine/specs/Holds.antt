@@ -1,6 +1,6 @@
 -- WHAT IS TRUE OF THE DISKS, in the words of the bytes: what it means that no label on any disk lies, also while a write is under way, and that a label has its shape; each follows from the protocol's
 -- words for it (`Truthful` and `OwnTrue` of its Kept, `Shape`). Assumes nothing.
-use Rattle.std.specs.Prelude.{◌≡◌, ◌⊎◌, Bool, true, false}
+use Rattle.std.specs.Prelude.{◌≡◌, ◌⊎◌, Bool, true, false, Some}
 use Rattle.std.proofs.Math.Bool.{◌&&◌}
 use mathlib.Core.List.{List}
 use Prim.Native.Nat.{ℕ, suc, ◌+◌, ◌≤◌, ◌<◌}
@@ -12,7 +12,6 @@ use Rattle.disk.specs.Image.{sector}
 use Rattle.disk.specs.Mask.{in_mask}
 use Rattle.label.specs.Newest.{copy_of}
 use Rattle.label.specs.declared.fields.Label as bytes
-use Rattle.label.specs.declared.codec.Decoded.TheVariants.{Valid}
 use Rattle.record.specs.Stamp.{stamp_at, zero_stamp, later_of}
 use Rattle.record.specs.Tail.{tail_at, may_be}
 use Rattle.record.specs.Log.{restore_of}
@@ -86,13 +85,13 @@ pub record NoLies (z : Shelf) (p : View Sector) (img : List ℕ) : Type 0 where
   pub settled : ℕ
   pub out : ℕ → Bool
   pub few_out : few_of z out ≡ true
-  pub everyone : (d : ℕ) → d < slots z → out d ≡ false → 0 < settled → (s : ℕ) × (a : bytes.Label) × (copy_of (geometry z) img d s ≡ Valid a) × (settled ≤ a.generation)
-  pub few : (d s : ℕ) (a : bytes.Label) → d < slots z → s < 2 → copy_of (geometry z) img d s ≡ Valid a → settled ≤ a.generation → few_of z (in_mask a.out) ≡ true
+  pub everyone : (d : ℕ) → d < slots z → out d ≡ false → 0 < settled → (s : ℕ) × (a : bytes.Label) × (copy_of (geometry z) img d s ≡ Some a) × (settled ≤ a.generation)
+  pub few : (d s : ℕ) (a : bytes.Label) → d < slots z → s < 2 → copy_of (geometry z) img d s ≡ Some a → settled ≤ a.generation → few_of z (in_mask a.out) ≡ true
   pub stripe : ℕ
   pub changes : ℕ → Bool
   pub stamp : Stamp
   pub elsewhere : Elsewhere z p stripe changes
-  pub right : (d s : ℕ) (a : bytes.Label) → d < slots z → s < 2 → copy_of (geometry z) img d s ≡ Valid a → settled ≤ a.generation → Truthful z p stripe changes stamp img a
+  pub right : (d s : ℕ) (a : bytes.Label) → d < slots z → s < 2 → copy_of (geometry z) img d s ≡ Some a → settled ≤ a.generation → Truthful z p stripe changes stamp img a
 
 -- A LABEL THAT A STATE HOLDS IS TRUE, whatever a cut leaves of the disks
 pub record HeldTrue (z : Shelf) (p : View Sector) (w : World Sector) (a : bytes.Label) : Type 0 where
@@ -104,8 +103,8 @@ pub record HeldTrue (z : Shelf) (p : View Sector) (w : World Sector) (a : bytes.
 
 -- THE SHAPE OF A LABEL (document 02, C6): where one of the two sectors is a valid copy, each is zeros or a valid copy, and two copies follow each other. (A disk without a valid copy may hold anything.)
 pub record Follows (z : Shelf) (img : List ℕ) (d : ℕ) : Type 0 where
-  pub calm : (s o : ℕ) (b : bytes.Label) → s < 2 → o < 2 → copy_of (geometry z) img d o ≡ Valid b → (sector z.sectors img d s ≡ replicate sector_bytes 0) ⊎ ((a : bytes.Label) × (copy_of (geometry z) img d s ≡ Valid a))
-  pub follow : (a b : bytes.Label) → copy_of (geometry z) img d 0 ≡ Valid a → copy_of (geometry z) img d 1 ≡ Valid b → (a.generation ≡ suc b.generation) ⊎ (b.generation ≡ suc a.generation)
+  pub calm : (s o : ℕ) (b : bytes.Label) → s < 2 → o < 2 → copy_of (geometry z) img d o ≡ Some b → (sector z.sectors img d s ≡ replicate sector_bytes 0) ⊎ ((a : bytes.Label) × (copy_of (geometry z) img d s ≡ Some a))
+  pub follow : (a b : bytes.Label) → copy_of (geometry z) img d 0 ≡ Some a → copy_of (geometry z) img d 1 ≡ Some b → (a.generation ≡ suc b.generation) ⊎ (b.generation ≡ suc a.generation)
 
 -- ---- WHAT START-UP DECIDES where the last write is whole in the log
 

@@ -2,13 +2,12 @@
 -- of the caller and exchanged disks in between, and the host's view beside them. The caller hands back the state and the work area that it was handed last.
 -- What a call does to the view is said in the words of its answer (`Saw`). A repair is always refused, since no sector changes by itself.
 -- Assumes nothing.
-use Rattle.std.specs.Prelude.{◌≡◌, ◌⊎◌, Bool, false, ℕ, ◌+◌, ◌<◌, ◌/◌, ◌%◌, length}
+use Rattle.std.specs.Prelude.{◌≡◌, ◌⊎◌, Bool, false, ℕ, ◌+◌, ◌<◌, ◌/◌, ◌%◌, length, Ok, Err}
 use Rattle.std.proofs.Math.Bool.{true}
 use mathlib.Core.List.{List, [], ◌++◌}
 use Rattle.disk.specs.Mask.{in_mask}
 use Rattle.disk.specs.declared.geometry.Geometry.{Geometry}
-use Rattle.disk.specs.declared.refusal.Outcome.{Outcome}
-use Rattle.disk.specs.declared.refusal.Outcome.TheVariants.{Done, Refused}
+use Rattle.disk.specs.Refusal.{Outcome}
 use Rattle.label.specs.Bytes.{all_zero}
 use Rattle.protocol.specs.World.{World, Possible, after, Always}
 use Rattle.protocol.specs.Log.{Write}
@@ -23,15 +22,15 @@ use Rattle.codecs.specs.Labels.{ours, label_of}
 use Rattle.stages.specs.declared.state.State.{State}
 use Rattle.stages.specs.declared.state.Kind.{Kind}
 use Rattle.stages.specs.declared.state.Kind.TheVariants.{Nothing, Idle, Creating, Starting, Labelling, Writing, Beginning, Filling}
-use Rattle.stages.specs.declared.state.Answer.{Answer}
-use Rattle.stages.specs.declared.state.Answer.TheVariants as answer
+use Rattle.stages.specs.Told.{Answer}
+use Rattle.stages.specs.Told as answer
 use Rattle.requests.specs.Begun.{work_bytes}
 use Rattle.requests.specs.Create.{create_of}
 use Rattle.requests.specs.Start.{start_of}
 use Rattle.requests.specs.TakeOut.{take_out_of}
 use Rattle.requests.specs.Step.{step_with}
 use Rattle.requests.specs.Ready.{is_idle, ready_of}
-use Rattle.requests.specs.declared.begun.Begun.{Begun}
+use Rattle.requests.specs.Begun.{Begun}
 use Rattle.rebuilds.specs.Begin.{begin_of}
 use Rattle.rebuilds.specs.On.{on_of}
 use Rattle.blocks.specs.Slots.{too_few}
@@ -51,6 +50,7 @@ use Rattle.refine.specs.Chain.{Heard, outs, Reached, Tie}
 use Rattle.refine.specs.Chain as chain
 use Rattle.refine.specs.Refills.{Refilling}
 use Rattle.refine.specs.Swaps.{Exchanged, new_disk}
+use Rattle.requests.specs.Begun.{state_of}
 
 -- ---- THE CALLS
 
@@ -63,19 +63,16 @@ pub data Time : Type 1 where
   at : World Sector → List ℕ → Held → Time
 
 -- the state of a request that was accepted, with the work area that was lent; a refusal leaves what was held
-abbrev pub held_by : Outcome → Held → State → List ℕ → Held
-held_by Done h s work = has s work
-held_by (Refused why) h s work = h
-
 abbrev pub held : Held → Begun → List ℕ → Held
-held h b work = held_by b.outcome h b.state work
+held h (Ok s) work = has s work
+held h (Err why) work = h
 
 pub data HostCalls (z : Shelf) : Time → Time → Type 1 where
   -- create and start begin anew, in any state, whatever state they are handed (its bytes may be anything). On an image of zeros create is called for this shelf, later with any numbers; start with any
   -- numbers, but if it is told another S it is not told that slot 0 is absent (Other says why)
-  creates : {w : World Sector} {img : List ℕ} {h : Held} (s : State) (work : List ℕ) → HostCalls z (at w img h) (at w img (held h (create_of s z.k z.m z.c z.sectors z.number img (length work)) work))
-  starts : {w : World Sector} {img : List ℕ} {h : Held} (s : State) (g : Geometry) (absent : ℕ) (work : List ℕ) → Sits z g absent → HostCalls z (at w img h) (at w img (held h (start_of s g absent img (length work)) work))
-  creates_late : {w : World Sector} {img : List ℕ} {h : Held} (s : State) (k m c S number : ℕ) (work : List ℕ) → all_zero img ≡ false → HostCalls z (at w img h) (at w img (held h (create_of s k m c S number img (length work)) work))
+  creates : {w : World Sector} {img : List ℕ} {h : Held} (s : State) (work : List ℕ) → HostCalls z (at w img h) (at w img (held h (create_of z.k z.m z.c z.sectors z.number img (length work)) work))
+  starts : {w : World Sector} {img : List ℕ} {h : Held} (s : State) (g : Geometry) (absent : ℕ) (work : List ℕ) → Sits z g absent → HostCalls z (at w img h) (at w img (held h (start_of g absent img (length work)) work))
+  creates_late : {w : World Sector} {img : List ℕ} {h : Held} (s : State) (k m c S number : ℕ) (work : List ℕ) → all_zero img ≡ false → HostCalls z (at w img h) (at w img (held h (create_of k m c S number img (length work)) work))
   takes_out : {w : World Sector} {img : List ℕ} {s : State} {work : List ℕ} (d : ℕ) → HostCalls z (at w img (has s work)) (at w img (held (has s work) (take_out_of s d img (length work)) work))
   -- the disk of slot d is readied, and the label then says that it is being rebuilt
   begins : {w : World Sector} {img : List ℕ} {s : State} {work : List ℕ} (d : ℕ) → HostCalls z (at w img (has s work)) (at w img (held (has s work) (begin_of s d img (length work)) work))
@@ -85,7 +82,7 @@ pub data HostCalls (z : Shelf) : Time → Time → Type 1 where
   writes : {w : World Sector} {img : List ℕ} {s : State} {work : List ℕ} (b : ℕ) (given : List ℕ) (s' : State) (then : List ℕ) → Bytes given → Bytes then
       → AfterWrite (write_answer s.now s.kind s.absent s.count img b (length given) (length work)) s b given img work s' then → HostCalls z (at w img (has s work)) (at w img (has s' then))
   -- stripe t is looked at, and mended if a shard of it is wrong: what repair's contract says
-  repairs : {w : World Sector} {img : List ℕ} {s : State} {work : List ℕ} (t : ℕ) (b : Begun) (then : List ℕ) → Repairs s t img work b then → HostCalls z (at w img (has s work)) (at w img (has b.state then))
+  repairs : {w : World Sector} {img : List ℕ} {s : State} {work : List ℕ} (t : ℕ) (b : Begun) (then : List ℕ) → Repairs s t img work b then → HostCalls z (at w img (has s work)) (at w img (has (state_of s b) then))
   steps : {w w' : World Sector} {img : List ℕ} {s : State} {work : List ℕ} → Heard z w (step_with s img work).stepped.answer (step_with s img work).image w'
       → HostCalls z (at w img (has s work)) (at w' (step_with s img work).image (has (step_with s img work).stepped.state work))
   cut : {w : World Sector} {img : List ℕ} {h : Held} (left : List ℕ) → Disks z left → Possible w (cur_of z left) → HostCalls z (at w img h) (at (after (cur_of z left)) left none)
@@ -101,7 +98,7 @@ pub data HostChain (z : Shelf) : Time → Time → Type 1 where
 abbrev pub sets_call : {z : Shelf} {a b : Time} → HostCalls z a b → List (ℕ → Bool)
 sets_call (creates s work) = []
 sets_call (creates_late s k m c S number work e) = []
-sets_call (starts {img = img} s g absent work sits) = outs (start_of s g absent img (length work))
+sets_call (starts {img = img} s g absent work sits) = outs (start_of g absent img (length work))
 sets_call (takes_out {img = img} {s = s} {work = work} d) = outs (take_out_of s d img (length work))
 sets_call (begins d) = []
 sets_call (ons b) = []
@@ -150,8 +147,8 @@ SawStep Filling a p q = q ≡ p
 
 -- an accepted write opens: the list with the block replaced is the new one
 abbrev pub SawAsked : Outcome → ℕ → ℕ → (ℕ → Sector) → View Sector → View Sector → Type 0
-SawAsked Done t i x p q = (v : Host Sector) × (p ≡ sure v) × (q ≡ open_write v (replace v t (one_block i x)))
-SawAsked (Refused why) t i x p q = q ≡ p
+SawAsked (Ok tt) t i x p q = (v : Host Sector) × (p ≡ sure v) × (q ≡ open_write v (replace v t (one_block i x)))
+SawAsked (Err why) t i x p q = q ≡ p
 
 abbrev pub Saw : {z : Shelf} {a b : Time} → HostCalls z a b → View Sector → View Sector → Type 0
 Saw (creates s work) p q = q ≡ p
@@ -242,7 +239,7 @@ module _ (z : Shelf) (F : Family z) (first : Machine Sector) where
     abbrev pub asked : Outcome
     asked = write_answer s.now s.kind s.absent s.count img b (length given) (length work)
 
-    pub rest_of : asked ≡ Done → is_idle s.kind ≡ true
+    pub rest_of : asked ≡ Ok tt → is_idle s.kind ≡ true
     unfolding block_answer stamp_left
     rest_of e =
         (answered_done (too_few s.now s.absent) _ (is_idle s.kind) _ (sizes (s.now.k + s.now.m) s.now.c (length given) (length work))

@@ -1,7 +1,7 @@
 -- The labels that the code reads are the labels that the protocol reads. `Rattle.label` finds the newest label of each disk and
 -- of the shelf among the bytes of the image; the protocol finds them among its places. If the shelf's label names this shelf
 -- and every present disk has a label that agrees with it, both find the same. Assumes nothing.
-use Rattle.std.specs.Prelude.{◌≡◌, Bool, ◌&&◌, ℕ, ◌<◌, ◌^◌, ltb, eqb, leb, length, drop}
+use Rattle.std.specs.Prelude.{◌≡◌, Bool, ◌&&◌, ℕ, ◌<◌, ◌^◌, ltb, eqb, leb, length, drop, Some}
 use Rattle.std.proofs.Math.Path.{refl, ap}
 use Rattle.std.proofs.Common.{arith, eq-eqb}
 use Rattle.std.proofs.Math.Bool.{true, false, cond}
@@ -17,8 +17,7 @@ use Rattle.label.specs.Fields.{geometry_of, fits_of}
 use Rattle.label.specs.Valid.{label_at}
 use Rattle.label.specs.Newest.{shelf_label, same_shelf, agreed}
 use Rattle.label.specs.declared.fields.Label as bytes
-use Rattle.label.specs.declared.codec.Decoded.{Decoded}
-use Rattle.label.specs.declared.codec.Decoded.TheVariants.{Valid}
+use Rattle.label.specs.Fields.{Decoded}
 use Rattle.label.proofs.Counts.{SameShelf, shelf_says, present_says, disk_says, copy_says}
 use Rattle.protocol.specs.World.{Image}
 use Rattle.protocol.specs.Label.{Label}
@@ -48,7 +47,7 @@ read_bytes g img d s h = go (fits_image g (length img) && on_shelf g d s)
     go false = bytes_none
 
 -- the shelf's label, of any image of bytes, names a shelf
-pub named : (g : Geometry) (img : List ℕ) (absent : ℕ) (l : bytes.Label) → Bytes img → shelf_label g img absent ≡ Valid l → (fits_of l ≡ true) × (l.shelf < 2 ^ 64)
+pub named : (g : Geometry) (img : List ℕ) (absent : ℕ) (l : bytes.Label) → Bytes img → shelf_label g img absent ≡ Some l → (fits_of l ≡ true) × (l.shelf < 2 ^ 64)
 unfolding Bytes label_at
 named g img absent l small e =
     let s = shelf_says g img absent l e in
@@ -74,7 +73,7 @@ shelf_ours l e h = same_shelf_lem (Labels.fields_of (shelf_of l e h) 0 (no_label
 
 -- a label has a generation from 1 on
 abbrev pub Aged : Decoded → Type 0
-Aged x = (l : bytes.Label) → x ≡ Valid l → 0 < l.generation
+Aged x = (l : bytes.Label) → x ≡ Some l → 0 < l.generation
 
 module _ (z : Shelf) where
   -- the newer of what two sectors say, in the protocol's words
@@ -86,7 +85,7 @@ pub record Led (z : Shelf) (img : List ℕ) (absent : ℕ) (A : ℕ → Bool) (l
   pub disks : Disks z img
   pub are : (d : ℕ) → d < slots z → A d ≡ in_mask absent d
   pub own : ours z l ≡ true
-  pub leads : shelf_label (geometry z) img absent ≡ Valid l
+  pub leads : shelf_label (geometry z) img absent ≡ Some l
   pub agree : agreed (geometry z) img absent l ≡ true
 
 module _ (z : Shelf) (img : List ℕ) (absent : ℕ) (A : ℕ → Bool) (l : bytes.Label) (led : Led z img absent A l) where

@@ -1,6 +1,6 @@
 -- WHAT IS TOLD OF DISKS THAT WERE EXCHANGED WHILE NO PROGRAM RAN: until they are told of, the old disks of their slots are told to be there still. Beside those slots the one world reads as the other, and
 -- holds after a cut only what the other may. The new disks have no valid label, so that a start-up that does not call such a slot absent is refused. Assumes nothing.
-use Rattle.std.specs.Prelude.{◌≡◌, ◌⊎◌, Bool, ◌&&◌, ℕ, zero, suc, ◌<◌, replicate}
+use Rattle.std.specs.Prelude.{◌≡◌, ◌⊎◌, Bool, ◌&&◌, ℕ, zero, suc, ◌<◌, replicate, Err, Some, None}
 use Rattle.std.proofs.Math.Path.{refl, ap}
 use Rattle.std.proofs.Common.{sym, subst, ◌∙◌, ⊎_elim, inl, inr, true≢false, arith}
 use Rattle.std.proofs.Math.Bool.{true, false}
@@ -14,18 +14,16 @@ use Rattle.disk.specs.declared.geometry.Geometry.{Geometry}
 use Rattle.disk.specs.declared.refusal.Refusal.TheVariants.{BadImage, NoLabel}
 use Rattle.label.specs.Newest.{newer, newest_of, copy_of, disk_label, shelf_label, agreed}
 use Rattle.label.specs.declared.fields.Label as bytes
-use Rattle.label.specs.declared.codec.Decoded.{Decoded}
-use Rattle.label.specs.declared.codec.Decoded.TheVariants.{Valid, Nothing}
+use Rattle.label.specs.Fields.{Decoded}
 use Rattle.label.proofs.Counts.{all_not, agreed_says}
 use Rattle.rounds.specs.Survey.{fits_shelf, labelled, table, unless, survey_of}
-use Rattle.rounds.specs.declared.plan.Survey.TheVariants as survey
 use Rattle.protocol.specs.World.{Place, slot, World}
 use Rattle.codecs.specs.Sector.{Sector}
 use Rattle.codecs.specs.Shelf.{Shelf, slots, geometry, limits}
 use Rattle.shelf.specs.Laws.{Legal}
 use Rattle.stages.specs.declared.state.State.{State}
-use Rattle.stages.specs.declared.state.Answer.{Answer}
-use Rattle.stages.specs.declared.state.Answer.TheVariants as answer
+use Rattle.stages.specs.Told.{Answer}
+use Rattle.stages.specs.Told as answer
 use Rattle.refine.specs.Disks.{Disks, cur_of, image_fits}
 use Rattle.refine.specs.Other.{unless_false}
 use Rattle.refine.specs.Holds.{Follows}
@@ -60,25 +58,25 @@ module _ (z : Shelf) where
     pub disks : Disks z img
     pub reads : w.cur ≡ cur_of z img
     pub alike : (e u : ℕ) → e < slots z → u < z.sectors → A e ≡ false → sector z.sectors img e u ≡ sector z.sectors img0 e u
-    pub blank : (e o : ℕ) → A e ≡ true → o < 2 → copy_of (geometry z) img e o ≡ Nothing
+    pub blank : (e o : ℕ) → A e ≡ true → o < 2 → copy_of (geometry z) img e o ≡ None
 
   -- a start-up that does not call such a slot absent is refused: the slot has no label
-  pub not_valid : (a : bytes.Label) → ◌≡◌ {A = Decoded} Nothing (Valid a) → ⊥
+  pub not_valid : (a : bytes.Label) → ◌≡◌ {A = Decoded} None (Some a) → ⊥
   not_valid a e = let i : ◌≡◌ {A = ℕ} 0 1 = cc in absurd (omega arith)
 
-  pub bare : (img : List ℕ) (e : ℕ) → ((o : ℕ) → o < 2 → copy_of (geometry z) img e o ≡ Nothing) → disk_label (geometry z) img e ≡ Nothing
+  pub bare : (img : List ℕ) (e : ℕ) → ((o : ℕ) → o < 2 → copy_of (geometry z) img e o ≡ None) → disk_label (geometry z) img e ≡ None
   unfolding disk_label newest_of
-  bare img e blank = λ j. newer (newer Nothing (blank 0 (omega arith) j)) (blank 1 (omega arith) j)
+  bare img e blank = λ j. newer (newer None (blank 0 (omega arith) j)) (blank 1 (omega arith) j)
 
-  pub unlabelled : (img : List ℕ) → Disks z img → (absent e : ℕ) → e < slots z → in_mask absent e ≡ false → ((o : ℕ) → o < 2 → copy_of (geometry z) img e o ≡ Nothing) → survey_of (geometry z) img absent ≡ survey.Refused NoLabel
+  pub unlabelled : (img : List ℕ) → Disks z img → (absent e : ℕ) → e < slots z → in_mask absent e ≡ false → ((o : ℕ) → o < 2 → copy_of (geometry z) img e o ≡ None) → survey_of (geometry z) img absent ≡ Err NoLabel
   unfolding survey_of
   unlabelled img disks absent e i p blank =
       ap (λ (b : Bool). unless b BadImage (table (geometry z) img absent (shelf_label (geometry z) img absent))) (image_fits z img disks)
       ∙ unless_false (labelled (geometry z) img absent (shelf_label (geometry z) img absent)) NoLabel _ (no (shelf_label (geometry z) img absent))
     where
       no : (x : Decoded) → labelled (geometry z) img absent x ≡ false
-      no Nothing = all_not (in_mask absent) (slots z) e i p
-      no (Valid lead) = by (agreed (geometry z) img absent lead) refl
+      no None = all_not (in_mask absent) (slots z) e i p
+      no (Some lead) = by (agreed (geometry z) img absent lead) refl
         where
           by : (b : Bool) → agreed (geometry z) img absent lead ≡ b → (agreed (geometry z) img absent lead && fits_shelf (geometry z) lead) ≡ false
           by true q = let y = agreed_says (geometry z) img absent lead q e i p in absurd (not_valid y.label (sym (bare img e blank) ∙ y.is))
@@ -122,6 +120,6 @@ follows_alike z x y dx dy d i h f =
     let c : (o : ℕ) → o < 2 → copy_of (geometry z) x d o ≡ copy_of (geometry z) y d o = λ o l. copy_alike z x y dx dy d o i l (h o l) in
     record {
       calm = λ s o a k l q.
-          ⊎_elim (λ (e : sector z.sectors y d s ≡ replicate sector_bytes 0). inl (h s k ∙ e)) (λ (e : (b : bytes.Label) × (copy_of (geometry z) y d s ≡ Valid b)). inr (e.0, c s k ∙ e.1)) (f.calm s o a k l (sym (c o l) ∙ q));
+          ⊎_elim (λ (e : sector z.sectors y d s ≡ replicate sector_bytes 0). inl (h s k ∙ e)) (λ (e : (b : bytes.Label) × (copy_of (geometry z) y d s ≡ Some b)). inr (e.0, c s k ∙ e.1)) (f.calm s o a k l (sym (c o l) ∙ q));
       follow = λ a b p q. f.follow a b (sym (c 0 (omega arith)) ∙ p) (sym (c 1 (omega arith)) ∙ q);
     }

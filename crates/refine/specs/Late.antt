@@ -1,13 +1,12 @@
 -- DISKS THAT WERE EXCHANGED AND ARE NOT TOLD OF YET: while no program runs, while a start-up runs that was told that their slots are absent, and at rest where they are out. A call in a world that may hold
 -- less after a cut can be told in the one that may hold more; a cut leaves the old disks as they are read; a start-up that is not refused, and its steps, are told on the old disks; and when it comes to
 -- rest, the exchanges are told, one after the other. Assumes nothing.
-use Rattle.std.specs.Prelude.{◌≡◌, ◌⊎◌, Bool, not, ◌&&◌, List, ℕ, ◌+◌, ◌<◌, eqb, length}
+use Rattle.std.specs.Prelude.{◌≡◌, ◌⊎◌, Bool, not, ◌&&◌, List, ℕ, ◌+◌, ◌<◌, eqb, length, Ok}
 use Rattle.std.proofs.Math.Path.{refl, sym, ap}
 use Rattle.std.proofs.Common.{◌∙◌, true≢false, arith}
 use Rattle.std.proofs.Math.Bool.{true, false, false≢true}
 use Rattle.disk.specs.Mask.{in_mask}
 use Rattle.disk.specs.Image.{sector, Shape}
-use Rattle.disk.specs.declared.refusal.Outcome.TheVariants.{Done}
 use Rattle.redo.specs.Decide.{looked}
 use Rattle.protocol.specs.World.{World, Possible}
 use Rattle.protocol.specs.Machine.{Machine, View}
@@ -20,7 +19,7 @@ use Rattle.stages.specs.declared.state.Kind.{Kind}
 use Rattle.stages.specs.declared.state.Kind.TheVariants.{Idle, Creating, Starting, Labelling, Writing, Beginning, Filling}
 use Rattle.stages.specs.declared.state.Kind.TheVariants as kind
 use Rattle.requests.specs.Ready.{is_idle}
-use Rattle.requests.specs.declared.begun.Begun.{Begun}
+use Rattle.requests.specs.Begun.{Begun}
 use Rattle.blocks.specs.Slots.{too_few}
 use Rattle.blocks.specs.Answers.{serves, look_answer, sizes, block_answer, first_done, answered_done}
 use Rattle.blocks.specs.Read.{read_answer}
@@ -135,7 +134,7 @@ module _ (z : Shelf) (F : Family z) (first : Machine Sector) where
     late_busy e = false≢true (sym (ap is_idle up.0) ∙ e)
 
     -- no read is answered meanwhile
-    pub late_unread : (b : ℕ) (buf : List ℕ) → read_answer s.now s.kind s.absent b (length img) (length buf) (length work) ≡ Done → ⊥
+    pub late_unread : (b : ℕ) (buf : List ℕ) → read_answer s.now s.kind s.absent b (length img) (length buf) (length work) ≡ Ok tt → ⊥
     unfolding block_answer
     late_unread b buf ok =
         false≢true

@@ -1,7 +1,7 @@
 -- A REPAIR OF A STRIPE THAT IS THE LIST'S finds nothing to mend: a repair that passes the tests has every slot in, so every strip of the
 -- stripe is believed; where each believed strip is what the host's list asks for, the verdict is Sound, and the repair is refused.
 -- Assumes nothing.
-use Rattle.std.specs.Prelude.{◌≡◌, refl, Bool, true, false, ◌&&◌, ◌||◌, List, ℕ, ◌+◌, ◌-◌, ◌*◌, ◌<◌, ltb, length}
+use Rattle.std.specs.Prelude.{◌≡◌, refl, Bool, true, false, ◌&&◌, ◌||◌, List, ℕ, ◌+◌, ◌-◌, ◌*◌, ◌<◌, ltb, length, Ok, Err}
 use Rattle.std.proofs.Math.Path.{sym}
 use Rattle.std.proofs.Common.{ap, subst, ◌∙◌, inl, arith, lit<, ltb-true, eqb-true}
 use Rattle.std.proofs.lemmas.Bool.{false≢true}
@@ -13,8 +13,7 @@ use Rattle.disk.specs.Geometry.{stripes_of}
 use Rattle.disk.specs.Mask.{in_mask, in_past, mask_below}
 use Rattle.disk.specs.declared.geometry.Geometry.{Geometry}
 use Rattle.disk.specs.declared.refusal.Refusal.{Refusal}
-use Rattle.disk.specs.declared.refusal.Outcome.{Outcome}
-use Rattle.disk.specs.declared.refusal.Outcome.TheVariants.{Done, Refused}
+use Rattle.disk.specs.Refusal.{Outcome}
 use Rattle.label.specs.Fields.{geometry_of}
 use Rattle.label.specs.declared.fields.Label as bytes
 use Rattle.label.proofs.Counts.{same_says}
@@ -30,7 +29,7 @@ use Rattle.stripes.specs.Slice.{shard_bytes}
 use Rattle.strips.specs.Whole.{stripe_seen}
 use Rattle.requests.specs.Begun.{begun, first}
 use Rattle.requests.specs.Ready.{is_idle, ready_of}
-use Rattle.requests.specs.declared.begun.Begun.{Begun}
+use Rattle.requests.specs.Begun.{Begun}
 use Rattle.blocks.specs.Slots.{missing_at, missing, too_few, none_missing, all_slots}
 use Rattle.blocks.specs.Answers.{stripe_answer, first_done, answered_done}
 use Rattle.blocks.specs.Write.{stamp_left}
@@ -38,6 +37,7 @@ use Rattle.blocks.specs.Repair.{may_repair, mend_answer, mended, RepairedOf, Rep
 use Rattle.stages.specs.declared.state.State.{State}
 use Rattle.refine.specs.Given.{shelf_geometry}
 use Rattle.refine.specs.Disks.{Disks, cur_of}
+use Rattle.requests.specs.Begun.{outcome_of}
 
 -- ---- what the tests say
 
@@ -47,7 +47,7 @@ pub record Whole (s : State) (t : ℕ) : Type 0 where
   pub at_rest : is_idle s.kind ≡ true
   pub none_out : none_missing s.now s.absent ≡ true
 
-pub may_whole : (s : State) (img : List ℕ) (t : ℕ) → may_repair s.now s.kind s.absent s.count t img ≡ Done → Whole s t
+pub may_whole : (s : State) (img : List ℕ) (t : ℕ) → may_repair s.now s.kind s.absent s.count t img ≡ Ok tt → Whole s t
 unfolding stripe_answer
 may_whole s img t e =
     let l = s.now in
@@ -73,10 +73,10 @@ in_all l absent e d h =
 
 -- a repair that the tests refuse
 pub asked_refused : (s : State) (t : ℕ) (img work : List ℕ) (b : Begun) (after : List ℕ) → Repairs s t img work b after
-    → (why : Refusal) → may_repair s.now s.kind s.absent s.count t img ≡ Refused why → b.outcome ≡ Refused why
+    → (why : Refusal) → may_repair s.now s.kind s.absent s.count t img ≡ Err why → outcome_of b ≡ Err why
 asked_refused s t img work b after r why e =
-    ap (λ (x : Begun). x.outcome) r.answers
-    ∙ ap (λ (o : Outcome). (begun (first o (mend_answer r.found s.now (length work))) s (mended s t r.found)).outcome) e
+    ap (λ (x : Begun). outcome_of x) r.answers
+    ∙ ap (λ (o : Outcome). outcome_of (begun (first o (mend_answer r.found s.now (length work))) (mended s t r.found))) e
 
 -- ---- in the shelf's numbers
 
@@ -94,16 +94,16 @@ module _ (z : Shelf) (s : State) (own : ours z s.now ≡ true) (t : ℕ) (w : Wh
 
 -- what the code says of the stripe, and the stripe mended
 pub repaired_here : (z : Shelf) (l : bytes.Label) → ours z l ≡ true → (img : List ℕ) (t : ℕ) (found : Verdict) (stripe : List ℕ) → RepairedOf l img t found stripe
-    → Repaired z.k (slots z - z.k) (shard_bytes z) found (stripe_seen (geometry z) img (all_slots (slots z)) t) stripe
+    → Repaired z.k (slots z - z.k) (shard_bytes z) (Ok found) (stripe_seen (geometry z) img (all_slots (slots z)) t) stripe
 repaired_here z l own img t found stripe r =
     let same = same_says (fields_of z 0 (no_label z)) l own in
-    let P : ℕ → ℕ → ℕ → ℕ → Type 0 = λ k m c S. Repaired k m (c * sector_bytes) found (stripe_seen (record { n = k + m; c = c; sectors = S }) img (all_slots (k + m)) t) stripe in
+    let P : ℕ → ℕ → ℕ → ℕ → Type 0 = λ k m c S. Repaired k m (c * sector_bytes) (Ok found) (stripe_seen (record { n = k + m; c = c; sectors = S }) img (all_slots (k + m)) t) stripe in
     let a : P z.k l.m l.c l.sectors = subst (λ (k : ℕ). P k l.m l.c l.sectors) (sym same.same_k) r in
     let b : P z.k z.m l.c l.sectors = subst (λ (m : ℕ). P z.k m l.c l.sectors) (sym same.same_m) a in
     let c : P z.k z.m z.c l.sectors = subst (λ (c : ℕ). P z.k z.m c l.sectors) (sym same.same_c) b in
     let d : P z.k z.m z.c z.sectors = subst (P z.k z.m z.c) (sym same.same_sectors) c in
     let many : z.m ≡ slots z - z.k = omega arith in
-    subst (λ (m : ℕ). Repaired z.k m (shard_bytes z) found (stripe_seen (geometry z) img (all_slots (slots z)) t) stripe) many d
+    subst (λ (m : ℕ). Repaired z.k m (shard_bytes z) (Ok found) (stripe_seen (geometry z) img (all_slots (slots z)) t) stripe) many d
 
 -- ---- the verdict
 

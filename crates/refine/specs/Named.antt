@@ -1,6 +1,6 @@
 -- NO DISK EVER NAMES ANOTHER SHELF: where no sector of the disks is another shelf's label, whatever a cut leaves, none is after an
 -- action of the protocol's program. Assumes nothing.
-use Rattle.std.specs.Prelude.{◌≡◌, refl, Bool, cond, not, ◌||◌, ℕ, zero, suc, ◌+◌, ◌-◌, ◌*◌, ◌<◌, ◌/◌, ◌%◌, ◌^◌, ltb}
+use Rattle.std.specs.Prelude.{◌≡◌, refl, Bool, cond, not, ◌||◌, ℕ, zero, suc, ◌+◌, ◌-◌, ◌*◌, ◌<◌, ◌/◌, ◌%◌, ◌^◌, ltb, Some}
 use Rattle.std.proofs.Math.Path.{sym, ap, subst}
 use Rattle.std.proofs.Common.{◌∙◌, pow-suc, arith, eq-eqb}
 use Rattle.std.proofs.Math.Bool.{true, false}
@@ -13,7 +13,6 @@ use Rattle.label.specs.Bytes.{label_bytes, sealed}
 use Rattle.label.specs.Valid.{label_at, decode_of}
 use Rattle.label.specs.Newest.{same_shelf}
 use Rattle.label.specs.declared.fields.Label as bytes
-use Rattle.label.specs.declared.codec.Decoded.TheVariants.{Valid}
 use Rattle.label.proofs.Laws.{decode_says, zeros_nothing}
 use Rattle.protocol.specs.World.{Place, label, log, strip, slot, Image, update, update_cases, World, Action, put, flush, Sane, Always, always_put, always_flush}
 use Rattle.protocol.specs.Slots.{from}
@@ -47,7 +46,7 @@ use Rattle.refine.specs.Tied.{program_of}
 
 -- what it says as a label in its place, if it says anything, is this shelf's
 abbrev pub NamesIn : Shelf → Place → Sector → Type 0
-NamesIn z (label d b) x = (a : bytes.Label) → decode_of x.bytes d (sector_of b) ≡ Valid a → ours z a ≡ true
+NamesIn z (label d b) x = (a : bytes.Label) → decode_of x.bytes d (sector_of b) ≡ Some a → ours z a ≡ true
 NamesIn z (log d j) x = Unit {0}
 NamesIn z (strip d t j) x = Unit {0}
 

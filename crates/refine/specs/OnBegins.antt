@@ -1,6 +1,6 @@
 -- GOING ON WITH A REBUILD, accepted at rest: it can be carried out, what the program remembers beside it is what it remembers of that
 -- request, and the program accepts it too. Where the mark is T already, it has no strips: a flush, and then the label. Assumes nothing.
-use Rattle.std.specs.Prelude.{◌≡◌, Bool, ◌&&◌, ℕ, ◌+◌, ◌<◌, ◌^◌, eqb}
+use Rattle.std.specs.Prelude.{◌≡◌, Bool, ◌&&◌, ℕ, ◌+◌, ◌<◌, ◌^◌, eqb, Ok}
 use Rattle.std.proofs.Math.Path.{refl, ap}
 use Rattle.std.proofs.Common.{sym, ◌∙◌, arith}
 use Rattle.std.proofs.Math.Bool.{true, false, cond, not}
@@ -14,7 +14,6 @@ use Rattle.disk.specs.Tests.{and_left, and_right, both}
 use Rattle.disk.specs.Geometry.{in_range_with, stripes_of}
 use Rattle.disk.specs.Mask.{in_mask, without_slot, in_without, in_past, slots_below}
 use Rattle.disk.specs.declared.geometry.Geometry.{Geometry}
-use Rattle.disk.specs.declared.refusal.Outcome.TheVariants.{Done}
 use Rattle.label.specs.Fields.{no_slot, most_generation, geometry_of, rebuild_fits, fits_of}
 use Rattle.label.specs.declared.fields.Label as bytes
 use Rattle.label.proofs.Fits.{Fits, fits_says}
@@ -66,13 +65,13 @@ fits_next l d out r mark e i more low rebuild =
     (both (ltb out (2 ^ (l.k + l.m))) _ (lt-ltb out (2 ^ (l.k + l.m)) low) rebuild))))))
 
 -- it is accepted at rest
-pub on_rests : (l : bytes.Label) (kind : Kind) (absent : ℕ) (img : List ℕ) (room : ℕ) → on_answer l kind absent img room ≡ Done → is_idle kind ≡ true
+pub on_rests : (l : bytes.Label) (kind : Kind) (absent : ℕ) (img : List ℕ) (room : ℕ) → on_answer l kind absent img room ≡ Ok tt → is_idle kind ≡ true
 unfolding asked_on
 on_rests l kind absent img room e =
     (judged_done (too_few l absent) false (is_idle kind) (cannot_go_on l absent) (sized l room) (first_done (ready_of l kind absent img) (asked_on l (is_idle kind) absent room) e).1).free
 
 module _ (z : Shelf) (img : List ℕ) (disks : Disks z img) (s : State) (own : ours z s.now ≡ true) (b : ℕ) (work : List ℕ)
-    (ok : on_answer s.now s.kind s.absent img (length work) ≡ Done)
+    (ok : on_answer s.now s.kind s.absent img (length work) ≡ Ok tt)
     (dark : (d : ℕ) → d < slots z → in_mask s.absent d ≡ true → looked (size z) (label_of z s.now) d ≡ true → ⊥) where
   abbrev pub l : bytes.Label
   l = s.now

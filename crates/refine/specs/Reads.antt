@@ -1,6 +1,6 @@
 -- WHAT A READ SHOWS, at any moment of a chain of calls with writes, is the entry of the host's view. In the words of read's contract.
 -- Assumes nothing.
-use Rattle.std.specs.Prelude.{◌≡◌, ◌&&◌, ltb}
+use Rattle.std.specs.Prelude.{◌≡◌, ◌&&◌, ltb, Ok}
 use Rattle.std.proofs.Math.Path.{sym, subst}
 use Rattle.std.proofs.Common.{lt-ltb}
 use Rattle.std.proofs.Math.Bool.{Bool, true}
@@ -12,7 +12,6 @@ use Rattle.disk.specs.Tests.{both}
 use Rattle.disk.specs.Geometry.{stripes_of, block_inside}
 use Rattle.disk.specs.Mask.{in_mask}
 use Rattle.disk.specs.declared.geometry.Geometry.{Geometry}
-use Rattle.disk.specs.declared.refusal.Outcome.TheVariants.{Done}
 use Rattle.label.specs.Fields.{geometry_of}
 use Rattle.label.specs.declared.fields.Label as bytes
 use Rattle.label.proofs.Fits.{fits_says}
@@ -113,6 +112,6 @@ module _ (z : Shelf) (img : List ℕ) (s : State) (b : ℕ) (work buf : List ℕ
   Shown = (x : ℕ → Sector) × (program_of z M (cur_of z img) (read_block T I) ≡ (M, block x)) × (shown_of s.now s.absent (laid_by Writing s.cursor.stage s.marks.redo s.marks.stripe T) img work b ≡ strip_bytes x z.c)
 
 module _ (z : Shelf) (F : Family z) (first_one : Machine Sector) (p : View Sector) (w : World Sector) (img : List ℕ) (s : State) (b : ℕ) (work buf : List ℕ)
-    (ok : read_answer s.now s.kind s.absent b (length img) (length buf) (length work) ≡ Done) where
+    (ok : read_answer s.now s.kind s.absent b (length img) (length buf) (length work) ≡ Ok tt) where
   abbrev pub Right : Kind → Type 0
   Right k = shown_of s.now s.absent (laid_by k s.cursor.stage s.marks.redo s.marks.stripe (b / s.now.k)) img work b ≡ strip_bytes (list_of p (b / s.now.k) (b % s.now.k)) z.c

@@ -2,7 +2,7 @@
 -- the write of the accused shard, mended, that it makes, and it can be carried out. Whatever the strips hold: nothing is asked of them, nor
 -- of the host's list. And one that is refused is refused by the program too, with the same code for BAD_BLOCK and NOT_NOW, but for what the code alone looks at. In the
 -- words of repair's contract. Assumes nothing.
-use Rattle.std.specs.Prelude.{◌≡◌, Bool, cond, ◌&&◌, ◌||◌, ℕ, suc, ◌+◌, ◌*◌, ◌<◌, take}
+use Rattle.std.specs.Prelude.{◌≡◌, Bool, cond, ◌&&◌, ◌||◌, ℕ, suc, ◌+◌, ◌*◌, ◌<◌, take, Ok, Err}
 use Rattle.std.proofs.Math.Path.{refl, sym}
 use Rattle.std.proofs.Common.{◌∙◌}
 use Rattle.std.proofs.Math.Bool.{true, false, not}
@@ -14,8 +14,7 @@ use Rattle.disk.specs.Geometry.{stripes_of}
 use Rattle.disk.specs.Mask.{in_mask}
 use Rattle.disk.specs.declared.refusal.Refusal.{Refusal}
 use Rattle.disk.specs.declared.refusal.Refusal.TheVariants as why
-use Rattle.disk.specs.declared.refusal.Outcome.{Outcome}
-use Rattle.disk.specs.declared.refusal.Outcome.TheVariants.{Done, Refused}
+use Rattle.disk.specs.Refusal.{Outcome}
 use Rattle.label.specs.Fields.{geometry_of, fits_of}
 use Rattle.label.specs.Newest.{all_of}
 use Rattle.label.specs.declared.fields.Label as bytes
@@ -35,10 +34,10 @@ use Rattle.codecs.specs.Records.{counts}
 use Rattle.codecs.proofs.Records.{records}
 use Rattle.codecs.specs.Media.{stamps}
 use Rattle.shards.proofs.Even.{any_code, any_sectors}
-use Rattle.requests.specs.Begun.{begun}
+use Rattle.requests.specs.Begun.{begun, state_of}
 use Rattle.requests.specs.Begun as requests
 use Rattle.requests.specs.Ready.{is_idle, holding}
-use Rattle.requests.specs.declared.begun.Begun.{Begun}
+use Rattle.requests.specs.Begun.{Begun}
 use Rattle.blocks.specs.Slots.{none_missing}
 use Rattle.blocks.specs.Answers.{never}
 use Rattle.blocks.specs.Write.{stamp_left}
@@ -47,6 +46,7 @@ use Rattle.stages.specs.declared.state.State.{State}
 use Rattle.refine.specs.Disks.{Disks, cur_of, seen_of}
 use Rattle.refine.specs.Tied.{own_of, program_of}
 use Rattle.refine.specs.Mends.{Whole, may_whole, asked_refused, stripe_inside, none_missing_lem, all_believe}
+use Rattle.requests.specs.Begun.{outcome_of}
 
 -- THE WRITE that the protocol's program makes of a repair of stripe t, of what it sees: the strip of the slot that it accuses, mended
 abbrev pub repair_asked : Shelf → Image Sector → ℕ → Write Sector
@@ -76,7 +76,7 @@ module _ (z : Shelf) (img : List ℕ) (i : State) (t : ℕ) where
 -- ---- a repair that is accepted
 
 module _ (z : Shelf) (img : List ℕ) (disks : Disks z img) (i : State) (own : ours z i.now ≡ true) (t : ℕ) (work : List ℕ) (b : Begun) (after : List ℕ) (small : Bytes after)
-    (w : Repairs i t img work b after) (done : b.outcome ≡ Done) where
+    (w : Repairs i t img work b after) (done : outcome_of b ≡ Ok tt) where
   abbrev pub l : bytes.Label
   l = i.now
 
@@ -95,12 +95,12 @@ module _ (z : Shelf) (img : List ℕ) (disks : Disks z img) (i : State) (own : o
 
   -- ---- what the tests say
 
-  pub may : may_repair l i.kind i.absent i.count t img ≡ Done
+  pub may : may_repair l i.kind i.absent i.count t img ≡ Ok tt
   may = by (may_repair l i.kind i.absent i.count t img) refl
     where
-      by : (o : Outcome) → may_repair l i.kind i.absent i.count t img ≡ o → o ≡ Done
-      by Done e = refl
-      by (Refused why) e = absurd (never why (sym (asked_refused i t img work b after w why e) ∙ done))
+      by : (o : Outcome) → may_repair l i.kind i.absent i.count t img ≡ o → o ≡ Ok tt
+      by (Ok tt) e = refl
+      by (Err why) e = absurd (never why (sym (asked_refused i t img work b after w why e) ∙ done))
 
   pub whole : Whole i t
   whole = may_whole i img t may
@@ -110,7 +110,7 @@ module _ (z : Shelf) (img : List ℕ) (disks : Disks z img) (i : State) (own : o
 
   -- ---- the accused shard
 
-  pub found_so : (r : ℕ) × (w.found ≡ verdict.Accused r) × (b.state ≡ mending i t r)
+  pub found_so : (r : ℕ) × (w.found ≡ verdict.Accused r) × (state_of i b ≡ mending i t r)
   found_so = repair_accuses i t img work b after w done
 
   abbrev pub r : ℕ
@@ -144,7 +144,6 @@ abbrev pub accuses : Verdict → Bool
 accuses (verdict.Accused r) = true
 accuses verdict.Sound = false
 accuses verdict.Unsound = false
-accuses (verdict.Refused x) = false
 
 module _ (z : Shelf) (img : List ℕ) (disks : Disks z img) (i : State) (own : ours z i.now ≡ true)
     (dark : (d : ℕ) → d < slots z → in_mask i.absent d ≡ true → Label.looked (size z) (label_of z i.now) d ≡ true → ⊥)
@@ -159,8 +158,8 @@ module _ (z : Shelf) (img : List ℕ) (disks : Disks z img) (i : State) (own : o
   blamed = blames (finding (size z) (no_sets num) (labels z) (records z) (any_code z) stamps (any_sectors z) (seen z img i t) t)
 
   abbrev pub P : Outcome → Type 0
-  P Done = Unit {0}
-  P (Refused x) = Refuses x z img i t
+  P (Ok tt) = Unit {0}
+  P (Err x) = Refuses x z img i t
 
   -- ---- the code's side
 
@@ -171,7 +170,7 @@ module _ (z : Shelf) (img : List ℕ) (disks : Disks z img) (i : State) (own : o
   sense = stamp_left i.count && none_missing la i.absent
 
   abbrev pub tests : Bool → Bool → Bool → Bool → Outcome
-  tests h few inside s = requests.first (cond h Done (Refused why.NoLabel)) (cond few (Refused why.TooFew) (cond inside (cond s Done (Refused why.NotNow)) (Refused why.BadBlock)))
+  tests h few inside s = requests.first (cond h (Ok tt) (Err why.NoLabel)) (cond few (Err why.TooFew) (cond inside (cond s (Ok tt) (Err why.NotNow)) (Err why.BadBlock)))
 
   abbrev pub asked : Outcome
   asked = may_repair la i.kind i.absent i.count t img

@@ -26,7 +26,7 @@ use Rattle.shards.proofs.Even.{same_program}
 use Rattle.shelf.specs.Act.{Move}
 use Rattle.shelf.specs.Step.{step_move}
 use Rattle.stages.specs.declared.state.State.{State}
-use Rattle.stages.specs.declared.state.Answer.TheVariants as answer
+use Rattle.stages.specs.Told as answer
 use Rattle.refine.specs.Disks.{cur_of}
 use Rattle.refine.specs.Tied.{own_of, own_before, memory_with, Same, program_of}
 use Rattle.refine.specs.WriteList.{Writes}

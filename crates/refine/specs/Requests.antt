@@ -1,6 +1,6 @@
 -- THE REQUESTS OF THE CODE begin with states in order, beside which the protocol's program remembers that same request: create and
 -- taking a slot out; and a step of theirs is the program's. Assumes nothing.
-use Rattle.std.specs.Prelude.{◌≡◌, refl, Bool, cond, not, ◌&&◌, ◌||◌, List, eqb}
+use Rattle.std.specs.Prelude.{◌≡◌, refl, Bool, cond, not, ◌&&◌, ◌||◌, List, eqb, Ok, Err}
 use Rattle.std.proofs.Common.{sym, ap, ◌∙◌, add-one, arith, eq-eqb, ne_eqb, eqb-true, lt-ltb}
 use Rattle.std.proofs.Math.Path.{fun_ext}
 use Rattle.std.proofs.Math.Bool.{true, false}
@@ -8,8 +8,7 @@ use Prim.Native.Nat.{ℕ, suc, ◌+◌, ◌<◌}
 use Rattle.disk.specs.Tests.{both}
 use Rattle.disk.specs.Mask.{in_mask, with_slot, in_with}
 use Rattle.disk.specs.declared.geometry.Geometry.{Geometry}
-use Rattle.disk.specs.declared.refusal.Outcome.{Outcome}
-use Rattle.disk.specs.declared.refusal.Outcome.TheVariants.{Done, Refused}
+use Rattle.disk.specs.Refusal.{Outcome}
 use Rattle.label.specs.Fields.{no_slot}
 use Rattle.label.specs.Newest.{same_shelf}
 use Rattle.label.specs.declared.fields.Label as bytes
@@ -24,11 +23,12 @@ use Rattle.requests.specs.TakeOut.{next_label, outed}
 use Rattle.refine.specs.Disks.{Disks}
 use Rattle.refine.specs.Given.{shelf_geometry}
 use Rattle.refine.specs.Lists.{Says}
+use Rattle.requests.specs.Begun.{outcome_of, state_of}
 
 -- an accepted request begins with its first state
-pub goes : (o : Outcome) (s t : State) → (begun o s t).outcome ≡ Done → (o ≡ Done) × ((begun o s t).state ≡ t)
-goes Done s t e = (refl, refl)
-goes (Refused why) s t e = absurd (let z : ◌≡◌ {A = ℕ} 0 1 = cc in omega arith)
+pub goes : (o : Outcome) (s t : State) → outcome_of (begun o t) ≡ Ok tt → (o ≡ Ok tt) × (state_of s (begun o t) ≡ t)
+goes (Ok tt) s t e = (refl, refl)
+goes (Err why) s t e = absurd (let z : ◌≡◌ {A = ℕ} 0 1 = cc in omega arith)
 
 -- the slots that are not absent
 pub slots_say : (z : Shelf) (absent : ℕ) → Says z (slots_but absent (slots z)) (λ d. not (in_mask absent d))

@@ -1,6 +1,6 @@
 -- The strip's sector that the code takes from the record in the image is the piece that the protocol takes from its places.
 -- Assumes nothing.
-use Rattle.std.specs.Prelude.{◌≡◌, Bool, ℕ, ◌+◌, ◌*◌, ◌≤◌, ◌<◌, ltb, take, drop}
+use Rattle.std.specs.Prelude.{◌≡◌, Bool, ℕ, ◌+◌, ◌*◌, ◌≤◌, ◌<◌, ltb, take, drop, Ok}
 use Rattle.std.proofs.Math.Path.{ap}
 use Rattle.std.proofs.Common.{◌∙◌, arith}
 use Rattle.std.proofs.Math.Bool.{cond}
@@ -12,7 +12,6 @@ use borrow.Author.Tests.{lt-ltb, eq-eqb}
 use Rattle.disk.specs.Limits.{sector_bytes, first_log}
 use Rattle.disk.specs.Tests.{both}
 use Rattle.disk.specs.Image.{place, Shape, fits_image}
-use Rattle.disk.specs.declared.refusal.Outcome.TheVariants as outcome
 use Rattle.record.specs.Log.{area_of, restore_answer}
 use Rattle.codecs.specs.Shelf.{Shelf, slots, geometry, limits, strips_fit}
 use Rattle.refine.specs.Disks.{Disks, image_fits}
@@ -36,7 +35,7 @@ module _ (z : Shelf) (img : List ℕ) (disks : Disks z img) (d : ℕ) (below : d
       (both (fits_image (geometry z) (length img)) (ltb d (slots z)) (image_fits z img disks) (lt-ltb d (slots z) below))
 
   -- the record is there whole
-  pub restores : (j : ℕ) → j < z.c → restore_answer z.c j (length (area_of (geometry z) img d)) sector_bytes ≡ outcome.Done
+  pub restores : (j : ℕ) → j < z.c → restore_answer z.c j (length (area_of (geometry z) img d)) sector_bytes ≡ Ok tt
   unfolding restore_answer
   restores j l =
       let e : length (area_of (geometry z) img d) ≡ size = ap length area_is ∙ length-take-le size (drop start img) (omega (arith, room, length-drop start img)) in

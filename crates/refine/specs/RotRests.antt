@@ -3,11 +3,10 @@
 -- repair of the stripe, stepped to Done, ends with that list and with nothing of the stripe rotten. So it goes on, strip after strip and repair
 -- after repair; meanwhile every strip that is not rotten is what the list asks for, and blocks that are fine are read right, also while a repair
 -- is under way. Assumes nothing.
-use Rattle.std.specs.Prelude.{◌≡◌, ◌⊎◌, Bool, ◌&&◌, List, ℕ, ◌+◌, ◌<◌, ◌/◌, ◌%◌, eqb}
+use Rattle.std.specs.Prelude.{◌≡◌, ◌⊎◌, Bool, ◌&&◌, List, ℕ, ◌+◌, ◌<◌, ◌/◌, ◌%◌, eqb, Ok}
 use Rattle.std.proofs.Math.Bool.{true, false, cond, not}
 use Rattle.disk.specs.Geometry.{stripes_of, strip_of, slot_of}
 use Rattle.disk.specs.Image.{sector}
-use Rattle.disk.specs.declared.refusal.Outcome.TheVariants as outcome
 use Rattle.redo.specs.Decide.{believed}
 use Rattle.protocol.specs.World.{Place, World}
 use Rattle.protocol.specs.Host.{Host}
@@ -17,15 +16,16 @@ use Rattle.protocol.specs.Veil.{Rot, rotten, spread}
 use Rattle.codecs.specs.Sector.{Sector, Bytes}
 use Rattle.codecs.specs.Shelf.{Shelf, slots, geometry}
 use Rattle.codecs.specs.Labels.{ours}
-use Rattle.requests.specs.declared.begun.Begun.{Begun}
+use Rattle.requests.specs.Begun.{Begun, state_of}
 use Rattle.shelf.specs.Step.{step_move}
 use Rattle.blocks.specs.Repair.{Repairs}
 use Rattle.stages.specs.declared.state.State.{State}
-use Rattle.stages.specs.declared.state.Answer.TheVariants as answer
+use Rattle.stages.specs.Told as answer
 use Rattle.stages.specs.declared.state.Kind.TheVariants.{Idle}
 use Rattle.refine.specs.Disks.{Disks, cur_of}
 use Rattle.refine.specs.Tied.{own_of}
 use Rattle.refine.specs.RepairRot.{RottenIn, Stepping}
+use Rattle.requests.specs.Begun.{outcome_of}
 
 -- ---- A STRIP ROTS
 
@@ -79,5 +79,5 @@ module _ (z : Shelf) (more : z.m < z.k) where
   pub data Ages (rot : Rot) (img : List ℕ) (s : State) : Rot → List ℕ → State → Type 0 where
     none_yet : Ages rot img s rot img s
     rots : {rot' : Rot} {img' : List ℕ} {s' : State} → Ages rot img s rot' img' s' → (d t : ℕ) (left : List ℕ) → Decays z d t img' left → ((e : ℕ) → rot' e t ≡ true → e ≡ d) → Ages rot img s (spread rot' d t) left s'
-    mends : {rot' : Rot} {img' : List ℕ} {s' : State} → Ages rot img s rot' img' s' → (t : ℕ) (work : List ℕ) (b : Begun) (then : List ℕ) → Bytes then → Repairs s' t img' work b then → b.outcome ≡ outcome.Done
-        → {s'' : State} {img'' : List ℕ} → Stepping then b.state img' s'' img'' → Ages rot img s (but_stripe rot' t) img'' s''
+    mends : {rot' : Rot} {img' : List ℕ} {s' : State} → Ages rot img s rot' img' s' → (t : ℕ) (work : List ℕ) (b : Begun) (then : List ℕ) → Bytes then → Repairs s' t img' work b then → outcome_of b ≡ Ok tt
+        → {s'' : State} {img'' : List ℕ} → Stepping then (state_of s' b) img' s'' img'' → Ages rot img s (but_stripe rot' t) img'' s''

@@ -2,7 +2,7 @@
 -- settled label is, whether few enough slots are out, and what a slot that adopts is given first. Assumes nothing.
 use Rattle.std.proofs.Math.Path.{◌≡◌, refl, sym}
 use Rattle.std.proofs.Common.{◌∙◌, subst, ne_eqb, eqb-true, lt-ltb}
-use Rattle.std.specs.Prelude.{Bool, ◌||◌, List, [], ◌∷◌, length}
+use Rattle.std.specs.Prelude.{Bool, ◌||◌, List, [], ◌∷◌, length, Some}
 use Rattle.std.proofs.Math.Bool.{true, false, cond, not}
 use Prim.Native.Nat.{ℕ, suc, ◌+◌, ◌<◌, ◌^◌}
 use native.Mathlib.Omega.{arith}
@@ -14,7 +14,6 @@ use Rattle.disk.specs.declared.geometry.Geometry.{Geometry}
 use Rattle.label.specs.Fields.{no_slot, geometry_of, fits_of}
 use Rattle.label.specs.Newest.{shelf_label, agreed}
 use Rattle.label.specs.declared.fields.Label as bytes
-use Rattle.label.specs.declared.codec.Decoded.TheVariants.{Valid}
 use Rattle.rounds.specs.Survey.{fits_shelf}
 use Rattle.rounds.specs.Plans.{Grounds}
 use Rattle.rounds.specs.declared.plan.Plan as plan
@@ -101,9 +100,9 @@ plan_led g img absent p small r = (z, e, led_at g e r.image_fits r.leads r.agree
     e : geometry z ≡ g
     e = geometry_path g l r.shelf
 
-    led_at : (y : Geometry) → geometry z ≡ y → fits_image y (length img) ≡ true → shelf_label y img absent ≡ Valid l → agreed y img absent l ≡ true → Led z img absent (beyond (slots z) (in_mask absent)) l
+    led_at : (y : Geometry) → geometry z ≡ y → fits_image y (length img) ≡ true → shelf_label y img absent ≡ Some l → agreed y img absent l ≡ true → Led z img absent (beyond (slots z) (in_mask absent)) l
     led_at y q = subst
-        (λ (y : Geometry). fits_image y (length img) ≡ true → shelf_label y img absent ≡ Valid l → agreed y img absent l ≡ true → Led z img absent (beyond (slots z) (in_mask absent)) l) q
+        (λ (y : Geometry). fits_image y (length img) ≡ true → shelf_label y img absent ≡ Some l → agreed y img absent l ≡ true → Led z img absent (beyond (slots z) (in_mask absent)) l) q
         (λ f a b.
         record {
           disks = record { shape = (fits_image_lem (geometry z) img f).1; small = small };

@@ -3,14 +3,13 @@
 -- repair is refused, since it finds nothing to mend. For every shelf, where any two of the sets of slots that the chain leaves out from
 -- one moment of rest to the next leave a slot out in common (`AnyTwoSince`); for k > m nothing is asked. And what the list's entries are:
 -- those of a write that is acknowledged are the bytes given, all others stay. Assumes nothing.
-use Rattle.std.specs.Prelude.{◌≡◌, Bool, List, ℕ, ◌+◌, ◌*◌, ◌/◌, ◌%◌, length}
+use Rattle.std.specs.Prelude.{◌≡◌, Bool, List, ℕ, ◌+◌, ◌*◌, ◌/◌, ◌%◌, length, Ok}
 use Rattle.std.proofs.Math.Path.{refl, sym, ap}
 use Rattle.std.proofs.Common.{◌∙◌, eq-eqb, eqb-true}
 use Rattle.std.proofs.Math.Bool.{true, false, cond}
 use Rattle.std.proofs.Math.Nat.{div-add-mod'}
 use Rattle.std.proofs.Math.Dec.{eqb}
 use Rattle.disk.specs.Limits.{sector_bytes}
-use Rattle.disk.specs.declared.refusal.Outcome.TheVariants.{Done}
 use Rattle.protocol.specs.Host.{Host, one_block, set_block, replace}
 use Rattle.protocol.specs.Machine.{View, list_of}
 use Rattle.codecs.specs.Sector.{Sector, Bytes}
@@ -24,7 +23,7 @@ use Rattle.refine.specs.Hosts.{none, has, Time, at, HostChain, stays, goes_on, S
 abbrev pub ReadsAs : Shelf → Time → View Sector → Type 0
 ReadsAs z (at w img none) p = Unit {0}
 ReadsAs z (at w img (has s work)) p =
-    (b : ℕ) (buf : List ℕ) → read_answer s.now s.kind s.absent b (length img) (length buf) (length work) ≡ Done → after_read Done s b img work buf ≡ strip_bytes (list_of p (b / z.k) (b % z.k)) z.c
+    (b : ℕ) (buf : List ℕ) → read_answer s.now s.kind s.absent b (length img) (length buf) (length work) ≡ Ok tt → after_read (Ok tt) s b img work buf ≡ strip_bytes (list_of p (b / z.k) (b % z.k)) z.c
 
 -- the views along a chain: each call changes them as its answer says, and reads show their entries at every moment
 abbrev pub Served : {z : Shelf} {a b : Time} → HostChain z a b → View Sector → View Sector → Type 0

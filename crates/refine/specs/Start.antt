@@ -7,8 +7,8 @@ use mathlib.Core.List.{List, [], ◌∷◌, ◌++◌, Memᴰ}
 use Prim.Native.Nat.{ℕ, suc, ◌+◌, ◌<◌}
 use Rattle.disk.specs.Mask.{in_mask}
 use Rattle.label.specs.declared.fields.Label as bytes
+use Rattle.rounds.specs.Slot.{takes_part, adopts, gets_zeros, gets_label}
 use Rattle.rounds.specs.Survey.{slots_that}
-use Rattle.rounds.specs.declared.slot.Question.TheVariants.{Parts, Late, Zeroed, Kept}
 use Rattle.protocol.specs.World.{label, log, strip, slot, Image, Action}
 use Rattle.protocol.specs.Batch.{puts, flushes}
 use Rattle.protocol.specs.Slots.{from, of_from, keep, slots, rows}
@@ -56,16 +56,16 @@ module _ (z : Shelf) (img : List ℕ) (absent : ℕ) (A : ℕ → Bool) (l : byt
 
   -- the plan's masks, and who is given something before it adopts
   abbrev pub parts_in : ℕ → Bool
-  parts_in = in_mask (slots_that (geometry z) img absent Parts l)
+  parts_in = in_mask (slots_that (geometry z) img absent takes_part l)
 
   abbrev pub late_in : ℕ → Bool
-  late_in = in_mask (slots_that (geometry z) img absent Late l)
+  late_in = in_mask (slots_that (geometry z) img absent adopts l)
 
   abbrev pub zeroed_in : ℕ → Bool
-  zeroed_in = in_mask (slots_that (geometry z) img absent Zeroed l)
+  zeroed_in = in_mask (slots_that (geometry z) img absent gets_zeros l)
 
   abbrev pub prep_in : ℕ → Bool
-  prep_in d = zeroed_in d || in_mask (slots_that (geometry z) img absent Kept l) d
+  prep_in d = zeroed_in d || in_mask (slots_that (geometry z) img absent gets_label l) d
 
   -- ---- ALL OF IT
 

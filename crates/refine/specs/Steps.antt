@@ -25,7 +25,7 @@ use Rattle.shelf.specs.Act.{Move, onward, named}
 use Rattle.shelf.specs.Step.{seek, is_end, finished, on_stage, sound}
 use Rattle.shelf.specs.Bound.{width_of}
 use Rattle.stages.specs.declared.state.State.{State}
-use Rattle.stages.specs.declared.state.Answer.TheVariants as answer
+use Rattle.stages.specs.Told as answer
 use Rattle.stages.specs.declared.stage.Stage.{Stage}
 use Rattle.stages.specs.declared.stage.Stage.TheVariants.{Flush, Give, Wipe, Restore, Log, Store, Clear, Erase, Fill, End}
 use Rattle.refine.specs.Places.{sector_of, inside}

@@ -1,12 +1,11 @@
 -- ANOTHER DISK IN A SLOT while the program is at rest and its state calls the slot absent: a fresh one, one that held something else, or one that was in the slot before. It may hold anything but
 -- a label of another shelf, or one of this shelf of the settled generation or newer. To the protocol's machine it is a disk that is exchanged, and what ties the two is kept. Assumes nothing.
-use Rattle.std.specs.Prelude.{◌≡◌, ◌≢◌, true, ℕ, ◌<◌}
+use Rattle.std.specs.Prelude.{◌≡◌, ◌≢◌, true, ℕ, ◌<◌, Some}
 use mathlib.Core.List.{List}
 use Rattle.disk.specs.Mask.{in_mask}
 use Rattle.disk.specs.Image.{sector}
 use Rattle.label.specs.Newest.{copy_of}
 use Rattle.label.specs.declared.fields.Label as bytes
-use Rattle.label.specs.declared.codec.Decoded.TheVariants.{Valid}
 use Rattle.protocol.specs.World.{World}
 use Rattle.protocol.specs.Program.{Own}
 use Rattle.protocol.specs.Exchange.{with_disk}
@@ -31,7 +30,7 @@ pub record Exchanged (z : Shelf) (s : State) (d : ℕ) (img left : List ℕ) : T
   -- every sector of every other slot stays
   pub others : (e i : ℕ) → e < slots z → i < z.sectors → e ≢ d → sector z.sectors left e i ≡ sector z.sectors img e i
   -- a valid copy of a label on the new disk is this shelf's and older than the settled one; where there is one, the labels have their shape
-  pub older : (o : ℕ) (a : bytes.Label) → o < 2 → copy_of (geometry z) left d o ≡ Valid a → (ours z a ≡ true) × (a.generation < s.now.generation)
+  pub older : (o : ℕ) (a : bytes.Label) → o < 2 → copy_of (geometry z) left d o ≡ Some a → (ours z a ≡ true) × (a.generation < s.now.generation)
   pub shape : Follows z left d
 
 -- then slot d holds exactly what is read of it, with nothing cached; everything else is as it was

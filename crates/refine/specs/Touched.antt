@@ -9,8 +9,8 @@ use Rattle.shelf.specs.Laws.{Legal, step_one}
 use Rattle.shelf.specs.Act.{refuses}
 use Rattle.shelf.specs.Step.{sound, step_move}
 use Rattle.stages.specs.declared.state.State.{State}
-use Rattle.stages.specs.declared.state.Answer.{Answer}
-use Rattle.stages.specs.declared.state.Answer.TheVariants as answer
+use Rattle.stages.specs.Told.{Answer}
+use Rattle.stages.specs.Told as answer
 use Rattle.requests.specs.Step.{other_work, step_with}
 
 -- the slot that a step's answer names

@@ -1,6 +1,6 @@
 -- A WRITE THAT IS ACCEPTED, at rest, is the protocol's: its program accepts it too, what the state and the work area then describe is
 -- the write that it makes, and it can be carried out. In the words of write's contract. Assumes nothing.
-use Rattle.std.specs.Prelude.{◌≡◌, length}
+use Rattle.std.specs.Prelude.{◌≡◌, length, Ok}
 use Rattle.std.proofs.Common.{arith}
 use Rattle.std.proofs.Math.Bool.{true}
 use mathlib.Core.List.{List}
@@ -9,7 +9,6 @@ use borrow.Author.Tests.{lt-ltb}
 use Rattle.disk.specs.Tests.{both}
 use Rattle.disk.specs.Geometry.{stripes_of, stripes_le}
 use Rattle.disk.specs.Mask.{in_mask}
-use Rattle.disk.specs.declared.refusal.Outcome.TheVariants.{Done}
 use Rattle.label.specs.Fields.{geometry_of, fits_of}
 use Rattle.label.specs.declared.fields.Label as bytes
 use Rattle.label.proofs.Counts.{same_says}
@@ -41,7 +40,7 @@ stamped_sound z i own fits t h marks =
 
 module _ (z : Shelf) (img : List ℕ) (disks : Disks z img) (i : State) (own : ours z i.now ≡ true)
     (dark : (d : ℕ) → d < slots z → in_mask i.absent d ≡ true → Label.looked (size z) (label_of z i.now) d ≡ true → ⊥)
-    (b : ℕ) (given work : List ℕ) (small : Bytes given) (ok : write_answer i.now i.kind i.absent i.count img b (length given) (length work) ≡ Done) where
+    (b : ℕ) (given work : List ℕ) (small : Bytes given) (ok : write_answer i.now i.kind i.absent i.count img b (length given) (length work) ≡ Ok tt) where
   abbrev pub l : bytes.Label
   l = i.now
 

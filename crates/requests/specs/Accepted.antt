@@ -1,6 +1,6 @@
 -- A refusal leaves the state. What is accepted begins with a state that the steps take, and with labels that can be written on
 -- every slot, so that no step is refused for them. Assumes nothing.
-use Rattle.std.specs.Prelude.{◌≡◌, refl, Bool, true, false, cond, not, ◌&&◌, ◌||◌, List, ℕ, ◌+◌, ◌≤◌, ◌<◌, ◌^◌, leb, ltb, eqb, length}
+use Rattle.std.specs.Prelude.{◌≡◌, refl, Bool, true, false, cond, not, ◌&&◌, ◌||◌, List, ℕ, ◌+◌, ◌≤◌, ◌<◌, ◌^◌, leb, ltb, eqb, length, Ok, Err}
 use Rattle.std.proofs.Common.{sym, ◌∙◌, true≢false, arith, pow_pos, leb-true, leb-false, ltb-false, le-leb, lt-ltb}
 use Rattle.std.specs.Int.Count.{ones}
 use Rattle.disk.specs.Limits.{least_k, most_k, least_m, most_m}
@@ -11,8 +11,7 @@ use Rattle.disk.specs.Mask.{in_mask, with_slot, in_with, with_lt}
 use Rattle.disk.specs.declared.geometry.Geometry.{Geometry}
 use Rattle.disk.specs.declared.refusal.Refusal.{Refusal}
 use Rattle.disk.specs.declared.refusal.Refusal.TheVariants.{BadImage, TooFew, BadBlock, Busy, NotNow}
-use Rattle.disk.specs.declared.refusal.Outcome.{Outcome}
-use Rattle.disk.specs.declared.refusal.Outcome.TheVariants.{Done, Refused}
+use Rattle.disk.specs.Refusal.{Outcome}
 use Rattle.label.specs.Fields.{no_slot, most_generation, geometry_of, rebuild_fits, fits_of}
 use Rattle.label.specs.Bytes.{all_zero}
 use Rattle.label.proofs.Fits.{Fits, fits_says}
@@ -25,37 +24,38 @@ use Rattle.requests.specs.Create.{shards_fit, shelf_fits, create_answer, first_l
 use Rattle.requests.specs.TakeOut.{out_with, plainly_out, out_now, out_answer, take_answer, next_label, outed, took_out, take_out_of}
 use Rattle.stages.specs.declared.state.State.{State}
 use Rattle.stages.specs.declared.state.Kind.{Kind}
+use Rattle.requests.specs.Begun.{outcome_of, state_of}
 
-never : (why : Refusal) → Refused why ≡ Done → ⊥
+never : (why : Refusal) → ◌≡◌ {A = Outcome} (Err why) (Ok tt) → ⊥
 never why e = let z : ◌≡◌ {A = ℕ} 0 1 = cc in omega arith
 
 -- ---- a refusal leaves the state
 
-refusal_leaves : (o : Outcome) (s t : State) (why : Refusal) → (begun o s t).outcome ≡ Refused why → (begun o s t).state ≡ s
-refusal_leaves Done s t why e = absurd (never why (sym e))
-refusal_leaves (Refused x) s t why e = refl
+refusal_leaves : (o : Outcome) (s t : State) (why : Refusal) → outcome_of (begun o t) ≡ Err why → state_of s (begun o t) ≡ s
+refusal_leaves (Ok tt) s t why e = absurd (never why (sym e))
+refusal_leaves (Err x) s t why e = refl
 
 pub create_refused : (s : State) (k m c S shelf : ℕ) (img : List ℕ) (room : ℕ) (why : Refusal)
-    → (create_of s k m c S shelf img room).outcome ≡ Refused why → (create_of s k m c S shelf img room).state ≡ s
+    → outcome_of (create_of k m c S shelf img room) ≡ Err why → state_of s (create_of k m c S shelf img room) ≡ s
 create_refused s k m c S shelf img room why = refusal_leaves (create_answer k m c S img room) s (created k m c S shelf) why
 
 pub out_refused : (s : State) (d : ℕ) (img : List ℕ) (room : ℕ) (why : Refusal)
-    → (take_out_of s d img room).outcome ≡ Refused why → (take_out_of s d img room).state ≡ s
+    → outcome_of (take_out_of s d img room) ≡ Err why → state_of s (take_out_of s d img room) ≡ s
 out_refused s d img room why = refusal_leaves (take_answer s.now s.kind s.absent img d room) s (took_out s d) why
 
 -- ---- what the tests of an accepted request say
 
-pub passed : (b : Bool) (x : Outcome) (why : Refusal) → cond {A = Outcome} b x (Refused why) ≡ Done → (b ≡ true) × (x ≡ Done)
+pub passed : (b : Bool) (x : Outcome) (why : Refusal) → cond {A = Outcome} b x (Err why) ≡ Ok tt → (b ≡ true) × (x ≡ Ok tt)
 passed true x why e = (refl, e)
 passed false x why e = absurd (never why e)
 
-spared : (b : Bool) (x : Outcome) (why : Refusal) → cond {A = Outcome} b (Refused why) x ≡ Done → (b ≡ false) × (x ≡ Done)
+spared : (b : Bool) (x : Outcome) (why : Refusal) → cond {A = Outcome} b (Err why) x ≡ Ok tt → (b ≡ false) × (x ≡ Ok tt)
 spared true x why e = absurd (never why e)
 spared false x why e = (refl, e)
 
-first_done : (o p : Outcome) → first o p ≡ Done → (o ≡ Done) × (p ≡ Done)
-first_done Done p e = (refl, e)
-first_done (Refused why) p e = absurd (never why e)
+first_done : (o p : Outcome) → first o p ≡ Ok tt → (o ≡ Ok tt) × (p ≡ Ok tt)
+first_done (Ok tt) p e = (refl, e)
+first_done (Err why) p e = absurd (never why e)
 
 pub record Shards (k m : ℕ) : Type 0 where
   pub k_least_lem : least_k ≤ k
@@ -86,7 +86,7 @@ shelf_range k m c S len e =
     and_left (in_range g) (eqb len (image_bytes g)) (and_right (shards_fit k m) (fits_image g len) e)
 
 -- create goes on: a shelf, on an image that is zeros throughout
-pub create_done : (k m c S : ℕ) (img : List ℕ) (room : ℕ) → create_answer k m c S img room ≡ Done
+pub create_done : (k m c S : ℕ) (img : List ℕ) (room : ℕ) → create_answer k m c S img room ≡ Ok tt
     → (shelf_fits k m c S (length img) ≡ true) × (all_zero img ≡ true)
 unfolding create_answer
 create_done k m c S img room e =
@@ -96,7 +96,7 @@ pub has_fits : (l : Label) (kind : Kind) → has_shelf l kind ≡ true → fits_
 unfolding has_shelf
 has_fits l kind e = and_right (not (is_nothing kind)) (fits_of l) e
 
-pub ready_done : (l : Label) (kind : Kind) (absent : ℕ) (img : List ℕ) → ready_of l kind absent img ≡ Done → fits_of l ≡ true
+pub ready_done : (l : Label) (kind : Kind) (absent : ℕ) (img : List ℕ) → ready_of l kind absent img ≡ Ok tt → fits_of l ≡ true
 unfolding ready_of
 ready_done l kind absent img e = has_fits l kind (passed (has_shelf l kind) _ NotNow e).0
 
@@ -113,7 +113,7 @@ out_neither : (a b : Bool) → (a || b) ≡ false → (a ≡ false) × (b ≡ fa
 out_neither true b e = absurd (true≢false e)
 out_neither false b e = (refl, e)
 
-pub out_done : (l : Label) (idle : Bool) (absent d room : ℕ) → out_answer l idle absent d room ≡ Done → Goes l idle absent d
+pub out_done : (l : Label) (idle : Bool) (absent d room : ℕ) → out_answer l idle absent d room ≡ Ok tt → Goes l idle absent d
 unfolding out_answer out_now
 out_done l idle absent d room e =
     let p1 = spared (ltb l.m (ones (out_with l d))) _ TooFew e in
@@ -130,7 +130,7 @@ out_done l idle absent d room e =
       more = omega (arith, ltb-false most_generation (l.generation + 1) p5.0);
     }
 
-pub take_done : (l : Label) (kind : Kind) (absent : ℕ) (img : List ℕ) (d room : ℕ) → take_answer l kind absent img d room ≡ Done
+pub take_done : (l : Label) (kind : Kind) (absent : ℕ) (img : List ℕ) (d room : ℕ) → take_answer l kind absent img d room ≡ Ok tt
     → (fits_of l ≡ true) × Goes l (is_idle kind) absent d
 take_done l kind absent img d room e =
     let p = first_done (ready_of l kind absent img) (out_answer l (is_idle kind) absent d room) e in
@@ -237,9 +237,9 @@ pub record Steps (s : State) : Type 0 where
   pub now_fits : (d : ℕ) → d < s.now.k + s.now.m → fits_of (named s.now d) ≡ true
   pub next_fits : (d : ℕ) → d < s.now.k + s.now.m → fits_of (named s.next d) ≡ true
 
-steps_of : (o : Outcome) (s t : State) → (o ≡ Done → Steps t) → (begun o s t).outcome ≡ Done → Steps (begun o s t).state
-steps_of Done s t f e = f refl
-steps_of (Refused why) s t f e = absurd (never why e)
+steps_of : (o : Outcome) (s t : State) → (o ≡ Ok tt → Steps t) → outcome_of (begun o t) ≡ Ok tt → Steps (state_of s (begun o t))
+steps_of (Ok tt) s t f e = f refl
+steps_of (Err why) s t f e = absurd (never why e)
 
 created_steps : (k m c S shelf : ℕ) → fits_of (first_label k m c S shelf) ≡ true → 1 ≤ S → Steps (created k m c S shelf)
 unfolding sound
@@ -251,7 +251,7 @@ created_steps k m c S shelf e some =
     }
 
 pub create_steps : (s : State) (k m c S shelf : ℕ) (img : List ℕ) (room : ℕ)
-    → (create_of s k m c S shelf img room).outcome ≡ Done → Steps (create_of s k m c S shelf img room).state
+    → outcome_of (create_of k m c S shelf img room) ≡ Ok tt → Steps (state_of s (create_of k m c S shelf img room))
 create_steps s k m c S shelf img room =
     steps_of (create_answer k m c S img room) s (created k m c S shelf) (λ e.
     let p = (create_done k m c S img room e).0 in
@@ -267,7 +267,7 @@ taken_steps s d e g =
       next_fits = λ i h. out_fits s.now d i e g.there g.more h;
     }
 
-pub out_steps : (s : State) (d : ℕ) (img : List ℕ) (room : ℕ) → (take_out_of s d img room).outcome ≡ Done → Steps (take_out_of s d img room).state
+pub out_steps : (s : State) (d : ℕ) (img : List ℕ) (room : ℕ) → outcome_of (take_out_of s d img room) ≡ Ok tt → Steps (state_of s (take_out_of s d img room))
 out_steps s d img room =
     steps_of (take_answer s.now s.kind s.absent img d room) s (took_out s d) (λ e.
     let p = take_done s.now s.kind s.absent img d room e in taken_steps s d p.0 p.1)

@@ -1,10 +1,9 @@
 -- Create: which numbers and images it takes, and the state that it begins with. Assumes nothing.
-use Rattle.std.specs.Prelude.{Bool, cond, ◌&&◌, List, ℕ, ◌+◌, ◌-◌, ◌^◌, leb, eqb, length}
+use Rattle.std.specs.Prelude.{Bool, cond, ◌&&◌, List, ℕ, ◌+◌, ◌-◌, ◌^◌, leb, eqb, length, Ok, Err}
 use Rattle.disk.specs.Limits.{least_k, most_k, least_m, most_m}
 use Rattle.disk.specs.Image.{fits_image}
 use Rattle.disk.specs.declared.refusal.Refusal.TheVariants.{BadImage, NotNow, BadBuffer}
-use Rattle.disk.specs.declared.refusal.Outcome.{Outcome}
-use Rattle.disk.specs.declared.refusal.Outcome.TheVariants.{Done, Refused}
+use Rattle.disk.specs.Refusal.{Outcome}
 use Rattle.label.specs.Fields.{no_slot}
 use Rattle.label.specs.Bytes.{all_zero}
 use Rattle.label.specs.declared.fields.Label.{Label}
@@ -12,7 +11,7 @@ use Rattle.requests.specs.Begun.{work_bytes, begun, marks_of}
 use Rattle.stages.specs.declared.state.State.{State}
 use Rattle.stages.specs.declared.state.Marks.{Marks}
 use Rattle.stages.specs.declared.state.Kind.TheVariants.{Creating}
-use Rattle.requests.specs.declared.begun.Begun.{Begun}
+use Rattle.requests.specs.Begun.{Begun}
 
 -- k data shards and m parity shards
 unfoldable pub shards_fit : ℕ → ℕ → Bool
@@ -26,7 +25,7 @@ shelf_fits k m c S len = shards_fit k m && fits_image (record { n = k + m; c = c
 unfoldable pub create_answer : ℕ → ℕ → ℕ → ℕ → List ℕ → ℕ → Outcome
 create_answer k m c S img room =
     cond (shelf_fits k m c S (length img))
-    (cond (all_zero img) (cond (eqb room (work_bytes (k + m) c)) Done (Refused BadBuffer)) (Refused NotNow)) (Refused BadImage)
+    (cond (all_zero img) (cond (eqb room (work_bytes (k + m) c)) (Ok tt) (Err BadBuffer)) (Err NotNow)) (Err BadImage)
 
 -- the label of generation 1: nothing out, nothing being rebuilt
 abbrev pub first_label : ℕ → ℕ → ℕ → ℕ → ℕ → Label
@@ -62,5 +61,5 @@ shelf_of l marks =
 abbrev pub created : ℕ → ℕ → ℕ → ℕ → ℕ → State
 created k m c S shelf = shelf_of (first_label k m c S shelf) (marks_of (2 ^ (k + m) - 1))
 
-abbrev pub create_of : State → ℕ → ℕ → ℕ → ℕ → ℕ → List ℕ → ℕ → Begun
-create_of s k m c S shelf img room = begun (create_answer k m c S img room) s (created k m c S shelf)
+abbrev pub create_of : ℕ → ℕ → ℕ → ℕ → ℕ → List ℕ → ℕ → Begun
+create_of k m c S shelf img room = begun (create_answer k m c S img room) (created k m c S shelf)

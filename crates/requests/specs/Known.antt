@@ -1,18 +1,16 @@
 -- A changing request that nothing is in the way of finds the state's own label on every present disk. Assumes nothing.
-use Rattle.std.specs.Prelude.{◌≡◌, Bool, true, false, cond, ◌&&◌, ◌||◌, List, ℕ, ◌+◌, ◌<◌, eqb, length}
+use Rattle.std.specs.Prelude.{◌≡◌, Bool, true, false, cond, ◌&&◌, ◌||◌, List, ℕ, ◌+◌, ◌<◌, eqb, length, Ok, Err, Some, None}
 use Rattle.std.proofs.Common.{sym, ap, ◌∙◌, arith, eqb-true}
 use Rattle.disk.specs.Tests.{and_left, and_right}
 use Rattle.disk.specs.Image.{fits_image}
 use Rattle.disk.specs.Mask.{in_mask}
 use Rattle.disk.specs.declared.refusal.Refusal.TheVariants.{BadImage, NoLabel, NotNow}
-use Rattle.disk.specs.declared.refusal.Outcome.{Outcome}
-use Rattle.disk.specs.declared.refusal.Outcome.TheVariants.{Done, Refused}
+use Rattle.disk.specs.Refusal.{Outcome}
 use Rattle.label.specs.Fields.{geometry_of}
 use Rattle.label.specs.Newest.{disk_label, same_shelf, all_of}
 use Rattle.label.proofs.Counts.{all_at}
 use Rattle.label.specs.declared.fields.Label.{Label}
-use Rattle.label.specs.declared.codec.Decoded.{Decoded}
-use Rattle.label.specs.declared.codec.Decoded.TheVariants.{Valid, Nothing}
+use Rattle.label.specs.Fields.{Decoded}
 use Rattle.shelf.specs.Act.{named}
 use Rattle.requests.specs.Ready.{is_idle, has_shelf, same_label, is_label, holding, ready_of}
 use Rattle.requests.specs.Accepted.{passed}
@@ -52,21 +50,21 @@ same_label_lem x y e =
       mark = t i;
     }
 
-is_label_lem : (l : Label) (x : Decoded) → is_label l x ≡ true → x ≡ Valid l
-is_label_lem l (Valid y) e = ap Valid (sym (same_label_lem l y e))
-is_label_lem l Nothing e = absurd (let z : ◌≡◌ {A = ℕ} 0 1 = cc in omega arith)
+is_label_lem : (l : Label) (x : Decoded) → is_label l x ≡ true → x ≡ Some l
+is_label_lem l (Some y) e = ap Some (sym (same_label_lem l y e))
+is_label_lem l None e = absurd (let z : ◌≡◌ {A = ℕ} 0 1 = cc in omega arith)
 
 or_left : (a b : Bool) → a ≡ false → (a || b) ≡ true → b ≡ true
 or_left true b h e = absurd (let z : ◌≡◌ {A = ℕ} 0 1 = cc in omega arith)
 or_left false b h e = e
 
-pub ready_labels : (l : Label) (kind : Kind) (absent : ℕ) (img : List ℕ) → ready_of l kind absent img ≡ Done → is_idle kind ≡ true
-    → (d : ℕ) → d < l.k + l.m → in_mask absent d ≡ false → disk_label (geometry_of l) img d ≡ Valid (named l d)
+pub ready_labels : (l : Label) (kind : Kind) (absent : ℕ) (img : List ℕ) → ready_of l kind absent img ≡ Ok tt → is_idle kind ≡ true
+    → (d : ℕ) → d < l.k + l.m → in_mask absent d ≡ false → disk_label (geometry_of l) img d ≡ Some (named l d)
 unfolding ready_of holding
 ready_labels l kind absent img e idle d h here =
     let p = passed (has_shelf l kind) _ NotNow e in
     let q = passed (fits_image (geometry_of l) (length img)) _ BadImage p.1 in
     let all : Bool = all_of (holding (geometry_of l) img absent l) (l.k + l.m) in
-    let u : cond {A = Outcome} all Done (Refused NoLabel) ≡ Done = ap (λ (b : Bool). cond {A = Outcome} b (cond {A = Outcome} all Done (Refused NoLabel)) Done) (sym idle) ∙ q.1 in
-    let a = all_at (holding (geometry_of l) img absent l) (l.k + l.m) (passed all Done NoLabel u).0 d h in
+    let u : cond {A = Outcome} all (Ok tt) (Err NoLabel) ≡ (Ok tt) = ap (λ (b : Bool). cond {A = Outcome} b (cond {A = Outcome} all (Ok tt) (Err NoLabel)) (Ok tt)) (sym idle) ∙ q.1 in
+    let a = all_at (holding (geometry_of l) img absent l) (l.k + l.m) (passed all (Ok tt) NoLabel u).0 d h in
     is_label_lem (named l d) (disk_label (geometry_of l) img d) (or_left (in_mask absent d) (is_label (named l d) (disk_label (geometry_of l) img d)) here a)

@@ -1,16 +1,14 @@
 -- What each changing request is refused for first. Assumes nothing.
-use Rattle.std.specs.Prelude.{Bool, true, false, cond, not, ◌&&◌, ◌||◌, List, ℕ, ◌+◌, eqb, length}
+use Rattle.std.specs.Prelude.{Bool, true, false, cond, not, ◌&&◌, ◌||◌, List, ℕ, ◌+◌, eqb, length, Ok, Err, Some, None}
 use Rattle.disk.specs.Image.{fits_image}
 use Rattle.disk.specs.Mask.{in_mask}
 use Rattle.disk.specs.declared.geometry.Geometry.{Geometry}
 use Rattle.disk.specs.declared.refusal.Refusal.TheVariants.{BadImage, NoLabel, NotNow}
-use Rattle.disk.specs.declared.refusal.Outcome.{Outcome}
-use Rattle.disk.specs.declared.refusal.Outcome.TheVariants.{Done, Refused}
+use Rattle.disk.specs.Refusal.{Outcome}
 use Rattle.label.specs.Fields.{geometry_of, fits_of}
 use Rattle.label.specs.Newest.{disk_label, same_shelf, all_of}
 use Rattle.label.specs.declared.fields.Label.{Label}
-use Rattle.label.specs.declared.codec.Decoded.{Decoded}
-use Rattle.label.specs.declared.codec.Decoded.TheVariants as decoded
+use Rattle.label.specs.Fields.{Decoded}
 use Rattle.shelf.specs.Act.{named}
 use Rattle.stages.specs.declared.state.Kind.{Kind}
 use Rattle.stages.specs.declared.state.Kind.TheVariants.{Nothing, Idle, Creating, Starting, Labelling, Writing, Beginning, Filling}
@@ -48,8 +46,8 @@ same_label x y =
     && (eqb x.out y.out && (eqb x.rebuilding y.rebuilding && eqb x.mark y.mark))))
 
 abbrev pub is_label : Label → Decoded → Bool
-is_label l (decoded.Valid x) = same_label l x
-is_label l decoded.Nothing = false
+is_label l (Some x) = same_label l x
+is_label l None = false
 
 -- slot d is absent, or its disk has the label l with its own number
 unfoldable pub holding : Geometry → List ℕ → ℕ → Label → ℕ → Bool
@@ -61,4 +59,4 @@ unfoldable pub ready_of : Label → Kind → ℕ → List ℕ → Outcome
 ready_of l kind absent img =
     cond (has_shelf l kind)
     (cond (fits_image (geometry_of l) (length img))
-    (cond (is_idle kind) (cond (all_of (holding (geometry_of l) img absent l) (l.k + l.m)) Done (Refused NoLabel)) Done) (Refused BadImage)) (Refused NotNow)
+    (cond (is_idle kind) (cond (all_of (holding (geometry_of l) img absent l) (l.k + l.m)) (Ok tt) (Err NoLabel)) (Ok tt)) (Err BadImage)) (Err NotNow)

@@ -1,9 +1,8 @@
 -- The status: eleven numbers, or a refusal. Assumes nothing.
-use Rattle.std.specs.Prelude.{◌≡◌, refl, cond, List, [], ◌∷◌, ℕ, eqb, length, set}
+use Rattle.std.specs.Prelude.{◌≡◌, refl, cond, List, [], ◌∷◌, ℕ, eqb, length, set, Ok, Err}
 use Rattle.std.proofs.Common.{arith}
 use Rattle.disk.specs.declared.refusal.Refusal.TheVariants.{NotNow, BadBuffer}
-use Rattle.disk.specs.declared.refusal.Outcome.{Outcome}
-use Rattle.disk.specs.declared.refusal.Outcome.TheVariants.{Done, Refused}
+use Rattle.disk.specs.Refusal.{Outcome}
 use Rattle.label.specs.declared.fields.Label.{Label}
 use Rattle.requests.specs.Ready.{has_shelf}
 use Rattle.stages.specs.declared.state.State.{State}
@@ -31,12 +30,12 @@ status_fields ready l absent =
 
 -- no shelf: NOT_NOW; room for another count of numbers: BAD_BUFFER
 unfoldable pub status_answer : State → ℕ → Outcome
-status_answer s count = cond (has_shelf s.now s.kind) (cond (eqb count status_count) Done (Refused BadBuffer)) (Refused NotNow)
+status_answer s count = cond (has_shelf s.now s.kind) (cond (eqb count status_count) (Ok tt) (Err BadBuffer)) (Err NotNow)
 
 -- and what it leaves
 abbrev pub after_status : Outcome → State → List ℕ → List ℕ
-after_status Done s f = status_fields (ready_number s.kind) s.now s.absent
-after_status (Refused why) s f = f
+after_status (Ok tt) s f = status_fields (ready_number s.kind) s.now s.absent
+after_status (Err why) s f = f
 
 pub eleven : (f : List ℕ) (a b c d e g h i j k l : ℕ) → length f ≡ status_count
     → set (set (set (set (set (set (set (set (set (set (set f 0 a) 1 b) 2 c) 3 d) 4 e) 5 g) 6 h) 7 i) 8 j) 9 k) 10 l

@@ -1,10 +1,9 @@
 -- Take a slot out: when it is refused, and the label change that it begins. Assumes nothing.
-use Rattle.std.specs.Prelude.{Bool, cond, not, ◌&&◌, ◌||◌, List, ℕ, ◌+◌, leb, ltb, eqb}
+use Rattle.std.specs.Prelude.{Bool, cond, not, ◌&&◌, ◌||◌, List, ℕ, ◌+◌, leb, ltb, eqb, Ok, Err}
 use Rattle.std.specs.Int.Count.{ones}
 use Rattle.disk.specs.Mask.{in_mask, with_slot}
 use Rattle.disk.specs.declared.refusal.Refusal.TheVariants.{TooFew, BadBlock, Busy, NotNow, BadBuffer}
-use Rattle.disk.specs.declared.refusal.Outcome.{Outcome}
-use Rattle.disk.specs.declared.refusal.Outcome.TheVariants.{Done, Refused}
+use Rattle.disk.specs.Refusal.{Outcome}
 use Rattle.label.specs.Fields.{no_slot, most_generation}
 use Rattle.label.specs.declared.fields.Label.{Label}
 use Rattle.requests.specs.Begun.{work_bytes, begun, first, slots_but, marks_of}
@@ -13,7 +12,7 @@ use Rattle.stages.specs.declared.state.State.{State}
 use Rattle.stages.specs.declared.state.Marks.{Marks}
 use Rattle.stages.specs.declared.state.Kind.{Kind}
 use Rattle.stages.specs.declared.state.Kind.TheVariants.{Labelling}
-use Rattle.requests.specs.declared.begun.Begun.{Begun}
+use Rattle.requests.specs.Begun.{Begun}
 
 -- the slots that are out once slot d is; a number that no slot has changes nothing
 unfoldable pub out_with : Label → ℕ → ℕ
@@ -31,11 +30,11 @@ out_now l absent d = in_mask absent d || plainly_out l d
 -- or no generation left: NOT_NOW; another work area: BAD_BUFFER
 unfoldable pub out_answer : Label → Bool → ℕ → ℕ → ℕ → Outcome
 out_answer l idle absent d room =
-    cond (ltb l.m (ones (out_with l d))) (Refused TooFew)
-    (cond (leb (l.k + l.m) d) (Refused BadBlock)
+    cond (ltb l.m (ones (out_with l d))) (Err TooFew)
+    (cond (leb (l.k + l.m) d) (Err BadBlock)
     (cond idle
-    (cond (out_now l absent d) (Refused NotNow)
-    (cond (ltb most_generation (l.generation + 1)) (Refused NotNow) (cond (eqb room (work_bytes (l.k + l.m) l.c)) Done (Refused BadBuffer)))) (Refused Busy)))
+    (cond (out_now l absent d) (Err NotNow)
+    (cond (ltb most_generation (l.generation + 1)) (Err NotNow) (cond (eqb room (work_bytes (l.k + l.m) l.c)) (Ok tt) (Err BadBuffer)))) (Err Busy)))
 
 -- what every changing request is refused for comes first
 abbrev pub take_answer : Label → Kind → ℕ → List ℕ → ℕ → ℕ → Outcome
@@ -81,4 +80,4 @@ abbrev pub took_out : State → ℕ → State
 took_out s d = changed s (outed s.now d) (marks_of (slots_but s.absent (s.now.k + s.now.m)))
 
 abbrev pub take_out_of : State → ℕ → List ℕ → ℕ → Begun
-take_out_of s d img room = begun (take_answer s.now s.kind s.absent img d room) s (took_out s d)
+take_out_of s d img room = begun (take_answer s.now s.kind s.absent img d room) (took_out s d)

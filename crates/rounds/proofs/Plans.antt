@@ -10,6 +10,7 @@ use lib.Count.{ones}
 use lib.Dec.{lit<, leb, ltb, eqb}
 use lib.ListN.{length}
 use borrow.Author.Tests.{eqb-true, ne_eqb, leb-true, le-leb, ltb-true, lt-ltb, le-ltb, not-true}
+use Rattle.std.specs.Prelude.{Ok, Err, Some, None}
 use Rattle.disk.specs.Limits.{most_k, most_m}
 use Rattle.disk.specs.Tests.{and_left, and_right, both}
 use Rattle.disk.specs.Image.{lt_or_ge, fits_image}
@@ -21,57 +22,53 @@ use Rattle.disk.specs.declared.refusal.Refusal.TheVariants.{BadImage, NoLabel, T
 use Rattle.label.specs.Fields.{no_slot, most_generation, geometry_of, rebuild_fits, fits_of}
 use Rattle.label.specs.Newest.{copy_of, disk_label, present_label, shelf_label, same_shelf, agreed}
 use Rattle.label.specs.declared.fields.Label.{Label}
-use Rattle.label.specs.declared.codec.Decoded.{Decoded}
-use Rattle.label.specs.declared.codec.Decoded.TheVariants.{Valid, Nothing}
+use Rattle.label.specs.Fields.{Decoded}
 use Rattle.label.proofs.Fits.{fits_says}
 use Rattle.label.proofs.Counts.{newest_none, disk_says, shelf_says, present_says, disk_own}
-use Rattle.rounds.specs.Slot.{stale, gone, goes_out, adopts, age_under, sector_for, copy_age, prepared, wiped, gets_zeros, gets_label, asked}
+use Rattle.rounds.specs.Slot.{stale, gone, goes_out, adopts, age_under, sector_for, copy_age, prepared, wiped, gets_zeros, gets_label, takes_part, Question}
 use Rattle.rounds.specs.Survey.{slots_that, next_of, plan_of, fits_shelf, labelled, enough, later, unless, table, survey_of}
-use Rattle.rounds.specs.declared.slot.Question.{Question}
-use Rattle.rounds.specs.declared.slot.Question.TheVariants.{Out, Parts, Late, Zeroed, Kept}
 use Rattle.rounds.specs.declared.plan.Plan as plan
-use Rattle.rounds.specs.declared.plan.Survey.{Survey}
-use Rattle.rounds.specs.declared.plan.Survey.TheVariants.{Plan, Refused}
+use Rattle.rounds.specs.Survey.{Survey}
 use Rattle.rounds.specs.Plans.{for_slot, Grounds, Sound}
 
 -- ---- the grounds
 
-unless_plan : (ok : Bool) (why : Refusal) (s : Survey) (p : plan.Plan) → unless ok why s ≡ Plan p → (ok ≡ true) × (s ≡ Plan p)
+unless_plan : (ok : Bool) (why : Refusal) (s : Survey) (p : plan.Plan) → unless ok why s ≡ Ok p → (ok ≡ true) × (s ≡ Ok p)
 unless_plan true why s p e = (refl, e)
 unless_plan false why s p e = absurd (let z : ◌≡◌ {A = ℕ} 0 1 = cc in omega arith)
 
 module _ (g : Geometry) (img : List ℕ) (absent : ℕ) where
-  led_by : (lead : Label) → fits_image g (length img) ≡ true → shelf_label g img absent ≡ Valid lead
-      → (p : plan.Plan) → table g img absent (Valid lead) ≡ Plan p → Grounds g img absent p
+  led_by : (lead : Label) → fits_image g (length img) ≡ true → shelf_label g img absent ≡ Some lead
+      → (p : plan.Plan) → table g img absent (Some lead) ≡ Ok p → Grounds g img absent p
   unfolding next_of plan_of
   led_by lead f x p e =
-      let e1 = unless_plan (labelled g img absent (Valid lead)) NoLabel _ p e in
-      let e2 = unless_plan (enough g img absent (Valid lead)) TooFew _ p e1.1 in
+      let e1 = unless_plan (labelled g img absent (Some lead)) NoLabel _ p e in
+      let e2 = unless_plan (enough g img absent (Some lead)) TooFew _ p e1.1 in
       let e3 = unless_plan (ltb absent (2 ^ g.n)) BadBlock _ p e2.1 in
-      let e4 = unless_plan (later (Valid lead)) NotNow (Plan (plan_of g img absent lead)) p e3.1 in
+      let e4 = unless_plan (later (Some lead)) NotNow (Ok (plan_of g img absent lead)) p e3.1 in
       let q : plan_of g img absent lead ≡ p = cc in
       subst (Grounds g img absent) q (record {
         image_fits = f;
         leads = x;
         agree = and_left (agreed g img absent lead) (fits_shelf g lead) e1.0;
         shelf = and_right (agreed g img absent lead) (fits_shelf g lead) e1.0;
-        few_out = leb-true (ones (slots_that g img absent Out lead)) lead.m e2.0;
+        few_out = leb-true (ones (slots_that g img absent goes_out lead)) lead.m e2.0;
         on_shelf_lem = ltb-true absent (2 ^ g.n) e3.0;
         left = leb-true (lead.generation + 2) most_generation e4.0;
         is = refl;
       })
 
-  pub survey_grounds : (p : plan.Plan) → survey_of g img absent ≡ Plan p → Grounds g img absent p
+  pub survey_grounds : (p : plan.Plan) → survey_of g img absent ≡ Ok p → Grounds g img absent p
   unfolding survey_of
   survey_grounds p e =
       let u = unless_plan (fits_image g (length img)) BadImage (table g img absent (shelf_label g img absent)) p e in
       by (shelf_label g img absent) refl u.0 u.1
     where
-      by : (x : Decoded) → shelf_label g img absent ≡ x → fits_image g (length img) ≡ true → table g img absent x ≡ Plan p → Grounds g img absent p
-      by Nothing q f t =
-          let e1 = unless_plan (labelled g img absent Nothing) NoLabel (Refused TooFew) p t in
+      by : (x : Decoded) → shelf_label g img absent ≡ x → fits_image g (length img) ≡ true → table g img absent x ≡ Ok p → Grounds g img absent p
+      by None q f t =
+          let e1 = unless_plan (labelled g img absent None) NoLabel (Err TooFew) p t in
           absurd (let z : ◌≡◌ {A = ℕ} 0 1 = cc e1.1 in omega arith)
-      by (Valid lead) q f t = led_by lead f q p t
+      by (Some lead) q f t = led_by lead f q p t
 
 -- ---- who takes part, who adopts, who is given what
 
@@ -113,57 +110,57 @@ absent_raw false true false s e h = absurd (let z : ◌≡◌ {A = ℕ} 0 1 = cc
 absent_raw false false a s e h = e
 
 module _ (g : Geometry) (img : List ℕ) (absent : ℕ) (lead : Label) where
-  that_below : (q : Question) (d : ℕ) → d < g.n → in_mask (slots_that g img absent q lead) d ≡ asked q g img absent lead d
+  that_below : (q : Question) (d : ℕ) → d < g.n → in_mask (slots_that g img absent q lead) d ≡ q g img absent lead d
   unfolding slots_that
-  that_below q d l = mask_below (asked q g img absent lead) g.n d l
+  that_below q d l = mask_below (q g img absent lead) g.n d l
 
   that_past : (q : Question) (d : ℕ) → g.n ≤ d → in_mask (slots_that g img absent q lead) d ≡ false
   unfolding slots_that
-  that_past q d h = mask_past (asked q g img absent lead) g.n d h
+  that_past q d h = mask_past (q g img absent lead) g.n d h
 
   -- what is in a mask is a slot of the shelf that answers with yes
-  that_in : (q : Question) (d : ℕ) → in_mask (slots_that g img absent q lead) d ≡ true → (d < g.n) × (asked q g img absent lead d ≡ true)
+  that_in : (q : Question) (d : ℕ) → in_mask (slots_that g img absent q lead) d ≡ true → (d < g.n) × (q g img absent lead d ≡ true)
   that_in q d e = ⊎_elim (λ (l : d < g.n). (l, sym (that_below q d l) ∙ e)) (λ (h : g.n ≤ d). absurd (let f = that_past q d h in let z : ◌≡◌ {A = ℕ} 0 1 = cc in omega arith)) (lt_or_ge d g.n)
 
-  present_slots : (d : ℕ) → (in_mask (slots_that g img absent Parts lead) d || in_mask (slots_that g img absent Late lead) d) ≡ (ltb d g.n && not (in_mask absent d))
+  present_slots : (d : ℕ) → (in_mask (slots_that g img absent takes_part lead) d || in_mask (slots_that g img absent adopts lead) d) ≡ (ltb d g.n && not (in_mask absent d))
   unfolding gone adopts
   present_slots d = ⊎_elim
-      (λ (l : d < g.n). ap₂ (λ (x y : Bool). x || y) (that_below Parts d l) (that_below Late d l) ∙ present_raw (ltb d g.n) (in_mask absent d) (stale g img absent lead d) (lt-ltb d g.n l))
-      (λ (h : g.n ≤ d). ap₂ (λ (x y : Bool). x || y) (that_past Parts d h) (that_past Late d h) ∙ sym (ap (λ (t : Bool). t && not (in_mask absent d)) (le-ltb d g.n h)))
+      (λ (l : d < g.n). ap₂ (λ (x y : Bool). x || y) (that_below takes_part d l) (that_below adopts d l) ∙ present_raw (ltb d g.n) (in_mask absent d) (stale g img absent lead d) (lt-ltb d g.n l))
+      (λ (h : g.n ≤ d). ap₂ (λ (x y : Bool). x || y) (that_past takes_part d h) (that_past adopts d h) ∙ sym (ap (λ (t : Bool). t && not (in_mask absent d)) (le-ltb d g.n h)))
       (lt_or_ge d g.n)
 
-  apart_slots : (d : ℕ) → (in_mask (slots_that g img absent Parts lead) d && in_mask (slots_that g img absent Late lead) d) ≡ false
+  apart_slots : (d : ℕ) → (in_mask (slots_that g img absent takes_part lead) d && in_mask (slots_that g img absent adopts lead) d) ≡ false
   unfolding gone adopts
   apart_slots d = ⊎_elim
-      (λ (l : d < g.n). ap₂ (λ (x y : Bool). x && y) (that_below Parts d l) (that_below Late d l) ∙ apart_raw (ltb d g.n) (in_mask absent d) (stale g img absent lead d) (lt-ltb d g.n l))
-      (λ (h : g.n ≤ d). ap₂ (λ (x y : Bool). x && y) (that_past Parts d h) (that_past Late d h))
+      (λ (l : d < g.n). ap₂ (λ (x y : Bool). x && y) (that_below takes_part d l) (that_below adopts d l) ∙ apart_raw (ltb d g.n) (in_mask absent d) (stale g img absent lead d) (lt-ltb d g.n l))
+      (λ (h : g.n ≤ d). ap₂ (λ (x y : Bool). x && y) (that_past takes_part d h) (that_past adopts d h))
       (lt_or_ge d g.n)
 
-  one_way_slots : (d : ℕ) → (in_mask (slots_that g img absent Zeroed lead) d && in_mask (slots_that g img absent Kept lead) d) ≡ false
+  one_way_slots : (d : ℕ) → (in_mask (slots_that g img absent gets_zeros lead) d && in_mask (slots_that g img absent gets_label lead) d) ≡ false
   unfolding gets_zeros gets_label
   one_way_slots d = ⊎_elim
-      (λ (l : d < g.n). ap₂ (λ (x y : Bool). x && y) (that_below Zeroed d l) (that_below Kept d l) ∙ one_way_raw (adopts g img absent lead d) (prepared g img lead d) (wiped g img lead d))
-      (λ (h : g.n ≤ d). ap₂ (λ (x y : Bool). x && y) (that_past Zeroed d h) (that_past Kept d h))
+      (λ (l : d < g.n). ap₂ (λ (x y : Bool). x && y) (that_below gets_zeros d l) (that_below gets_label d l) ∙ one_way_raw (adopts g img absent lead d) (prepared g img lead d) (wiped g img lead d))
+      (λ (h : g.n ≤ d). ap₂ (λ (x y : Bool). x && y) (that_past gets_zeros d h) (that_past gets_label d h))
       (lt_or_ge d g.n)
 
   -- no copy on a present disk is ahead of the shelf's label, so no slot is prepared
-  module _ (leads : shelf_label g img absent ≡ Valid lead) where
-    copy_top : (d s : ℕ) (x : Label) → d < g.n → s < 2 → in_mask absent d ≡ false → copy_of g img d s ≡ Valid x → x.generation ≤ lead.generation
+  module _ (leads : shelf_label g img absent ≡ Some lead) where
+    copy_top : (d s : ℕ) (x : Label) → d < g.n → s < 2 → in_mask absent d ≡ false → copy_of g img d s ≡ Some x → x.generation ≤ lead.generation
     unfolding disk_label present_label
     copy_top d s x hd hs e q = by (disk_label g img d) refl
       where
         by : (u : Decoded) → disk_label g img d ≡ u → x.generation ≤ lead.generation
-        by Nothing f = absurd (newest_none (copy_of g img d) 2 f s x hs q)
-        by (Valid l) f =
-            omega (arith, (disk_says g img d l f).greatest s x hs q, (shelf_says g img absent lead leads).greatest d l hd (ap (λ (t : Bool). cond t Nothing (disk_label g img d)) e ∙ f))
+        by None f = absurd (newest_none (copy_of g img d) 2 f s x hs q)
+        by (Some l) f =
+            omega (arith, (disk_says g img d l f).greatest s x hs q, (shelf_says g img absent lead leads).greatest d l hd (ap (λ (t : Bool). cond t None (disk_label g img d)) e ∙ f))
 
     age_top : (d s : ℕ) → d < g.n → s < 2 → in_mask absent d ≡ false → copy_age g img lead d s ≤ lead.generation
     unfolding copy_age
     age_top d s hd hs e = by (copy_of g img d s) refl
       where
         by : (u : Decoded) → copy_of g img d s ≡ u → age_under lead u ≤ lead.generation
-        by Nothing q = omega arith
-        by (Valid x) q = go (same_shelf lead x)
+        by None q = omega arith
+        by (Some x) q = go (same_shelf lead x)
           where
             go : (t : Bool) → cond t x.generation 0 ≤ lead.generation
             go true = copy_top d s x hd hs e q
@@ -175,27 +172,27 @@ module _ (g : Geometry) (img : List ℕ) (absent : ℕ) (lead : Label) where
         ne_eqb (copy_age g img lead d (sector_for (lead.generation + 1))) (lead.generation + 1)
         (λ q. omega (arith, age_top d (sector_for (lead.generation + 1)) hd (mod-lt (lead.generation + 1) (lit< tt)) e))
 
-    given_slots : (d : ℕ) → (in_mask (slots_that g img absent Zeroed lead) d || in_mask (slots_that g img absent Kept lead) d) ≡ in_mask (slots_that g img absent Late lead) d
+    given_slots : (d : ℕ) → (in_mask (slots_that g img absent gets_zeros lead) d || in_mask (slots_that g img absent gets_label lead) d) ≡ in_mask (slots_that g img absent adopts lead) d
     unfolding adopts gets_zeros gets_label
     given_slots d = ⊎_elim
         (λ (l : d < g.n).
-        ap₂ (λ (x y : Bool). x || y) (that_below Zeroed d l) (that_below Kept d l)
+        ap₂ (λ (x y : Bool). x || y) (that_below gets_zeros d l) (that_below gets_label d l)
         ∙ given_raw (adopts g img absent lead d) (prepared g img lead d) (wiped g img lead d)
         (λ e. unprepared d l (not-true (in_mask absent d) (and_left (not (in_mask absent d)) (stale g img absent lead d) e)))
-        ∙ sym (that_below Late d l))
-        (λ (h : g.n ≤ d). ap₂ (λ (x y : Bool). x || y) (that_past Zeroed d h) (that_past Kept d h) ∙ sym (that_past Late d h))
+        ∙ sym (that_below adopts d l))
+        (λ (h : g.n ≤ d). ap₂ (λ (x y : Bool). x || y) (that_past gets_zeros d h) (that_past gets_label d h) ∙ sym (that_past adopts d h))
         (lt_or_ge d g.n)
 
-  late_slots : (d : ℕ) → in_mask (slots_that g img absent Late lead) d ≡ true → in_mask (slots_that g img absent Out lead) d ≡ true
+  late_slots : (d : ℕ) → in_mask (slots_that g img absent adopts lead) d ≡ true → in_mask (slots_that g img absent goes_out lead) d ≡ true
   unfolding gone goes_out adopts
   late_slots d e =
-      let u = that_in Late d e in
-      that_below Out d u.0 ∙ late_raw (in_mask lead.out d) (ltb d g.n) (in_mask absent d) (stale g img absent lead d) (lt-ltb d g.n u.0) u.1
+      let u = that_in adopts d e in
+      that_below goes_out d u.0 ∙ late_raw (in_mask lead.out d) (ltb d g.n) (in_mask absent d) (stale g img absent lead d) (lt-ltb d g.n u.0) u.1
 
-  absent_slots : absent < 2 ^ g.n → (d : ℕ) → in_mask absent d ≡ true → in_mask (slots_that g img absent Out lead) d ≡ true
+  absent_slots : absent < 2 ^ g.n → (d : ℕ) → in_mask absent d ≡ true → in_mask (slots_that g img absent goes_out lead) d ≡ true
   unfolding gone goes_out
   absent_slots a d e = ⊎_elim
-      (λ (l : d < g.n). that_below Out d l ∙ absent_raw (in_mask lead.out d) (ltb d g.n) (in_mask absent d) (stale g img absent lead d) (lt-ltb d g.n l) e)
+      (λ (l : d < g.n). that_below goes_out d l ∙ absent_raw (in_mask lead.out d) (ltb d g.n) (in_mask absent d) (stale g img absent lead d) (lt-ltb d g.n l) e)
       (λ (h : g.n ≤ d). absurd (let f = in_past g.n absent d a h in let z : ◌≡◌ {A = ℕ} 0 1 = cc in omega arith))
       (lt_or_ge d g.n)
 
@@ -203,19 +200,7 @@ module _ (g : Geometry) (img : List ℕ) (absent : ℕ) (lead : Label) where
 
 -- the label l with another slot, generation, Out, rebuild and mark
 abbrev changed : Label → (d q o r t : ℕ) → Label
-changed l d q o r t =
-    record {
-      k = l.k;
-      m = l.m;
-      slot = d;
-      c = l.c;
-      sectors = l.sectors;
-      shelf = l.shelf;
-      generation = q;
-      out = o;
-      rebuilding = r;
-      mark = t;
-    }
+changed l d q o r t = record l { slot = d; generation = q; out = o; rebuilding = r; mark = t }
 
 fits_changed : (l : Label) (d q o r t : ℕ) → fits_of l ≡ true → d < l.k + l.m → 1 ≤ q → q ≤ most_generation → o < 2 ^ (l.k + l.m)
     → rebuild_fits (changed l d q o r t) ≡ true → fits_of (changed l d q o r t) ≡ true
@@ -231,7 +216,7 @@ fits_changed l d q o r t e hd h1 hq ho hr =
     (both (leb q most_generation) _ (le-leb q most_generation hq) (both (ltb o (2 ^ (l.k + l.m))) _ (lt-ltb o (2 ^ (l.k + l.m)) ho) hr))))))
 
 -- the shelf's label is a valid one
-shelf_fits : (g : Geometry) (img : List ℕ) (absent : ℕ) (l : Label) → shelf_label g img absent ≡ Valid l → fits_of l ≡ true
+shelf_fits : (g : Geometry) (img : List ℕ) (absent : ℕ) (l : Label) → shelf_label g img absent ≡ Some l → fits_of l ≡ true
 shelf_fits g img absent l e =
     let s = shelf_says g img absent l e in
     (disk_own g img s.whose l (present_says g img absent s.whose l s.is).1).1
@@ -287,13 +272,13 @@ module _ (g : Geometry) (img : List ℕ) (absent : ℕ) (lead : Label) (fit : fi
       by (gone g img absent lead lead.rebuilding)
     where
       o : ℕ
-      o = mask_of (asked Out g img absent lead) g.n
+      o = mask_of (goes_out g img absent lead) g.n
 
       n_is : lead.k + lead.m ≡ g.n
       n_is = slots_same g lead own
 
       o_below : o < 2 ^ (lead.k + lead.m)
-      o_below = subst (λ (x : ℕ). o < 2 ^ x) (sym n_is) (mask_lt (asked Out g img absent lead) g.n)
+      o_below = subst (λ (x : ℕ). o < 2 ^ x) (sym n_is) (mask_lt (goes_out g img absent lead) g.n)
 
       by : (b : Bool) → fits_of (changed lead d q o (cond b no_slot lead.rebuilding) (cond b 0 lead.mark)) ≡ true
       by true = fits_changed lead d q o no_slot 0 fit (omega (arith, n_is)) h1 (omega arith) o_below (ended lead d q o)
@@ -302,11 +287,11 @@ module _ (g : Geometry) (img : List ℕ) (absent : ℕ) (lead : Label) (fit : fi
           (rebuild_on lead d q o (λ l e. goes (omega (arith, n_is)) e) (fits_says lead fit).rebuild)
         where
           goes : lead.rebuilding < g.n → in_mask lead.out lead.rebuilding ≡ true → in_mask o lead.rebuilding ≡ true
-          goes l e = mask_below (asked Out g img absent lead) g.n lead.rebuilding l ∙ out_stays g img absent lead lead.rebuilding e
+          goes l e = mask_below (goes_out g img absent lead) g.n lead.rebuilding l ∙ out_stays g img absent lead lead.rebuilding e
 
 -- ---- every plan is sound
 
-pub plan_sound : (g : Geometry) (img : List ℕ) (absent : ℕ) (p : plan.Plan) → survey_of g img absent ≡ Plan p → Sound g absent p
+pub plan_sound : (g : Geometry) (img : List ℕ) (absent : ℕ) (p : plan.Plan) → survey_of g img absent ≡ Ok p → Sound g absent p
 unfolding next_of plan_of
 plan_sound g img absent p e =
     let w = survey_grounds g img absent p e in

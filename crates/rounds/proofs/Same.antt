@@ -12,6 +12,7 @@ use lib.Count.{ones}
 use lib.Dec.{lit<, leb, ltb, eqb}
 use lib.ListN.{length}
 use borrow.Author.Tests.{le-ltb}
+use Rattle.std.specs.Prelude.{Ok, Some, None}
 use Rattle.disk.specs.Image.{lt_or_ge, fits_image}
 use Rattle.disk.specs.Mask.{in_mask, with_slot, mask_of}
 use Rattle.disk.specs.declared.geometry.Geometry.{Geometry}
@@ -20,15 +21,11 @@ use Rattle.label.specs.Fields.{no_slot}
 use Rattle.label.specs.Valid.{decode_of}
 use Rattle.label.specs.Newest.{newer, newest_of, copy_of, disk_label, present_label, shelf_label, agreeing, standing, all_of, agreed}
 use Rattle.label.specs.declared.fields.Label.{Label}
-use Rattle.label.specs.declared.codec.Decoded.{Decoded}
-use Rattle.label.specs.declared.codec.Decoded.TheVariants.{Valid, Nothing}
-use Rattle.rounds.specs.Slot.{age_of, behind, disowned, stale, gone, goes_out, adopts, age_under, sector_for, copy_age, prepared, wiped, gets_zeros, gets_label, asked}
+use Rattle.label.specs.Fields.{Decoded}
+use Rattle.rounds.specs.Slot.{age_of, behind, disowned, stale, gone, goes_out, adopts, age_under, sector_for, copy_age, prepared, wiped, gets_zeros, gets_label, takes_part, Question}
 use Rattle.rounds.specs.Survey.{slots_that, next_of, plan_of, fits_shelf, labelled, enough, later, planned, unless, table, survey_of}
 use Rattle.rounds.specs.Plans.{Alike}
-use Rattle.rounds.specs.declared.slot.Question.{Question}
-use Rattle.rounds.specs.declared.slot.Question.TheVariants.{Out, Parts, Late, Zeroed, Kept}
-use Rattle.rounds.specs.declared.plan.Survey.{Survey}
-use Rattle.rounds.specs.declared.plan.Survey.TheVariants.{Plan}
+use Rattle.rounds.specs.Survey.{Survey}
 
 -- ---- the first n alone matter
 
@@ -60,9 +57,9 @@ module _ (g : Geometry) (x y : List ℕ) (a b : ℕ) (h : Alike g x y a b) where
 
   present_same : (d : ℕ) → d < g.n → present_label g x a d ≡ present_label g y b d
   unfolding present_label
-  present_same d hd = ap (λ (t : Bool). cond t Nothing (disk_label g x d)) (h.absents d hd) ∙ by (in_mask b d) (h.absents d hd)
+  present_same d hd = ap (λ (t : Bool). cond t None (disk_label g x d)) (h.absents d hd) ∙ by (in_mask b d) (h.absents d hd)
     where
-      by : (t : Bool) → in_mask a d ≡ t → cond t Nothing (disk_label g x d) ≡ cond t Nothing (disk_label g y d)
+      by : (t : Bool) → in_mask a d ≡ t → cond t None (disk_label g x d) ≡ cond t None (disk_label g y d)
       by true e = refl
       by false e = disk_same d hd e
 
@@ -111,45 +108,44 @@ module _ (g : Geometry) (x y : List ℕ) (a b : ℕ) (h : Alike g x y a b) where
         by true f = refl
         by false f = ap (λ (u : Bool). stale g y b l d && u) (e f)
 
-    asked_same : (q : Question) (d : ℕ) → d < g.n → asked q g x a l d ≡ asked q g y b l d
-    unfolding goes_out gets_zeros gets_label
-    asked_same Out d hd = ap (λ (t : Bool). in_mask l.out d || t) (gone_same d)
-    asked_same Parts d hd = ap not (gone_same d)
-    asked_same Late d hd = adopts_same d hd
-    asked_same Zeroed d hd = adopting d (not (prepared g x l d) && wiped g x l d) (not (prepared g y l d) && wiped g y l d) hd (λ e. ap₂ (λ (u v : Bool). not u && v) (prepared_same d hd e) (wiped_same d hd e))
-    asked_same Kept d hd = adopting d (not (prepared g x l d) && not (wiped g x l d)) (not (prepared g y l d) && not (wiped g y l d)) hd (λ e. ap₂ (λ (u v : Bool). not u && not v) (prepared_same d hd e) (wiped_same d hd e))
-
-    that_same : (q : Question) → slots_that g x a q l ≡ slots_that g y b q l
+    -- the slots of which a test holds that it answers alike
+    that_same : (q : Question) → ((d : ℕ) → d < g.n → q g x a l d ≡ q g y b l d) → slots_that g x a q l ≡ slots_that g y b q l
     unfolding slots_that
-    that_same q = mask_same (asked q g x a l) (asked q g y b l) g.n (asked_same q)
+    that_same q e = mask_same (q g x a l) (q g y b l) g.n e
+
+    out_same : slots_that g x a goes_out l ≡ slots_that g y b goes_out l
+    unfolding goes_out
+    out_same = that_same goes_out (λ d hd. ap (λ (t : Bool). in_mask l.out d || t) (gone_same d))
+
+    parts_same : slots_that g x a takes_part l ≡ slots_that g y b takes_part l
+    parts_same = that_same takes_part (λ d hd. ap not (gone_same d))
+
+    late_same : slots_that g x a adopts l ≡ slots_that g y b adopts l
+    late_same = that_same adopts adopts_same
+
+    zeroed_same : slots_that g x a gets_zeros l ≡ slots_that g y b gets_zeros l
+    unfolding gets_zeros
+    zeroed_same =
+        that_same gets_zeros
+        (λ d hd. adopting d (not (prepared g x l d) && wiped g x l d) (not (prepared g y l d) && wiped g y l d) hd (λ e. ap₂ (λ (u v : Bool). not u && v) (prepared_same d hd e) (wiped_same d hd e)))
+
+    kept_same : slots_that g x a gets_label l ≡ slots_that g y b gets_label l
+    unfolding gets_label
+    kept_same =
+        that_same gets_label
+        (λ d hd. adopting d (not (prepared g x l d) && not (wiped g x l d)) (not (prepared g y l d) && not (wiped g y l d)) hd (λ e. ap₂ (λ (u v : Bool). not u && not v) (prepared_same d hd e) (wiped_same d hd e)))
 
     next_same : next_of g x a l ≡ next_of g y b l
     unfolding next_of
     next_same =
-        let o = that_same Out in
+        let o = out_same in
         let e = gone_same l.rebuilding in
-        λ i. record {
-          k = l.k;
-          m = l.m;
-          slot = l.slot;
-          c = l.c;
-          sectors = l.sectors;
-          shelf = l.shelf;
-          generation = l.generation + 2;
-          out = o i;
-          rebuilding = cond (e i) no_slot l.rebuilding;
-          mark = cond (e i) 0 l.mark;
-        }
+        λ i. record l { generation = l.generation + 2; out = o i; rebuilding = cond (e i) no_slot l.rebuilding; mark = cond (e i) 0 l.mark }
 
     plan_same : plan_of g x a l ≡ plan_of g y b l
     unfolding plan_of
     plan_same =
-        let n = next_same in
-        let p = that_same Parts in
-        let t = that_same Late in
-        let z = that_same Zeroed in
-        let k = that_same Kept in
-        λ i. record { lead = l; next = n i; parts = p i; late = t i; zeroed = z i; kept = k i }
+        λ i. record { lead = l; next = next_same i; parts = parts_same i; late = late_same i; zeroed = zeroed_same i; kept = kept_same i }
 
   -- ---- the table
 
@@ -158,21 +154,21 @@ module _ (g : Geometry) (x y : List ℕ) (a b : ℕ) (h : Alike g x y a b) where
 
   shelf_same : shelf_label g x a ≡ shelf_label g y b
   unfolding shelf_label
-  shelf_same = ap₂ (λ (t : Bool) (u : Decoded). cond t u Nothing) fits_same (newest_same (present_label g x a) (present_label g y b) g.n present_same)
+  shelf_same = ap₂ (λ (t : Bool) (u : Decoded). cond t u None) fits_same (newest_same (present_label g x a) (present_label g y b) g.n present_same)
 
   labelled_same : (u : Decoded) → labelled g x a u ≡ labelled g y b u
   unfolding agreed
-  labelled_same Nothing = all_same (in_mask a) (in_mask b) g.n h.absents
-  labelled_same (Valid l) =
+  labelled_same None = all_same (in_mask a) (in_mask b) g.n h.absents
+  labelled_same (Some l) =
       ap₂ (λ (s t : Bool). (s && t) && fits_shelf g l) fits_same (all_same (standing g x a l) (standing g y b l) g.n (standing_same l))
 
   enough_same : (u : Decoded) → enough g x a u ≡ enough g y b u
-  enough_same Nothing = refl
-  enough_same (Valid l) = ap (λ (m : ℕ). leb (ones m) l.m) (that_same l Out)
+  enough_same None = refl
+  enough_same (Some l) = ap (λ (m : ℕ). leb (ones m) l.m) (out_same l)
 
   planned_same : (u : Decoded) → planned g x a u ≡ planned g y b u
-  planned_same Nothing = refl
-  planned_same (Valid l) = ap Plan (plan_same l)
+  planned_same None = refl
+  planned_same (Some l) = ap Ok (plan_same l)
 
   table_same : (u : Decoded) → table g x a u ≡ table g y b u
   table_same u =

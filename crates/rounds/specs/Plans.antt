@@ -1,7 +1,7 @@
 -- What holds of every survey. Proved in proofs/Plans.antt: `survey_grounds`, on what grounds a plan is made; `plan_sound`,
 -- who takes part and who adopts, and that its labels can be written. In proofs/Same.antt: `survey_same`, no survey depends on
 -- the bytes of an absent slot. Assumes nothing.
-use Rattle.std.specs.Prelude.{◌≡◌, true, false, not, ◌&&◌, ◌||◌, List, ℕ, ◌+◌, ◌≤◌, ◌<◌, ◌^◌, ltb, length}
+use Rattle.std.specs.Prelude.{◌≡◌, true, false, not, ◌&&◌, ◌||◌, List, ℕ, ◌+◌, ◌≤◌, ◌<◌, ◌^◌, ltb, length, Some}
 use Rattle.std.specs.Int.Count.{ones}
 use Rattle.disk.specs.Image.{fits_image, read_of}
 use Rattle.disk.specs.Mask.{in_mask}
@@ -9,7 +9,6 @@ use Rattle.disk.specs.declared.geometry.Geometry.{Geometry}
 use Rattle.label.specs.Fields.{most_generation, fits_of}
 use Rattle.label.specs.Newest.{shelf_label, agreed}
 use Rattle.label.specs.declared.fields.Label.{Label}
-use Rattle.label.specs.declared.codec.Decoded.TheVariants.{Valid}
 use Rattle.rounds.specs.Survey.{plan_of, fits_shelf}
 use Rattle.rounds.specs.declared.plan.Plan as plan
 
@@ -32,7 +31,7 @@ for_slot l d q =
 -- on what grounds the plan p was made: no refusal of the table applied, and p is the plan under the shelf's label
 pub record Grounds (g : Geometry) (img : List ℕ) (absent : ℕ) (p : plan.Plan) : Type 0 where
   pub image_fits : fits_image g (length img) ≡ true
-  pub leads : shelf_label g img absent ≡ Valid p.lead
+  pub leads : shelf_label g img absent ≡ Some p.lead
   pub agree : agreed g img absent p.lead ≡ true
   pub shelf : fits_shelf g p.lead ≡ true
   pub few_out : ones p.next.out ≤ p.lead.m

@@ -1,27 +1,24 @@
 -- What start-up asks of one slot, with the shelf's label (`lead`, of generation M) in hand. A slot's own label is that of
 -- its disk if the slot is present: of an absent slot nothing is read. Assumes nothing.
-use Rattle.std.specs.Prelude.{Bool, false, not, ◌&&◌, ◌||◌, cond, List, ℕ, ◌+◌, ◌%◌, ltb, eqb}
+use Rattle.std.specs.Prelude.{Bool, false, not, ◌&&◌, ◌||◌, cond, List, ℕ, ◌+◌, ◌%◌, ltb, eqb, Some, None}
 use Rattle.disk.specs.Mask.{in_mask}
 use Rattle.disk.specs.declared.geometry.Geometry.{Geometry}
 use Rattle.label.specs.Newest.{copy_of, present_label, same_shelf}
 use Rattle.label.specs.declared.fields.Label.{Label}
-use Rattle.label.specs.declared.codec.Decoded.{Decoded}
-use Rattle.label.specs.declared.codec.Decoded.TheVariants.{Valid, Nothing}
-use Rattle.rounds.specs.declared.slot.Question.{Question}
-use Rattle.rounds.specs.declared.slot.Question.TheVariants.{Out, Parts, Late, Zeroed, Kept}
+use Rattle.label.specs.Fields.{Decoded}
 
 -- the generation of a label, 0 where there is none
 abbrev pub age_of : Decoded → ℕ
-age_of Nothing = 0
-age_of (Valid l) = l.generation
+age_of None = 0
+age_of (Some l) = l.generation
 
 -- a label calls slot d plainly out: it is out, and not the one being rebuilt
 unfoldable pub plainly_out : Label → ℕ → Bool
 plainly_out l d = in_mask l.out d && not (eqb d l.rebuilding)
 
 abbrev pub calls_out : Decoded → ℕ → Bool
-calls_out Nothing d = false
-calls_out (Valid l) d = plainly_out l d
+calls_out None d = false
+calls_out (Some l) d = plainly_out l d
 
 -- A disk missed something, whatever it looks like, if its own label is more than one generation behind the newest one seen,
 unfoldable pub behind : ℕ → ℕ → Bool
@@ -33,8 +30,8 @@ disowned own lead d = calls_out own d && not (plainly_out lead d)
 
 -- the generation of a copy of this shelf, 0 where there is none
 abbrev pub age_under : Label → Decoded → ℕ
-age_under lead Nothing = 0
-age_under lead (Valid x) = cond (same_shelf lead x) x.generation 0
+age_under lead None = 0
+age_under lead (Some x) = cond (same_shelf lead x) x.generation 0
 
 -- the label of generation q is written to sector q mod 2
 abbrev pub sector_for : ℕ → ℕ
@@ -49,6 +46,10 @@ module _ (g : Geometry) (img : List ℕ) where
     -- absent or stale
     unfoldable pub gone : Bool
     gone = ltb d g.n && (in_mask absent d || stale)
+
+    -- neither: it takes part in the rounds
+    abbrev pub takes_part : Bool
+    takes_part = not gone
 
     -- in Out': out in the shelf's label, or gone
     unfoldable pub goes_out : Bool
@@ -81,10 +82,6 @@ module _ (g : Geometry) (img : List ℕ) where
     unfoldable pub gets_label : Bool
     gets_label = adopts absent lead d && (not (prepared lead d) && not (wiped lead d))
 
--- the tests whose answers are masks
-abbrev pub asked : Question → Geometry → List ℕ → ℕ → Label → ℕ → Bool
-asked Out g img absent lead d = goes_out g img absent lead d
-asked Parts g img absent lead d = not (gone g img absent lead d)
-asked Late g img absent lead d = adopts g img absent lead d
-asked Zeroed g img absent lead d = gets_zeros g img absent lead d
-asked Kept g img absent lead d = gets_label g img absent lead d
+-- a test of a slot d of an image, with the absent slots and the shelf's label, as goes_out, takes_part, adopts, gets_zeros and gets_label are
+abbrev pub Question : Type 0
+Question = Geometry → List ℕ → ℕ → Label → ℕ → Bool

@@ -3,5 +3,5 @@
 #![tactic(auto)]
 
 pub mod plan;
-mod slot;
+pub mod slot;
 pub mod survey;

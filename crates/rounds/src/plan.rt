@@ -1,5 +1,4 @@
-// What start-up will write, or why it refuses.
-use disk::refusal::Refusal;
+// What start-up will write.
 use label::fields::Label;
 
 #[derive(Clone, Copy)]
@@ -16,10 +15,4 @@ pub struct Plan {
     pub zeroed: u64,
     // Late slots whose sector of generation M + 1 is to hold `next` with that generation.
     pub kept: u64,
-}
-
-#[derive(Clone, Copy)]
-pub enum Survey {
-    Plan(Plan),
-    Refused(Refusal),
 }

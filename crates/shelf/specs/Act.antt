@@ -1,16 +1,14 @@
 -- One action of a stage, on one slot: the answer, the state and the image that it leaves. Assumes nothing.
-use Rattle.std.specs.Prelude.{Bool, cond, ◌&&◌, List, ℕ, ◌+◌, ◌*◌, ◌/◌, ◌%◌, leb, ltb, length, replicate}
+use Rattle.std.specs.Prelude.{Bool, cond, ◌&&◌, List, ℕ, ◌+◌, ◌*◌, ◌/◌, ◌%◌, leb, ltb, length, replicate, Ok, Err}
 use Rattle.disk.specs.Limits.{sector_bytes, most_sectors, first_log, first_strip}
 use Rattle.disk.specs.Geometry.{in_range, stripes_of, strip_of, found}
 use Rattle.disk.specs.Image.{put_sector, put_answer}
 use Rattle.disk.specs.Mask.{in_mask}
 use Rattle.disk.specs.declared.geometry.Geometry.{Geometry}
-use Rattle.disk.specs.declared.geometry.Found.{Found}
-use Rattle.disk.specs.declared.geometry.Found.TheVariants as spot
+use Rattle.disk.specs.Geometry.{Found}
 use Rattle.disk.specs.declared.refusal.Refusal.{Refusal}
 use Rattle.disk.specs.declared.refusal.Refusal.TheVariants.{NotNow}
-use Rattle.disk.specs.declared.refusal.Outcome.{Outcome}
-use Rattle.disk.specs.declared.refusal.Outcome.TheVariants as outcome
+use Rattle.disk.specs.Refusal.{Outcome}
 use Rattle.label.specs.Fields.{fits_of}
 use Rattle.label.specs.Bytes.{sealed}
 use Rattle.label.specs.declared.fields.Label.{Label}
@@ -20,13 +18,13 @@ use Rattle.shelf.specs.Fill.{rebuild_answer, rebuilt_sector}
 use Rattle.shelf.specs.Kept.{kept_of, part_of, record_sector, logged_answer}
 use Rattle.stages.specs.State.{moved}
 use Rattle.stages.specs.declared.state.State.{State}
-use Rattle.stages.specs.declared.state.Stepped.{Stepped}
-use Rattle.stages.specs.declared.state.Answer.TheVariants.{Put, Flush, Refused}
+use Rattle.stages.specs.Told.{Told}
+use Rattle.stages.specs.Told.{Put, Flush, Refused}
 use Rattle.stages.specs.declared.stage.Stage.{Stage}
 use Rattle.stages.specs.declared.stage.Stage.TheVariants as stage
 
 pub record Move : Type 0 where
-  pub stepped : Stepped
+  pub stepped : Told
   pub image : List ℕ
 
 -- the state after one of `count` sectors was put on slot d
@@ -34,7 +32,7 @@ unfoldable pub onward : State → ℕ → ℕ → State
 onward s d count =
     cond (ltb (s.cursor.sector + 1) count) (moved s s.cursor.stage d (s.cursor.sector + 1)) (moved s s.cursor.stage (d + 1) 0)
 
-abbrev pub refusal : State → Refusal → Stepped
+abbrev pub refusal : State → Refusal → Told
 refusal s why = record { state = s; answer = Refused why }
 
 abbrev pub refuses : State → Refusal → List ℕ → Move
@@ -42,16 +40,16 @@ refuses s why img = record { stepped = refusal s why; image = img }
 
 -- sector s of slot d is put; nothing, where that is refused
 abbrev pub by_outcome : Outcome → State → Geometry → ℕ → ℕ → ℕ → List ℕ → List ℕ → Move
-by_outcome outcome.Done s g d to count v img =
+by_outcome (Ok tt) s g d to count v img =
     record { stepped = record { state = onward s d count; answer = Put d to }; image = put_sector g.sectors img d to v }
-by_outcome (outcome.Refused why) s g d to count v img = refuses s why img
+by_outcome (Err why) s g d to count v img = refuses s why img
 
 unfoldable pub put_move : State → Geometry → ℕ → ℕ → ℕ → List ℕ → List ℕ → Move
 put_move s g d to count v img =
     cond (in_mask s.absent d) (refuses s NotNow img) (by_outcome (put_answer g (length img) d to (length v)) s g d to count v img)
 
 -- slot d is to be flushed
-unfoldable pub flush_move : State → ℕ → Stepped
+unfoldable pub flush_move : State → ℕ → Told
 flush_move s d = cond (in_mask s.absent d) (refusal s NotNow) (record { state = onward s d 1; answer = Flush d })
 
 -- the label for slot d
@@ -82,14 +80,14 @@ wipe_move s g d img = put_move s g d (first_log + g.c) 1 (replicate sector_bytes
 
 -- the next sector of the strip that begins there, from the record
 abbrev pub by_strip : Found → State → Geometry → ℕ → List ℕ → Move
-by_strip (spot.At p) s g d img =
-    put_move s g d (p + s.cursor.sector) g.c (after_restore outcome.Done (area_of g img d) g.c s.cursor.sector (replicate sector_bytes 0)) img
-by_strip (spot.Refused why) s g d img = refuses s NotNow img
+by_strip (Ok p) s g d img =
+    put_move s g d (p + s.cursor.sector) g.c (after_restore (Ok tt) (area_of g img d) g.c s.cursor.sector (replicate sector_bytes 0)) img
+by_strip (Err why) s g d img = refuses s NotNow img
 
 -- where the record can give it back, and there is such a strip
 abbrev pub by_restored : Outcome → State → Geometry → ℕ → ℕ → List ℕ → Move
-by_restored outcome.Done s g d t img = by_strip (found (in_range g) (ltb t (stripes_of g)) (strip_of g t)) s g d img
-by_restored (outcome.Refused why) s g d t img = refuses s NotNow img
+by_restored (Ok tt) s g d t img = by_strip (found (in_range g) (ltb t (stripes_of g)) (strip_of g t)) s g d img
+by_restored (Err why) s g d t img = refuses s NotNow img
 
 unfoldable pub restore_move : State → Geometry → ℕ → ℕ → List ℕ → Move
 restore_move s g d t img =
@@ -101,9 +99,9 @@ tail_of s t shards = record { stamp = record { epoch = s.epoch; count = s.count 
 
 -- the next sector of the record of the shard v
 abbrev pub by_logged : Outcome → State → Geometry → ℕ → ℕ → ℕ → List ℕ → List ℕ → Move
-by_logged outcome.Done s g d t shards v img =
+by_logged (Ok tt) s g d t shards v img =
     put_move s g d (first_log + s.cursor.sector) (g.c + 1) (record_sector (tail_of s t shards) g.c s.cursor.sector v) img
-by_logged (outcome.Refused why) s g d t shards v img = refuses s NotNow img
+by_logged (Err why) s g d t shards v img = refuses s NotNow img
 
 unfoldable pub log_move : State → Geometry → ℕ → ℕ → ℕ → List ℕ → List ℕ → Move
 log_move s g d t shards work img =
@@ -111,8 +109,8 @@ log_move s g d t shards work img =
 
 -- the next sector of the strip that begins there, of the shard v
 abbrev pub by_stored : Found → State → Geometry → ℕ → List ℕ → List ℕ → Move
-by_stored (spot.At p) s g d v img = put_move s g d (p + s.cursor.sector) g.c (part_of v s.cursor.sector) img
-by_stored (spot.Refused why) s g d v img = refuses s NotNow img
+by_stored (Ok p) s g d v img = put_move s g d (p + s.cursor.sector) g.c (part_of v s.cursor.sector) img
+by_stored (Err why) s g d v img = refuses s NotNow img
 
 unfoldable pub store_move : State → Geometry → ℕ → ℕ → List ℕ → List ℕ → Move
 store_move s g d t work img = by_stored (found (in_range g) (ltb t (stripes_of g)) (strip_of g t)) s g d (kept_of g t d work) img
@@ -136,10 +134,10 @@ in_strips first count c x = leb first most_sectors && (leb count most_sectors &&
 
 -- the next sector of these strips, computed from what is believed of the others
 abbrev pub by_rebuilt : Outcome → State → Geometry → ℕ → ℕ → ℕ → List ℕ → List ℕ → Move
-by_rebuilt outcome.Done s g d first count work img =
+by_rebuilt (Ok tt) s g d first count work img =
     put_move s g d (first_strip + first * g.c + s.cursor.sector) (count * g.c)
     (rebuilt_sector s.now s.absent g d (first + s.cursor.sector / g.c) (s.cursor.sector % g.c) work img) img
-by_rebuilt (outcome.Refused why) s g d first count work img = refuses s NotNow img
+by_rebuilt (Err why) s g d first count work img = refuses s NotNow img
 
 unfoldable pub fill_move : State → Geometry → ℕ → ℕ → ℕ → List ℕ → List ℕ → Move
 fill_move s g d first count work img =

@@ -1,7 +1,7 @@
 -- A request ends: what is left of it falls with every put and every flush, whatever the disks hold in between. So it takes
 -- no more of them than are left when it begins: of puts and of flushes each, counted over the slots that its stages go over.
 -- Assumes nothing.
-use Rattle.std.specs.Prelude.{◌≡◌, Bool, cond, ◌&&◌, List, ltb, eqb, leb, length, replicate}
+use Rattle.std.specs.Prelude.{◌≡◌, Bool, cond, ◌&&◌, List, ltb, eqb, leb, length, replicate, Ok, Err}
 use Rattle.std.proofs.Math.Path.{refl, ap, ap₂}
 use Rattle.std.proofs.Common.{sym, ◌∙◌, subst, ⊎_elim, suc-mul, zero-mul, mul-zero, mul-add, mul-le-mul_left, mul-le-mul_right, arith, ltb-true, ne_eqb}
 use Rattle.std.proofs.Math.Bool.{true, false}
@@ -12,11 +12,9 @@ use Rattle.disk.specs.Mask.{in_mask}
 use Rattle.disk.specs.Image.{lt_or_ge, fits_image, put_answer}
 use Rattle.disk.specs.Geometry.{in_range, stripes_of, strip_of, found}
 use Rattle.disk.specs.declared.geometry.Geometry.{Geometry}
-use Rattle.disk.specs.declared.geometry.Found.{Found}
-use Rattle.disk.specs.declared.geometry.Found.TheVariants as spot
+use Rattle.disk.specs.Geometry.{Found}
 use Rattle.disk.specs.declared.refusal.Refusal.TheVariants.{BadImage, NotNow}
-use Rattle.disk.specs.declared.refusal.Outcome.{Outcome}
-use Rattle.disk.specs.declared.refusal.Outcome.TheVariants as outcome
+use Rattle.disk.specs.Refusal.{Outcome}
 use Rattle.label.specs.Fields.{geometry_of, fits_of}
 use Rattle.label.specs.Bytes.{sealed}
 use Rattle.label.specs.declared.fields.Label.{Label}
@@ -30,11 +28,11 @@ use Rattle.shelf.specs.Act.{Move, refusal, refuses, onward, by_outcome, put_move
 use Rattle.shelf.specs.Step.{seek, is_end, finished, on_stage, next_slot, walk, by_answer, keeps, sound, step_move}
 use Rattle.shelf.specs.Says.{unless, sound_says}
 use Rattle.stages.specs.declared.state.State.{State}
-use Rattle.stages.specs.declared.state.Stepped.{Stepped}
+use Rattle.stages.specs.Told.{Told}
 use Rattle.stages.specs.declared.state.Kind.{Kind}
 use Rattle.stages.specs.declared.state.Kind.TheVariants.{Nothing, Idle, Creating, Starting, Labelling, Writing, Beginning, Filling}
-use Rattle.stages.specs.declared.state.Answer.{Answer}
-use Rattle.stages.specs.declared.state.Answer.TheVariants.{Put, Flush, Done, Refused}
+use Rattle.stages.specs.Told.{Answer}
+use Rattle.stages.specs.Told.{Put, Flush, Done, Refused}
 use Rattle.stages.specs.declared.stage.Stage.{Stage}
 use Rattle.stages.specs.declared.stage.Stage.TheVariants as stage
 
@@ -382,7 +380,7 @@ is_put (Flush d) = false
 is_put Done = false
 is_put (Refused why) = false
 
-abbrev Onward : State → ℕ → ℕ → Bool → Stepped → Type 0
+abbrev Onward : State → ℕ → ℕ → Bool → Told → Type 0
 Onward s d count puts r = (r.state ≡ onward s d count) × (is_put r.answer ≡ puts)
 
 put_onward : (s : State) (g : Geometry) (d to count : ℕ) (v img : List ℕ) → acted (put_move s g d to count v img).stepped.answer ≡ true
@@ -395,15 +393,15 @@ put_onward s g d to count v img = by (in_mask s.absent d) (put_answer g (length 
 
     by : (b : Bool) (o : Outcome) → acted (move b o).stepped.answer ≡ true → Onward s d count true (move b o).stepped
     by true o e = not_acted e
-    by false outcome.Done e = (refl, refl)
-    by false (outcome.Refused why) e = not_acted e
+    by false (Ok tt) e = (refl, refl)
+    by false (Err why) e = not_acted e
 
 flush_onward : (s : State) (d : ℕ) → acted (flush_move s d).answer ≡ true → Onward s d 1 false (flush_move s d)
 unfolding flush_move
 flush_onward s d = by (in_mask s.absent d)
   where
-    move : Bool → Stepped
-    move b = cond {A = Stepped} b (refusal s NotNow) (record { state = onward s d 1; answer = Flush d })
+    move : Bool → Told
+    move b = cond {A = Told} b (refusal s NotNow) (record { state = onward s d 1; answer = Flush d })
 
     by : (b : Bool) → acted (move b).answer ≡ true → Onward s d 1 false (move b)
     by true e = not_acted e
@@ -430,13 +428,13 @@ unfolding restore_move
 restore_onward s g d t img = by (restore_answer g.c s.cursor.sector (length (area_of g img d)) sector_bytes)
   where
     on : (f : Found) → acted (by_strip f s g d img).stepped.answer ≡ true → Onward s d g.c true (by_strip f s g d img).stepped
-    on (spot.At p) e =
+    on (Ok p) e =
         put_onward s g d (p + s.cursor.sector) g.c (restore_of (part (area_of g img d) s.cursor.sector) (part (area_of g img d) g.c) s.cursor.sector) img e
-    on (spot.Refused why) e = not_acted e
+    on (Err why) e = not_acted e
 
     by : (o : Outcome) → acted (by_restored o s g d t img).stepped.answer ≡ true → Onward s d g.c true (by_restored o s g d t img).stepped
-    by outcome.Done e = on (found (in_range g) (ltb t (stripes_of g)) (strip_of g t)) e
-    by (outcome.Refused why) e = not_acted e
+    by (Ok tt) e = on (found (in_range g) (ltb t (stripes_of g)) (strip_of g t)) e
+    by (Err why) e = not_acted e
 
 log_onward : (s : State) (g : Geometry) (d t shards : ℕ) (work img : List ℕ) → acted (log_move s g d t shards work img).stepped.answer ≡ true
     → Onward s d (g.c + 1) true (log_move s g d t shards work img).stepped
@@ -445,9 +443,9 @@ log_onward s g d t shards work img = by (logged_answer g.c s.cursor.sector (kept
   where
     by : (o : Outcome) → acted (by_logged o s g d t shards (kept_of g t d work) img).stepped.answer ≡ true
         → Onward s d (g.c + 1) true (by_logged o s g d t shards (kept_of g t d work) img).stepped
-    by outcome.Done e =
+    by (Ok tt) e =
         put_onward s g d (first_log + s.cursor.sector) (g.c + 1) (record_sector (tail_of s t shards) g.c s.cursor.sector (kept_of g t d work)) img e
-    by (outcome.Refused why) e = not_acted e
+    by (Err why) e = not_acted e
 
 store_onward : (s : State) (g : Geometry) (d t : ℕ) (work img : List ℕ) → acted (store_move s g d t work img).stepped.answer ≡ true
     → Onward s d g.c true (store_move s g d t work img).stepped
@@ -456,8 +454,8 @@ store_onward s g d t work img = by (found (in_range g) (ltb t (stripes_of g)) (s
   where
     by : (f : Found) → acted (by_stored f s g d (kept_of g t d work) img).stepped.answer ≡ true
         → Onward s d g.c true (by_stored f s g d (kept_of g t d work) img).stepped
-    by (spot.At p) e = put_onward s g d (p + s.cursor.sector) g.c (part_of (kept_of g t d work) s.cursor.sector) img e
-    by (spot.Refused why) e = not_acted e
+    by (Ok p) e = put_onward s g d (p + s.cursor.sector) g.c (part_of (kept_of g t d work) s.cursor.sector) img e
+    by (Err why) e = not_acted e
 
 clear_onward : (s : State) (g : Geometry) (d : ℕ) (img : List ℕ) → acted (clear_move s g d img).stepped.answer ≡ true
     → Onward s d (g.c + 1) true (clear_move s g d img).stepped
@@ -483,10 +481,10 @@ fill_onward s g d first count work img =
     move b o = cond {A = Move} b (by_rebuilt o s g d first count work img) (refuses s NotNow img)
 
     by : (b : Bool) (o : Outcome) → acted (move b o).stepped.answer ≡ true → Onward s d (count * g.c) true (move b o).stepped
-    by true outcome.Done e =
+    by true (Ok tt) e =
         put_onward s g d (first_strip + first * g.c + s.cursor.sector) (count * g.c)
         (rebuilt_sector s.now s.absent g d (first + s.cursor.sector / g.c) (s.cursor.sector % g.c) work img) img e
-    by true (outcome.Refused why) e = not_acted e
+    by true (Err why) e = not_acted e
     by false o e = not_acted e
 
 fill_some : (s : State) (g : Geometry) (d first count : ℕ) (work img : List ℕ) → acted (fill_move s g d first count work img).stepped.answer ≡ true
@@ -537,7 +535,7 @@ price_is a b Done e = not_acted e
 price_is a b (Refused why) e = not_acted e
 
 -- what a step leaves to do, and what it cost
-abbrev paid : ℕ → ℕ → Stepped → ℕ
+abbrev paid : ℕ → ℕ → Told → ℕ
 paid a b r = left a b r.state + price a b r.answer
 
 walk_falls : (a b k : ℕ) (s : State) (work img : List ℕ) → 1 ≤ s.now.c → acted (walk k s (geometry_of s.now) work img).stepped.answer ≡ true
@@ -598,7 +596,7 @@ step_falls a b s work img = by (sound s) (fits_image (geometry_of s.now) (length
     by : (x f : Bool) → sound s ≡ x → acted (move x f).stepped.answer ≡ true → paid a b (move x f).stepped ≤ left a b s
     by true true q e =
         let k = kept_on w.stepped.answer refl e in
-        subst (λ (r : Stepped). paid a b r ≤ left a b s) (sym k.1) (walk_falls a b most_stages s work img (sound_says s q).fits.range.some k.0)
+        subst (λ (r : Told). paid a b r ≤ left a b s) (sym k.1) (walk_falls a b most_stages s work img (sound_says s q).fits.range.some k.0)
     by true false q e = not_acted e
     by false f q e = not_acted e
 

@@ -1,13 +1,11 @@
 -- A sector of a strip that is rebuilt. Assumes nothing.
-use Rattle.std.specs.Prelude.{Bool, not, cond, ◌&&◌, List, [], ℕ, ◌*◌, ltb, length, take}
+use Rattle.std.specs.Prelude.{Bool, not, cond, ◌&&◌, List, [], ℕ, ◌*◌, ltb, length, take, Ok, Err}
 use Rattle.disk.specs.Limits.{sector_bytes}
 use Rattle.disk.specs.Geometry.{in_range, stripes_of, shard_of, found}
 use Rattle.disk.specs.Mask.{in_mask, mask_of}
 use Rattle.disk.specs.declared.geometry.Geometry.{Geometry}
-use Rattle.disk.specs.declared.geometry.Found.{Found}
-use Rattle.disk.specs.declared.geometry.Found.TheVariants as spot
-use Rattle.disk.specs.declared.refusal.Outcome.{Outcome}
-use Rattle.disk.specs.declared.refusal.Outcome.TheVariants.{Done, Refused}
+use Rattle.disk.specs.Geometry.{Found}
+use Rattle.disk.specs.Refusal.{Outcome}
 use Rattle.label.specs.declared.fields.Label.{Label}
 use Rattle.redo.specs.Decide.{believed}
 use Rattle.strips.specs.Seen.{shard_bytes, shard_shown}
@@ -31,9 +29,9 @@ stripe_in g work = cond (ltb (length work) (g.n * shard_bytes g)) [] (take (g.n 
 
 -- whether sector j of slot d's strip of stripe t can be computed, which is shard r
 abbrev pub shown_from : Found → Label → ℕ → Geometry → ℕ → ℕ → List ℕ → List ℕ → Outcome
-shown_from (spot.At r) l absent g t j work img =
+shown_from (Ok r) l absent g t j work img =
     shown_answer g l.k (length img) t r j 1 (seen_slots g l absent t) (length (stripe_in g work)) (g.n * sector_bytes) sector_bytes
-shown_from (spot.Refused why) l absent g t j work img = Refused why
+shown_from (Err why) l absent g t j work img = Err why
 
 unfoldable pub rebuild_answer : Label → ℕ → Geometry → ℕ → ℕ → ℕ → List ℕ → List ℕ → Outcome
 rebuild_answer l absent g d t j work img =
@@ -44,5 +42,5 @@ unfoldable pub rebuilt_sector : Label → ℕ → Geometry → ℕ → ℕ → �
 rebuilt_sector l absent g d t j work img = shard_shown g l.k img (seen_slots g l absent t) 0 (stripe_in g work) t j 1 (shard_of g.n t d)
 
 abbrev pub after_rebuild : Outcome → Label → ℕ → Geometry → ℕ → ℕ → ℕ → List ℕ → List ℕ → List ℕ → List ℕ
-after_rebuild Done l absent g d t j work img out = rebuilt_sector l absent g d t j work img
-after_rebuild (Refused why) l absent g d t j work img out = out
+after_rebuild (Ok tt) l absent g d t j work img out = rebuilt_sector l absent g d t j work img
+after_rebuild (Err why) l absent g d t j work img out = out

@@ -1,21 +1,19 @@
 -- What a write keeps in the work area, and the sectors of a record. Assumes nothing.
-use Rattle.std.specs.Prelude.{cond, ◌&&◌, List, [], ℕ, ◌+◌, ◌*◌, ltb, length, take, drop}
+use Rattle.std.specs.Prelude.{cond, ◌&&◌, List, [], ℕ, ◌+◌, ◌*◌, ltb, length, take, drop, Ok, Err}
 use Rattle.disk.specs.Limits.{sector_bytes}
 use Rattle.disk.specs.Geometry.{in_range, stripes_of, shard_of, found}
 use Rattle.disk.specs.declared.geometry.Geometry.{Geometry}
-use Rattle.disk.specs.declared.geometry.Found.{Found}
-use Rattle.disk.specs.declared.geometry.Found.TheVariants.{At, Refused}
+use Rattle.disk.specs.Geometry.{Found}
 use Rattle.disk.specs.declared.refusal.Refusal.TheVariants.{NotNow}
-use Rattle.disk.specs.declared.refusal.Outcome.{Outcome}
-use Rattle.disk.specs.declared.refusal.Outcome.TheVariants as outcome
+use Rattle.disk.specs.Refusal.{Outcome}
 use Rattle.record.specs.Log.{part, log_answer, log_sector}
 use Rattle.record.specs.Tail.{tail_answer, tail_sector}
 use Rattle.record.specs.declared.tail.Tail.{Tail}
 
 -- shard r of a stripe that the work area begins with
 abbrev pub shard_at : Found → Geometry → List ℕ → List ℕ
-shard_at (At r) g work = cond (ltb (length work) (r * g.c * sector_bytes + g.c * sector_bytes)) [] (take (g.c * sector_bytes) (drop (r * g.c * sector_bytes) work))
-shard_at (Refused why) g work = []
+shard_at (Ok r) g work = cond (ltb (length work) (r * g.c * sector_bytes + g.c * sector_bytes)) [] (take (g.c * sector_bytes) (drop (r * g.c * sector_bytes) work))
+shard_at (Err why) g work = []
 
 -- the shard that lies in slot d
 unfoldable pub kept_of : Geometry → ℕ → ℕ → List ℕ → List ℕ
@@ -32,8 +30,8 @@ record_sector x c j v = cond (ltb j c) (log_sector x.stamp (part_of v j)) (tail_
 -- what writing one answers, and leaves
 unfoldable pub logged_answer : ℕ → ℕ → List ℕ → List ℕ → Outcome
 logged_answer c j v out =
-    cond (ltb j c) (log_answer (length (part_of v j)) (length out)) (cond (ltb c j) (outcome.Refused NotNow) (tail_answer c (length v) (length out)))
+    cond (ltb j c) (log_answer (length (part_of v j)) (length out)) (cond (ltb c j) (Err NotNow) (tail_answer c (length v) (length out)))
 
 abbrev pub after_logged : Outcome → Tail → ℕ → ℕ → List ℕ → List ℕ → List ℕ
-after_logged outcome.Done x c j v out = record_sector x c j v
-after_logged (outcome.Refused why) x c j v out = out
+after_logged (Ok tt) x c j v out = record_sector x c j v
+after_logged (Err why) x c j v out = out

@@ -1,7 +1,7 @@
 -- The laws of a step, for every state and every image, from `step_move` alone: it changes at most one sector, and that of a
 -- present slot; a refusal changes nothing; no byte of any disk decides the answer, and none of an absent slot reaches a present
 -- one. Assumes nothing.
-use Rattle.std.specs.Prelude.{◌≡◌, ◌⊎◌, not, ◌&&◌, length, replicate, get_or, drop}
+use Rattle.std.specs.Prelude.{◌≡◌, ◌⊎◌, not, ◌&&◌, length, replicate, get_or, drop, Ok, Err}
 use Rattle.std.proofs.Math.Path.{refl, ap, subst}
 use Rattle.std.proofs.Common.{sym, ap₂, ◌∙◌, true≢false, arith, length-take, length-drop, length-append, get_or-take, get_or-drop, ltb-true, eqb-true}
 use Rattle.std.proofs.Math.Bool.{Bool, true, false, cond}
@@ -18,12 +18,10 @@ use Rattle.disk.proofs.Image.{place_fits, length_put, sector_put, sector_put_oth
 use Rattle.disk.specs.Geometry.{in_range, strip_length, stripes_of, strip_of, shard_of, found}
 use Rattle.disk.proofs.GeometryLaws.{strip_inside}
 use Rattle.disk.specs.declared.geometry.Geometry.{Geometry}
-use Rattle.disk.specs.declared.geometry.Found.{Found}
-use Rattle.disk.specs.declared.geometry.Found.TheVariants as spot
+use Rattle.disk.specs.Geometry.{Found}
 use Rattle.disk.specs.declared.refusal.Refusal.{Refusal}
 use Rattle.disk.specs.declared.refusal.Refusal.TheVariants.{BadImage, BadBlock, BadBuffer, NotNow}
-use Rattle.disk.specs.declared.refusal.Outcome.{Outcome}
-use Rattle.disk.specs.declared.refusal.Outcome.TheVariants as outcome
+use Rattle.disk.specs.Refusal.{Outcome}
 use Rattle.label.specs.Fields.{geometry_of, fits_of}
 use Rattle.label.specs.Bytes.{sealed}
 use Rattle.label.specs.declared.fields.Label.{Label}
@@ -40,9 +38,9 @@ use Rattle.shelf.specs.Act.{Move, refusal, refuses, onward, by_outcome, put_move
 use Rattle.shelf.specs.Step.{is_end, finished, on_stage, next_slot, walk, by_answer, kept, keeps, sound, step_move}
 use Rattle.shelf.specs.Says.{when}
 use Rattle.stages.specs.declared.state.State.{State}
-use Rattle.stages.specs.declared.state.Stepped.{Stepped}
-use Rattle.stages.specs.declared.state.Answer.{Answer}
-use Rattle.stages.specs.declared.state.Answer.TheVariants.{Put, Flush, Done, Refused}
+use Rattle.stages.specs.Told.{Told}
+use Rattle.stages.specs.Told.{Answer}
+use Rattle.stages.specs.Told.{Put, Flush, Done, Refused}
 use Rattle.stages.specs.declared.stage.Stage.{Stage}
 use Rattle.stages.specs.declared.stage.Stage.TheVariants as stage
 
@@ -81,7 +79,7 @@ unfolding put_move put_answer
 put_legal s g d to count v img = by (in_mask s.absent d) refl
   where
     tried : (f o w : Bool) → fits_image g (length img) ≡ f → on_shelf g d to ≡ o → eqb (length v) sector_bytes ≡ w → in_mask s.absent d ≡ false
-        → LegalMove s g img (by_outcome (cond f (cond o (cond w outcome.Done (outcome.Refused BadBuffer)) (outcome.Refused BadBlock)) (outcome.Refused BadImage)) s g d to count v img)
+        → LegalMove s g img (by_outcome (cond f (cond o (cond w (Ok tt) (Err BadBuffer)) (Err BadBlock)) (Err BadImage)) s g d to count v img)
     tried true true true f o w p =
         let h = on_shelf_lem g d to o in
         record { slot = h.0; low = h.1; present = p; shape = (fits_image_lem g img f).1; bytes = v; whole = eqb-true (length v) sector_bytes w; image = refl }
@@ -99,7 +97,7 @@ unfolding flush_move
 flush_legal s g d img l = by (in_mask s.absent d) refl
   where
     by : (b : Bool) → in_mask s.absent d ≡ b
-        → LegalMove s g img (record { stepped = cond {A = Stepped} b (refusal s NotNow) (record { state = onward s d 1; answer = Flush d }); image = img })
+        → LegalMove s g img (record { stepped = cond {A = Told} b (refusal s NotNow) (record { state = onward s d 1; answer = Flush d }); image = img })
     by true e = refl
     by false e = record { slot = l; present = e; image = refl }
 
@@ -119,29 +117,29 @@ unfolding restore_move
 restore_legal s g d t img = by (restore_answer g.c s.cursor.sector (length (area_of g img d)) sector_bytes)
   where
     on : (f : Found) → LegalMove s g img (by_strip f s g d img)
-    on (spot.At p) = put_legal s g d (p + s.cursor.sector) g.c (restore_of (part (area_of g img d) s.cursor.sector) (part (area_of g img d) g.c) s.cursor.sector) img
-    on (spot.Refused why) = refl
+    on (Ok p) = put_legal s g d (p + s.cursor.sector) g.c (restore_of (part (area_of g img d) s.cursor.sector) (part (area_of g img d) g.c) s.cursor.sector) img
+    on (Err why) = refl
 
     by : (o : Outcome) → LegalMove s g img (by_restored o s g d t img)
-    by outcome.Done = on (found (in_range g) (ltb t (stripes_of g)) (strip_of g t))
-    by (outcome.Refused why) = refl
+    by (Ok tt) = on (found (in_range g) (ltb t (stripes_of g)) (strip_of g t))
+    by (Err why) = refl
 
 log_legal : (s : State) (g : Geometry) (d t shards : ℕ) (work img : List ℕ) → LegalMove s g img (log_move s g d t shards work img)
 unfolding log_move
 log_legal s g d t shards work img = by (logged_answer g.c s.cursor.sector (kept_of g t d work) (replicate sector_bytes 0))
   where
     by : (o : Outcome) → LegalMove s g img (by_logged o s g d t shards (kept_of g t d work) img)
-    by outcome.Done =
+    by (Ok tt) =
         put_legal s g d (first_log + s.cursor.sector) (g.c + 1) (record_sector (tail_of s t shards) g.c s.cursor.sector (kept_of g t d work)) img
-    by (outcome.Refused why) = refl
+    by (Err why) = refl
 
 store_legal : (s : State) (g : Geometry) (d t : ℕ) (work img : List ℕ) → LegalMove s g img (store_move s g d t work img)
 unfolding store_move
 store_legal s g d t work img = by (found (in_range g) (ltb t (stripes_of g)) (strip_of g t))
   where
     by : (f : Found) → LegalMove s g img (by_stored f s g d (kept_of g t d work) img)
-    by (spot.At p) = put_legal s g d (p + s.cursor.sector) g.c (part_of (kept_of g t d work) s.cursor.sector) img
-    by (spot.Refused why) = refl
+    by (Ok p) = put_legal s g d (p + s.cursor.sector) g.c (part_of (kept_of g t d work) s.cursor.sector) img
+    by (Err why) = refl
 
 clear_legal : (s : State) (g : Geometry) (d : ℕ) (img : List ℕ) → LegalMove s g img (clear_move s g d img)
 unfolding clear_move
@@ -159,10 +157,10 @@ fill_legal s g d first count work img =
     (rebuild_answer s.now s.absent g d (first + s.cursor.sector / g.c) (s.cursor.sector % g.c) work img)
   where
     by : (b : Bool) (o : Outcome) → LegalMove s g img (cond {A = Move} b (by_rebuilt o s g d first count work img) (refuses s NotNow img))
-    by true outcome.Done =
+    by true (Ok tt) =
         put_legal s g d (first_strip + first * g.c + s.cursor.sector) (count * g.c)
         (rebuilt_sector s.now s.absent g d (first + s.cursor.sector / g.c) (s.cursor.sector % g.c) work img) img
-    by true (outcome.Refused why) = refl
+    by true (Err why) = refl
     by false o = refl
 
 act_legal : (s : State) (g : Geometry) (x : Stage) (d : ℕ) (work img : List ℕ) → d < g.n → LegalMove s g img (act_move s g x d work img)
@@ -190,7 +188,7 @@ walk_legal (suc k) s g work img = by (is_end (stage_of s)) (ltb (next_slot s g) 
     by false false h r = r
 
 -- the state of a refusal is kept; the answer is the same
-kept_answer : (s : State) (r : Stepped) → (kept s r).answer ≡ r.answer
+kept_answer : (s : State) (r : Told) → (kept s r).answer ≡ r.answer
 kept_answer s r = by r.answer refl
   where
     by : (a : Answer) → r.answer ≡ a → (by_answer a s r).answer ≡ a
@@ -199,7 +197,7 @@ kept_answer s r = by r.answer refl
     by Done e = e
     by (Refused why) e = refl
 
-kept_state : (s : State) (r : Stepped) (why : Refusal) → r.answer ≡ Refused why → (kept s r).state ≡ s
+kept_state : (s : State) (r : Told) (why : Refusal) → r.answer ≡ Refused why → (kept s r).state ≡ s
 kept_state s r why e = ap (λ (a : Answer). (by_answer a s r).state) e
 
 -- ---- the laws
@@ -288,8 +286,8 @@ unfolding put_move
 put_blind s g d to count v w img jmg ev e = by (in_mask s.absent d)
   where
     same : (o : Outcome) → (by_outcome o s g d to count v img).stepped ≡ (by_outcome o s g d to count w jmg).stepped
-    same outcome.Done = refl
-    same (outcome.Refused why) = refl
+    same (Ok tt) = refl
+    same (Err why) = refl
 
     by : (b : Bool)
         → (cond {A = Move} b (refuses s NotNow img) (by_outcome (put_answer g (length img) d to (length v)) s g d to count v img)).stepped
@@ -344,14 +342,14 @@ restore_blind s g d t img jmg e =
     v x = restore_of (part (area_of g x d) s.cursor.sector) (part (area_of g x d) g.c) s.cursor.sector
 
     on : (f : Found) → (by_strip f s g d img).stepped ≡ (by_strip f s g d jmg).stepped
-    on (spot.At p) =
+    on (Ok p) =
         put_blind s g d (p + s.cursor.sector) g.c (v img) (v jmg) img jmg
         (restored_length (area_of g img d) (area_of g jmg d) g.c s.cursor.sector (area_length g d img jmg e)) e
-    on (spot.Refused why) = refl
+    on (Err why) = refl
 
     by : (o : Outcome) → (by_restored o s g d t img).stepped ≡ (by_restored o s g d t jmg).stepped
-    by outcome.Done = on (found (in_range g) (ltb t (stripes_of g)) (strip_of g t))
-    by (outcome.Refused why) = refl
+    by (Ok tt) = on (found (in_range g) (ltb t (stripes_of g)) (strip_of g t))
+    by (Err why) = refl
 
 log_blind : (s : State) (g : Geometry) (d t shards : ℕ) (work img jmg : List ℕ) → length img ≡ length jmg
     → (log_move s g d t shards work img).stepped ≡ (log_move s g d t shards work jmg).stepped
@@ -362,8 +360,8 @@ log_blind s g d t shards work img jmg e = by (logged_answer g.c s.cursor.sector 
     v = record_sector (tail_of s t shards) g.c s.cursor.sector (kept_of g t d work)
 
     by : (o : Outcome) → (by_logged o s g d t shards (kept_of g t d work) img).stepped ≡ (by_logged o s g d t shards (kept_of g t d work) jmg).stepped
-    by outcome.Done = put_blind s g d (first_log + s.cursor.sector) (g.c + 1) v v img jmg refl e
-    by (outcome.Refused why) = refl
+    by (Ok tt) = put_blind s g d (first_log + s.cursor.sector) (g.c + 1) v v img jmg refl e
+    by (Err why) = refl
 
 store_blind : (s : State) (g : Geometry) (d t : ℕ) (work img jmg : List ℕ) → length img ≡ length jmg
     → (store_move s g d t work img).stepped ≡ (store_move s g d t work jmg).stepped
@@ -374,8 +372,8 @@ store_blind s g d t work img jmg e = by (found (in_range g) (ltb t (stripes_of g
     v = part_of (kept_of g t d work) s.cursor.sector
 
     by : (f : Found) → (by_stored f s g d (kept_of g t d work) img).stepped ≡ (by_stored f s g d (kept_of g t d work) jmg).stepped
-    by (spot.At p) = put_blind s g d (p + s.cursor.sector) g.c v v img jmg refl e
-    by (spot.Refused why) = refl
+    by (Ok p) = put_blind s g d (p + s.cursor.sector) g.c v v img jmg refl e
+    by (Err why) = refl
 
 clear_blind : (s : State) (g : Geometry) (d : ℕ) (img jmg : List ℕ) → length img ≡ length jmg → (clear_move s g d img).stepped ≡ (clear_move s g d jmg).stepped
 unfolding clear_move
@@ -395,9 +393,9 @@ unfolding rebuild_answer
 rebuild_blind l absent g d t j work img jmg e = by (found (in_range g) (ltb t (stripes_of g) && ltb d g.n) (shard_of g.n t d))
   where
     by : (f : Found) → shown_from f l absent g t j work img ≡ shown_from f l absent g t j work jmg
-    by (spot.At r) =
+    by (Ok r) =
         ap (λ (k : ℕ). shown_answer g l.k k t r j 1 (seen_slots g l absent t) (length (stripe_in g work)) (g.n * sector_bytes) sector_bytes) e
-    by (spot.Refused why) = refl
+    by (Err why) = refl
 
 rebuilt_length : (l : Label) (absent : ℕ) (g : Geometry) (d t j : ℕ) (work img : List ℕ) → length (rebuilt_sector l absent g d t j work img) ≡ sector_bytes
 unfolding rebuilt_sector shard_shown
@@ -423,10 +421,10 @@ fill_blind s g d first count work img jmg e =
     move b o x = cond {A = Move} b (by_rebuilt o s g d first count work x) (refuses s NotNow x)
 
     by : (b : Bool) (o : Outcome) → (move b o img).stepped ≡ (move b o jmg).stepped
-    by true outcome.Done =
+    by true (Ok tt) =
         put_blind s g d (first_strip + first * g.c + s.cursor.sector) (count * g.c) (v img) (v jmg) img jmg
         (rebuilt_length s.now s.absent g d t j work img ∙ sym (rebuilt_length s.now s.absent g d t j work jmg)) e
-    by true (outcome.Refused why) = refl
+    by true (Err why) = refl
     by false o = refl
 
 act_blind : (s : State) (g : Geometry) (x : Stage) (d : ℕ) (work img jmg : List ℕ) → length img ≡ length jmg
@@ -501,12 +499,12 @@ put_agree absent g d to v img jmg hd ht lv si sj a e u he hu p = by (eqb e d) (e
     by false c q r = other (λ h. eqb-false e d q h.0)
 
 -- a record gives back sectors of its strip alone
-restored_inside : (c j la : ℕ) → restore_answer c j la sector_bytes ≡ outcome.Done → j < c
+restored_inside : (c j la : ℕ) → restore_answer c j la sector_bytes ≡ Ok tt → j < c
 unfolding restore_answer
 restored_inside c j la = by (strip_length c) (ltb j c) (eqb la ((c + 1) * sector_bytes) && eqb sector_bytes sector_bytes) refl
   where
     by : (x y z : Bool) → ltb j c ≡ y
-        → cond {A = Outcome} x (cond {A = Outcome} y (cond {A = Outcome} z outcome.Done (outcome.Refused BadBuffer)) (outcome.Refused BadBlock)) (outcome.Refused BadImage) ≡ outcome.Done
+        → cond {A = Outcome} x (cond {A = Outcome} y (cond {A = Outcome} z (Ok tt) (Err BadBuffer)) (Err BadBlock)) (Err BadImage) ≡ Ok tt
         → j < c
     by true true z h e = ltb-true j c h
     by true false z h e = absurd (let w : ◌≡◌ {A = ℕ} 0 1 = cc in omega arith)
@@ -548,7 +546,7 @@ module _ (g : Geometry) (img jmg : List ℕ) (same : length img ≡ length jmg) 
   move_agree s d to count v a = by (in_mask s.absent d)
     where
       tried : (f o w : Bool) → fits_image g (length img) ≡ f → on_shelf g d to ≡ o → eqb (length v) sector_bytes ≡ w
-          → let answer = cond {A = Outcome} f (cond {A = Outcome} o (cond {A = Outcome} w outcome.Done (outcome.Refused BadBuffer)) (outcome.Refused BadBlock)) (outcome.Refused BadImage) in
+          → let answer = cond {A = Outcome} f (cond {A = Outcome} o (cond {A = Outcome} w (Ok tt) (Err BadBuffer)) (Err BadBlock)) (Err BadImage) in
           Agree s.absent g (by_outcome answer s g d to count v img).image (by_outcome answer s g d to count v jmg).image
       tried true true true f o w =
           let h = on_shelf_lem g d to o in
@@ -630,12 +628,12 @@ module _ (g : Geometry) (img jmg : List ℕ) (same : length img ≡ length jmg) 
           (move_agree s d to g.c (v img) a)
 
       on : (f : Found) → s.cursor.sector < g.c → Agree s.absent g (by_strip f s g d img).image (by_strip f s g d jmg).image
-      on (spot.At p) h = put (p + s.cursor.sector) (in_mask s.absent d) h refl
-      on (spot.Refused why) h = a
+      on (Ok p) h = put (p + s.cursor.sector) (in_mask s.absent d) h refl
+      on (Err why) h = a
 
       by : (o : Outcome) → answer (length (area_of g img d)) ≡ o → Agree s.absent g (by_restored o s g d t img).image (by_restored o s g d t jmg).image
-      by outcome.Done e = on (found (in_range g) (ltb t (stripes_of g)) (strip_of g t)) (restored_inside g.c s.cursor.sector (length (area_of g img d)) e)
-      by (outcome.Refused why) e = a
+      by (Ok tt) e = on (found (in_range g) (ltb t (stripes_of g)) (strip_of g t)) (restored_inside g.c s.cursor.sector (length (area_of g img d)) e)
+      by (Err why) e = a
 
   log_agree : (s : State) (d t shards : ℕ) (work : List ℕ) → Agree s.absent g img jmg
       → Agree s.absent g (log_move s g d t shards work img).image (log_move s g d t shards work jmg).image
@@ -644,9 +642,9 @@ module _ (g : Geometry) (img jmg : List ℕ) (same : length img ≡ length jmg) 
     where
       by : (o : Outcome)
           → Agree s.absent g (by_logged o s g d t shards (kept_of g t d work) img).image (by_logged o s g d t shards (kept_of g t d work) jmg).image
-      by outcome.Done =
+      by (Ok tt) =
           move_agree s d (first_log + s.cursor.sector) (g.c + 1) (record_sector (tail_of s t shards) g.c s.cursor.sector (kept_of g t d work)) a
-      by (outcome.Refused why) = a
+      by (Err why) = a
 
   store_agree : (s : State) (d t : ℕ) (work : List ℕ) → Agree s.absent g img jmg
       → Agree s.absent g (store_move s g d t work img).image (store_move s g d t work jmg).image
@@ -654,8 +652,8 @@ module _ (g : Geometry) (img jmg : List ℕ) (same : length img ≡ length jmg) 
   store_agree s d t work a = by (found (in_range g) (ltb t (stripes_of g)) (strip_of g t))
     where
       by : (f : Found) → Agree s.absent g (by_stored f s g d (kept_of g t d work) img).image (by_stored f s g d (kept_of g t d work) jmg).image
-      by (spot.At p) = move_agree s d (p + s.cursor.sector) g.c (part_of (kept_of g t d work) s.cursor.sector) a
-      by (spot.Refused why) = a
+      by (Ok p) = move_agree s d (p + s.cursor.sector) g.c (part_of (kept_of g t d work) s.cursor.sector) a
+      by (Err why) = a
 
   clear_agree : (s : State) (d : ℕ) → Agree s.absent g img jmg → Agree s.absent g (clear_move s g d img).image (clear_move s g d jmg).image
   unfolding clear_move
@@ -668,7 +666,7 @@ module _ (g : Geometry) (img jmg : List ℕ) (same : length img ≡ length jmg) 
       by true = a
       by false = move_agree s d (first_log + s.cursor.sector) (g.c + 1) (replicate sector_bytes 0) a
 
-  rebuilt_agree : (l : Label) (absent d t j : ℕ) (work : List ℕ) → rebuild_answer l absent g d t j work img ≡ outcome.Done → Agree absent g img jmg
+  rebuilt_agree : (l : Label) (absent d t j : ℕ) (work : List ℕ) → rebuild_answer l absent g d t j work img ≡ Ok tt → Agree absent g img jmg
       → rebuilt_sector l absent g d t j work img ≡ rebuilt_sector l absent g d t j work jmg
   unfolding rebuild_answer rebuilt_sector shard_shown
   rebuilt_agree l absent d t j work told a = by (in_range g) (ltb t (stripes_of g) && ltb d g.n) told
@@ -679,7 +677,7 @@ module _ (g : Geometry) (img jmg : List ℕ) (same : length img ≡ length jmg) 
       there : ℕ
       there = seen_slots g l absent t
 
-      shown : shown_answer g l.k (length img) t r j 1 there (length (stripe_in g work)) (g.n * sector_bytes) sector_bytes ≡ outcome.Done
+      shown : shown_answer g l.k (length img) t r j 1 there (length (stripe_in g work)) (g.n * sector_bytes) sector_bytes ≡ Ok tt
           → listed (1 * sector_bytes) (λ p. shown_byte g l.k img there 0 (stripe_in g work) t r (j * sector_bytes + p))
           ≡ listed (1 * sector_bytes) (λ p. shown_byte g l.k jmg there 0 (stripe_in g work) t r (j * sector_bytes + p))
       shown e =
@@ -695,7 +693,7 @@ module _ (g : Geometry) (img jmg : List ℕ) (same : length img ≡ length jmg) 
           ∙ ap (λ (x : List ℕ). get_or x p 0) (a e (u + j) he (omega (arith, strip_inside g b.range t b.stripe, b.within)) (seen_present g l absent t e he q))
           ∙ sector_byte g.sectors jmg e (u + j) p lp' ∙ ap (λ (x : ℕ). get_or jmg x 0) (sym z)))
 
-      by : (x y : Bool) → shown_from (found x y r) l absent g t j work img ≡ outcome.Done
+      by : (x y : Bool) → shown_from (found x y r) l absent g t j work img ≡ Ok tt
           → listed (1 * sector_bytes) (λ p. shown_byte g l.k img there 0 (stripe_in g work) t r (j * sector_bytes + p))
           ≡ listed (1 * sector_bytes) (λ p. shown_byte g l.k jmg there 0 (stripe_in g work) t r (j * sector_bytes + p))
       by true true e = shown e
@@ -731,10 +729,10 @@ module _ (g : Geometry) (img jmg : List ℕ) (same : length img ≡ length jmg) 
       move y o x = cond {A = Move} y (by_rebuilt o s g d first count work x) (refuses s NotNow x)
 
       by : (y : Bool) (o : Outcome) → answer img ≡ o → Agree s.absent g (move y o img).image (move y o jmg).image
-      by true outcome.Done e =
+      by true (Ok tt) e =
           subst (λ (x : List ℕ). Agree s.absent g (put_move s g d to (count * g.c) (v img) img).image (put_move s g d to (count * g.c) x jmg).image)
           (rebuilt_agree s.now s.absent d t j work e a) (move_agree s d to (count * g.c) (v img) a)
-      by true (outcome.Refused why) e = a
+      by true (Err why) e = a
       by false o e = a
 
   act_agree : (s : State) (x : Stage) (d : ℕ) (work : List ℕ) → Agree s.absent g img jmg

@@ -1,5 +1,5 @@
 -- What the tests of a step say, and each way through it, as the code goes it. Assumes nothing.
-use Rattle.std.specs.Prelude.{◌≡◌, Bool, cond, ◌&&◌, ℕ, suc, ◌+◌, ◌-◌, ◌*◌, ◌≤◌, ◌<◌, ◌/◌, ◌%◌, leb, length, replicate, take, drop}
+use Rattle.std.specs.Prelude.{◌≡◌, Bool, cond, ◌&&◌, ℕ, suc, ◌+◌, ◌-◌, ◌*◌, ◌≤◌, ◌<◌, ◌/◌, ◌%◌, leb, length, replicate, take, drop, Ok, Err}
 use Rattle.std.proofs.Math.Path.{refl, sym, ap, ap₂}
 use Rattle.std.proofs.Common.{◌∙◌, ⊎_elim, mul-le-mul, eq-zero-or-pos, div-le_self, add-one, ltb-true, leb-true, lt-ltb, le-ltb, le-leb}
 use Rattle.std.proofs.Math.Bool.{true, false}
@@ -13,12 +13,10 @@ use Rattle.disk.specs.Image.{fits_image}
 use Rattle.disk.specs.Geometry.{in_range, stripes_of, strip_of, shard_of, found, in_range_lem, shard_lt}
 use Rattle.disk.proofs.GeometryLaws.{strip_inside}
 use Rattle.disk.specs.declared.geometry.Geometry.{Geometry}
-use Rattle.disk.specs.declared.geometry.Found.{Found}
-use Rattle.disk.specs.declared.geometry.Found.TheVariants as spot
+use Rattle.disk.specs.Geometry.{Found}
 use Rattle.disk.specs.declared.refusal.Refusal.{Refusal}
 use Rattle.disk.specs.declared.refusal.Refusal.TheVariants.{BadImage, NotNow}
-use Rattle.disk.specs.declared.refusal.Outcome.{Outcome}
-use Rattle.disk.specs.declared.refusal.Outcome.TheVariants as outcome
+use Rattle.disk.specs.Refusal.{Outcome}
 use Rattle.label.specs.Fields.{geometry_of, fits_of, most_generation}
 use Rattle.label.specs.Bytes.{sealed, encode_answer, after_encode}
 use Rattle.label.specs.declared.fields.Label.{Label}
@@ -66,25 +64,25 @@ seek_end mask n d l = let k : n - d ≡ 0 = omega arith in ap (λ (j : ℕ). see
 
 -- ---- a label's bytes
 
-encoded : (b : Bool) → cond {A = Outcome} b outcome.Done (outcome.Refused BadImage) ≡ outcome.Done → b ≡ true
+encoded : (b : Bool) → cond {A = Outcome} b (Ok tt) (Err BadImage) ≡ Ok tt → b ≡ true
 encoded true e = refl
 encoded false e = absurd (let z : ◌≡◌ {A = ℕ} 0 1 = cc in omega arith)
 
-not_encoded : (b : Bool) (w : Refusal) → cond {A = Outcome} b outcome.Done (outcome.Refused BadImage) ≡ outcome.Refused w → b ≡ false
+not_encoded : (b : Bool) (w : Refusal) → cond {A = Outcome} b (Ok tt) (Err BadImage) ≡ Err w → b ≡ false
 not_encoded true w e = absurd (let z : ◌≡◌ {A = ℕ} 0 1 = cc in omega arith)
 not_encoded false w e = refl
 
-pub encode_done : (l : Label) → encode_answer l sector_bytes ≡ outcome.Done → fits_of l ≡ true
+pub encode_done : (l : Label) → encode_answer l sector_bytes ≡ Ok tt → fits_of l ≡ true
 unfolding encode_answer
 encode_done l e = encoded (fits_of l) e
 
-pub encode_not : (l : Label) (w : Refusal) → encode_answer l sector_bytes ≡ outcome.Refused w → fits_of l ≡ false
+pub encode_not : (l : Label) (w : Refusal) → encode_answer l sector_bytes ≡ Err w → fits_of l ≡ false
 unfolding encode_answer
 encode_not l w e = not_encoded (fits_of l) w e
 
 module _ (s : State) (g : Geometry) (d zeroed : ℕ) (l : Label) (img : List ℕ) (off : in_mask zeroed d ≡ false)
     (a : Label) (named_is : a ≡ named l d) (o : Outcome) (answer : o ≡ encode_answer a sector_bytes) where
-  pub give_put : o ≡ outcome.Done → (to : ℕ) → to ≡ l.generation % 2 → (v z : List ℕ) → v ≡ after_encode o a z
+  pub give_put : o ≡ Ok tt → (to : ℕ) → to ≡ l.generation % 2 → (v z : List ℕ) → v ≡ after_encode o a z
       → give_move s g d zeroed l img ≡ put_move s g d to 1 v img
   unfolding give_move
   give_put told to side v z leaves =
@@ -92,7 +90,7 @@ module _ (s : State) (g : Geometry) (d zeroed : ℕ) (l : Label) (img : List ℕ
       let b : sealed (named l d) ≡ v = ap sealed (sym named_is) ∙ sym (leaves ∙ ap (λ (x : Outcome). after_encode x a z) told) in
       unless (in_mask zeroed d) _ _ off ∙ when (fits_of (named l d)) _ _ f ∙ ap₂ (λ (y : ℕ) (x : List ℕ). put_move s g d y 1 x img) (sym side) b
 
-  pub give_not : (w : Refusal) → o ≡ outcome.Refused w → give_move s g d zeroed l img ≡ refuses s NotNow img
+  pub give_not : (w : Refusal) → o ≡ Err w → give_move s g d zeroed l img ≡ refuses s NotNow img
   unfolding give_move
   give_not w told =
       let f : fits_of (named l d) ≡ false = ap fits_of (sym named_is) ∙ encode_not a w (sym answer ∙ told) in
@@ -101,10 +99,10 @@ module _ (s : State) (g : Geometry) (d zeroed : ℕ) (l : Label) (img : List ℕ
 -- ---- a strip's sector, from the record
 
 -- a strip that there is begins low enough to add a sector to
-pub strip_low : (g : Geometry) (t p : ℕ) → found (in_range g) (ltb t (stripes_of g)) (strip_of g t) ≡ spot.At p → p ≤ most_sectors
+pub strip_low : (g : Geometry) (t p : ℕ) → found (in_range g) (ltb t (stripes_of g)) (strip_of g t) ≡ Ok p → p ≤ most_sectors
 strip_low g t p e = by (in_range g) (ltb t (stripes_of g)) refl refl e
   where
-    by : (a b : Bool) → in_range g ≡ a → ltb t (stripes_of g) ≡ b → found a b (strip_of g t) ≡ spot.At p → p ≤ most_sectors
+    by : (a b : Bool) → in_range g ≡ a → ltb t (stripes_of g) ≡ b → found a b (strip_of g t) ≡ Ok p → p ≤ most_sectors
     by true true r l e =
         let q : strip_of g t ≡ p = cc in
         let i = in_range_lem g r in
@@ -117,19 +115,19 @@ module _ (s : State) (g : Geometry) (d t : ℕ) (img : List ℕ) (area : List �
   restore_is : restore_answer g.c s.cursor.sector (length (area_of g img d)) sector_bytes ≡ o
   restore_is = ap (λ (x : List ℕ). restore_answer g.c s.cursor.sector (length x) sector_bytes) (sym area_is) ∙ sym answer
 
-  pub redo_not : (w : Refusal) → o ≡ outcome.Refused w → restore_move s g d t img ≡ refuses s NotNow img
+  pub redo_not : (w : Refusal) → o ≡ Err w → restore_move s g d t img ≡ refuses s NotNow img
   unfolding restore_move
   redo_not w told = ap (λ (x : Outcome). by_restored x s g d t img) (restore_is ∙ told)
 
-  module _ (told : o ≡ outcome.Done) (f : Found) (strip : f ≡ found (in_range g) (ltb t (stripes_of g)) (strip_of g t)) where
+  module _ (told : o ≡ Ok tt) (f : Found) (strip : f ≡ found (in_range g) (ltb t (stripes_of g)) (strip_of g t)) where
     on_strip_lem : restore_move s g d t img ≡ by_strip f s g d img
     unfolding restore_move
     on_strip_lem = ap (λ (x : Outcome). by_restored x s g d t img) (restore_is ∙ told) ∙ ap (λ (x : Found). by_strip x s g d img) (sym strip)
 
-    pub redo_none : (w : Refusal) → f ≡ spot.Refused w → restore_move s g d t img ≡ refuses s NotNow img
+    pub redo_none : (w : Refusal) → f ≡ Err w → restore_move s g d t img ≡ refuses s NotNow img
     redo_none w e = on_strip_lem ∙ ap (λ (x : Found). by_strip x s g d img) e
 
-    pub redo_put : (p : ℕ) → f ≡ spot.At p → (v : List ℕ) → v ≡ after_restore o area g.c s.cursor.sector (replicate sector_bytes 0)
+    pub redo_put : (p : ℕ) → f ≡ Ok p → (v : List ℕ) → v ≡ after_restore o area g.c s.cursor.sector (replicate sector_bytes 0)
         → restore_move s g d t img ≡ put_move s g d (p + s.cursor.sector) g.c v img
     redo_put p e v leaves =
         on_strip_lem ∙ ap (λ (x : Found). by_strip x s g d img) e
@@ -139,10 +137,10 @@ module _ (s : State) (g : Geometry) (d t : ℕ) (img : List ℕ) (area : List �
 -- ---- what is kept
 
 -- a shard that there is has a low number
-pub shard_low : (g : Geometry) (t d r : ℕ) → found (in_range g) (ltb t (stripes_of g) && ltb d g.n) (shard_of g.n t d) ≡ spot.At r → r < most_n
+pub shard_low : (g : Geometry) (t d r : ℕ) → found (in_range g) (ltb t (stripes_of g) && ltb d g.n) (shard_of g.n t d) ≡ Ok r → r < most_n
 shard_low g t d r e = by (in_range g) (ltb t (stripes_of g) && ltb d g.n) refl e
   where
-    by : (a b : Bool) → in_range g ≡ a → found a b (shard_of g.n t d) ≡ spot.At r → r < most_n
+    by : (a b : Bool) → in_range g ≡ a → found a b (shard_of g.n t d) ≡ Ok r → r < most_n
     by true true i e =
         let q : shard_of g.n t d ≡ r = cc in
         let h = in_range_lem g i in
@@ -163,15 +161,15 @@ module _ (g : Geometry) (t d : ℕ) (work : List ℕ) (f : Found) (found_is : f 
   unfolding kept_of
   kept_by x e = ap (λ (y : Found). shard_at y g work) (sym found_is ∙ e)
 
-  pub kept_none : (w : Refusal) → f ≡ spot.Refused w → kept_of g t d work ≡ []
-  kept_none w e = kept_by (spot.Refused w) e
+  pub kept_none : (w : Refusal) → f ≡ Err w → kept_of g t d work ≡ []
+  kept_none w e = kept_by (Err w) e
 
-  pub kept_short : (r : ℕ) → f ≡ spot.At r → length work < r * g.c * sector_bytes + g.c * sector_bytes → kept_of g t d work ≡ []
-  kept_short r e l = kept_by (spot.At r) e ∙ when (ltb (length work) (r * g.c * sector_bytes + g.c * sector_bytes)) _ _ (lt-ltb _ _ l)
+  pub kept_short : (r : ℕ) → f ≡ Ok r → length work < r * g.c * sector_bytes + g.c * sector_bytes → kept_of g t d work ≡ []
+  kept_short r e l = kept_by (Ok r) e ∙ when (ltb (length work) (r * g.c * sector_bytes + g.c * sector_bytes)) _ _ (lt-ltb _ _ l)
 
-  pub kept_at_lem : (r : ℕ) → f ≡ spot.At r → r * g.c * sector_bytes + g.c * sector_bytes ≤ length work
+  pub kept_at_lem : (r : ℕ) → f ≡ Ok r → r * g.c * sector_bytes + g.c * sector_bytes ≤ length work
       → kept_of g t d work ≡ take (g.c * sector_bytes) (drop (r * g.c * sector_bytes) work)
-  kept_at_lem r e l = kept_by (spot.At r) e ∙ unless (ltb (length work) (r * g.c * sector_bytes + g.c * sector_bytes)) _ _ (le-ltb _ _ l)
+  kept_at_lem r e l = kept_by (Ok r) e ∙ unless (ltb (length work) (r * g.c * sector_bytes + g.c * sector_bytes)) _ _ (le-ltb _ _ l)
 
 -- ---- a record's sectors
 
@@ -183,10 +181,10 @@ module _ (c j : ℕ) (v out : List ℕ) where
 
     pub after_log_lem : (x : Tail) (o : Outcome) → j < c → after_log o x.stamp b out ≡ after_logged o x c j v out
     unfolding record_sector
-    after_log_lem x outcome.Done l = ap (log_sector x.stamp) part_is ∙ sym (when (ltb j c) _ _ (lt-ltb j c l))
-    after_log_lem x (outcome.Refused why) l = refl
+    after_log_lem x (Ok tt) l = ap (log_sector x.stamp) part_is ∙ sym (when (ltb j c) _ _ (lt-ltb j c l))
+    after_log_lem x (Err why) l = refl
 
-  pub logged_past : c < j → logged_answer c j v out ≡ outcome.Refused NotNow
+  pub logged_past : c < j → logged_answer c j v out ≡ Err NotNow
   unfolding logged_answer
   logged_past l = unless (ltb j c) _ _ (le-ltb j c (omega arith)) ∙ when (ltb c j) _ _ (lt-ltb c j l)
 
@@ -196,8 +194,8 @@ module _ (c j : ℕ) (v out : List ℕ) where
 
   pub after_tail_lem : (x : Tail) (o : Outcome) → c ≤ j → after_tail o x c v out ≡ after_logged o x c j v out
   unfolding record_sector
-  after_tail_lem x outcome.Done l = sym (unless (ltb j c) _ _ (le-ltb j c l))
-  after_tail_lem x (outcome.Refused why) l = refl
+  after_tail_lem x (Ok tt) l = sym (unless (ltb j c) _ _ (le-ltb j c l))
+  after_tail_lem x (Err why) l = refl
 
 -- ---- a write's sectors
 
@@ -209,13 +207,13 @@ module _ (s : State) (g : Geometry) (d t : ℕ) (work img : List ℕ) (v : List 
         ap (λ (y : List ℕ). by_logged (logged_answer g.c s.cursor.sector y (replicate sector_bytes 0)) s g d t shards y img) (sym kept_is)
         ∙ ap (λ (q : Outcome). by_logged q s g d t shards v img) (sym answer ∙ e)
 
-    pub log_not : (w : Refusal) → o ≡ outcome.Refused w → log_move s g d t shards work img ≡ refuses s NotNow img
-    log_not w e = by_logged_lem (outcome.Refused w) e
+    pub log_not : (w : Refusal) → o ≡ Err w → log_move s g d t shards work img ≡ refuses s NotNow img
+    log_not w e = by_logged_lem (Err w) e
 
-    pub log_put : o ≡ outcome.Done → (b : List ℕ) → b ≡ after_logged o x g.c s.cursor.sector v (replicate sector_bytes 0)
+    pub log_put : o ≡ Ok tt → (b : List ℕ) → b ≡ after_logged o x g.c s.cursor.sector v (replicate sector_bytes 0)
         → log_move s g d t shards work img ≡ put_move s g d (first_log + s.cursor.sector) (g.c + 1) b img
     log_put e b leaves =
-        by_logged_lem outcome.Done e
+        by_logged_lem (Ok tt) e
         ∙ ap (λ (y : List ℕ). put_move s g d (first_log + s.cursor.sector) (g.c + 1) y img)
         (sym (leaves ∙ ap₂ (λ (q : Outcome) (y : Tail). after_logged q y g.c s.cursor.sector v (replicate sector_bytes 0)) e tail_is))
 
@@ -224,12 +222,12 @@ module _ (s : State) (g : Geometry) (d t : ℕ) (work img : List ℕ) (v : List 
     unfolding store_move
     by_stored_lem y e = ap₂ (λ (x : Found) (z : List ℕ). by_stored x s g d z img) (sym strip ∙ e) (sym kept_is)
 
-    pub store_not : (w : Refusal) → f ≡ spot.Refused w → store_move s g d t work img ≡ refuses s NotNow img
-    store_not w e = by_stored_lem (spot.Refused w) e
+    pub store_not : (w : Refusal) → f ≡ Err w → store_move s g d t work img ≡ refuses s NotNow img
+    store_not w e = by_stored_lem (Err w) e
 
-    pub store_put : (p : ℕ) → f ≡ spot.At p → (b : List ℕ) → b ≡ part_of v s.cursor.sector
+    pub store_put : (p : ℕ) → f ≡ Ok p → (b : List ℕ) → b ≡ part_of v s.cursor.sector
         → store_move s g d t work img ≡ put_move s g d (p + s.cursor.sector) g.c b img
-    store_put p e b leaves = by_stored_lem (spot.At p) e ∙ ap (λ (y : List ℕ). put_move s g d (p + s.cursor.sector) g.c y img) (sym leaves)
+    store_put p e b leaves = by_stored_lem (Ok p) e ∙ ap (λ (y : List ℕ). put_move s g d (p + s.cursor.sector) g.c y img) (sym leaves)
 
 -- ---- the stages, one after the other
 
@@ -329,16 +327,16 @@ pub record Walking (g : Geometry) (work img₀ : List ℕ) (s : State) (img : Li
 
 -- ---- a sector that is rebuilt
 
-found_says : (g : Geometry) (b : Bool) (x r : ℕ) → found (in_range g) b x ≡ spot.At r → (in_range g ≡ true) × (x ≡ r)
+found_says : (g : Geometry) (b : Bool) (x r : ℕ) → found (in_range g) b x ≡ Ok r → (in_range g ≡ true) × (x ≡ r)
 found_says g b x r e = by (in_range g) b refl e
   where
-    by : (a b : Bool) → in_range g ≡ a → found a b x ≡ spot.At r → (in_range g ≡ true) × (x ≡ r)
+    by : (a b : Bool) → in_range g ≡ a → found a b x ≡ Ok r → (in_range g ≡ true) × (x ≡ r)
     by true true i e = let q : x ≡ r = cc in (i, q)
     by true false i e = absurd (let z : ◌≡◌ {A = ℕ} 0 1 = cc in omega arith)
     by false b i e = absurd (let z : ◌≡◌ {A = ℕ} 0 1 = cc in omega arith)
 
 -- there is such a shard, so n and c are those of a shelf
-pub shard_range : (g : Geometry) (t d r : ℕ) → found (in_range g) (ltb t (stripes_of g) && ltb d g.n) (shard_of g.n t d) ≡ spot.At r → (g.n ≤ most_n) × (g.c ≤ most_c)
+pub shard_range : (g : Geometry) (t d r : ℕ) → found (in_range g) (ltb t (stripes_of g) && ltb d g.n) (shard_of g.n t d) ≡ Ok r → (g.n ≤ most_n) × (g.c ≤ most_c)
 shard_range g t d r e =
     let h = in_range_lem g (found_says g (ltb t (stripes_of g) && ltb d g.n) (shard_of g.n t d) r e).0 in (h.few, h.short)
 
@@ -348,15 +346,15 @@ module _ (l : Label) (absent : ℕ) (g : Geometry) (d t j : ℕ) (work img : Lis
   unfolding rebuild_answer
   from_found x e = ap (λ (y : Found). shown_from y l absent g t j work img) (sym found_is ∙ e)
 
-  pub rebuild_none : (w : Refusal) → f ≡ spot.Refused w → rebuild_answer l absent g d t j work img ≡ outcome.Refused w
-  rebuild_none w e = from_found (spot.Refused w) e
+  pub rebuild_none : (w : Refusal) → f ≡ Err w → rebuild_answer l absent g d t j work img ≡ Err w
+  rebuild_none w e = from_found (Err w) e
 
-  module _ (r : ℕ) (at : f ≡ spot.At r) (there : ℕ) (seen_is : there ≡ seen_slots g l absent t) (kept : List ℕ) (kept_is : kept ≡ stripe_in g work)
+  module _ (r : ℕ) (at : f ≡ Ok r) (there : ℕ) (seen_is : there ≡ seen_slots g l absent t) (kept : List ℕ) (kept_is : kept ≡ stripe_in g work)
       (room size : ℕ) (room_is : room ≡ g.n * sector_bytes) (size_is : size ≡ sector_bytes) (o : Outcome)
       (answer : o ≡ shown_answer g l.k (length img) t r j 1 there (length kept) room size) where
     pub rebuild_answer_lem : o ≡ rebuild_answer l absent g d t j work img
     rebuild_answer_lem =
-        answer ∙ (λ i. shown_answer g l.k (length img) t r j 1 (seen_is i) (length (kept_is i)) (room_is i) (size_is i)) ∙ sym (from_found (spot.At r) at)
+        answer ∙ (λ i. shown_answer g l.k (length img) t r j 1 (seen_is i) (length (kept_is i)) (room_is i) (size_is i)) ∙ sym (from_found (Ok r) at)
 
     pub rebuild_leaves : (x out : List ℕ) → x ≡ after_shown o g l.k img there 0 kept t j 1 r out → x ≡ after_rebuild o l absent g d t j work img out
     unfolding rebuilt_sector
@@ -366,8 +364,8 @@ module _ (l : Label) (absent : ℕ) (g : Geometry) (d t j : ℕ) (work img : Lis
         q = (found_says g (ltb t (stripes_of g) && ltb d g.n) (shard_of g.n t d) r (sym found_is ∙ at)).1
 
         by : (y : Outcome) → after_shown y g l.k img there 0 kept t j 1 r out ≡ after_rebuild y l absent g d t j work img out
-        by outcome.Done = λ i. shard_shown g l.k img (seen_is i) 0 (kept_is i) t j 1 (sym q i)
-        by (outcome.Refused w) = refl
+        by (Ok tt) = λ i. shard_shown g l.k img (seen_is i) 0 (kept_is i) t j 1 (sym q i)
+        by (Err w) = refl
 
 -- ---- the strips that are rebuilt
 
@@ -405,13 +403,13 @@ module _ (s : State) (g : Geometry) (d first count : ℕ) (work img : List ℕ) 
     by_rebuilt_lem y e =
         when (in_strips first count g.c s.cursor.sector) _ _ inside ∙ ap (λ (x : Outcome). by_rebuilt x s g d first count work img) (sym answer ∙ e)
 
-    pub fill_not : (w : Refusal) → o ≡ outcome.Refused w → fill_move s g d first count work img ≡ refuses s NotNow img
-    fill_not w e = by_rebuilt_lem (outcome.Refused w) e
+    pub fill_not : (w : Refusal) → o ≡ Err w → fill_move s g d first count work img ≡ refuses s NotNow img
+    fill_not w e = by_rebuilt_lem (Err w) e
 
-    pub fill_put : o ≡ outcome.Done → (b z : List ℕ)
+    pub fill_put : o ≡ Ok tt → (b z : List ℕ)
         → b ≡ after_rebuild o s.now s.absent g d (first + s.cursor.sector / g.c) (s.cursor.sector % g.c) work img z
         → fill_move s g d first count work img ≡ put_move s g d (first_strip + first * g.c + s.cursor.sector) (count * g.c) b img
     fill_put e b z leaves =
-        by_rebuilt_lem outcome.Done e
+        by_rebuilt_lem (Ok tt) e
         ∙ ap (λ (y : List ℕ). put_move s g d (first_strip + first * g.c + s.cursor.sector) (count * g.c) y img)
         (sym (leaves ∙ ap (λ (x : Outcome). after_rebuild x s.now s.absent g d (first + s.cursor.sector / g.c) (s.cursor.sector % g.c) work img z) e))

@@ -10,11 +10,11 @@ use Rattle.stages.specs.State.{moved, rested}
 use Rattle.stages.specs.Stage.{slots_of, stage_of}
 use Rattle.shelf.specs.Act.{Move, refusal, refuses, act_move}
 use Rattle.stages.specs.declared.state.State.{State}
-use Rattle.stages.specs.declared.state.Stepped.{Stepped}
+use Rattle.stages.specs.Told.{Told}
 use Rattle.stages.specs.declared.state.Kind.{Kind}
 use Rattle.stages.specs.declared.state.Kind.TheVariants.{Nothing, Idle, Creating, Starting, Labelling, Writing, Beginning, Filling}
-use Rattle.stages.specs.declared.state.Answer.{Answer}
-use Rattle.stages.specs.declared.state.Answer.TheVariants.{Put, Flush, Done, Refused}
+use Rattle.stages.specs.Told.{Answer}
+use Rattle.stages.specs.Told.{Put, Flush, Done, Refused}
 use Rattle.stages.specs.declared.stage.Stage.{Stage}
 use Rattle.stages.specs.declared.stage.Stage.TheVariants as stage
 
@@ -36,7 +36,7 @@ is_end (stage.Fill slots first count) = false
 is_end stage.End = true
 
 -- the request has succeeded
-abbrev pub done : State → Stepped
+abbrev pub done : State → Told
 done s = record { state = rested s; answer = Done }
 
 abbrev pub finished : State → List ℕ → Move
@@ -58,13 +58,13 @@ walk (suc left) s g work img =
     (cond (ltb (next_slot s g) g.n) (act_move s g (stage_of s) (next_slot s g) work img) (walk left (on_stage s) g work img))
 
 -- where the step was refused, the state is as it was
-abbrev pub by_answer : Answer → State → Stepped → Stepped
+abbrev pub by_answer : Answer → State → Told → Told
 by_answer (Put d to) s r = r
 by_answer (Flush d) s r = r
 by_answer Done s r = r
 by_answer (Refused why) s r = refusal s why
 
-abbrev pub kept : State → Stepped → Stepped
+abbrev pub kept : State → Told → Told
 kept s r = by_answer r.answer s r
 
 abbrev pub keeps : State → Move → Move

@@ -4,9 +4,9 @@ ghost use Rattle.std.specs.Prelude.{◌≡◌, ◌≤◌, ◌<◌};
 ghost use Rattle.disk.specs.Limits.{most_c, most_sectors};
 ghost use Rattle.shelf.specs.Kept.{kept_of, part_of, logged_answer, after_logged};
 
-use disk::geometry::{Found, Geometry, shard};
+use disk::geometry::{Geometry, shard};
 use disk::limits::SECTOR;
-use disk::refusal::{Outcome, Refusal};
+use disk::refusal::Refusal;
 use record::stamp::Stamp;
 use record::tail::Tail;
 
@@ -15,18 +15,11 @@ pub(crate) fn kept(work: &[u8], g: Geometry, stripe: usize, d: usize) -> &[u8]
     requires { g.c ≤ most_c }
     ensures { result.now ≡ kept_of g stripe d work.now }
 {
-    let found = shard(g, stripe, d);
-    match found {
-        Found::Refused(_) => &work[..0],
-        Found::At(r) => {
-            let at = r * g.c * SECTOR;
-            let e = at + g.c * SECTOR;
-            if work.len() < e {
-                return &work[..0];
-            }
-            &work[at..e]
-        }
-    }
+    let Ok(r) = shard(g, stripe, d) else {
+        return &[];
+    };
+    let at = r * g.c * SECTOR;
+    work.get(at..at + g.c * SECTOR).unwrap_or(&[])
 }
 
 // Sector j of a strip; the empty part where it has none.
@@ -35,24 +28,26 @@ pub(crate) fn part_of(strip: &[u8], j: usize) -> &[u8]
     ensures { result.now ≡ part_of strip.now j }
 {
     let at = j * SECTOR;
-    let e = at + SECTOR;
-    if strip.len() < e {
-        return &strip[..0];
-    }
-    &strip[at..e]
+    strip.get(at..at + SECTOR).unwrap_or(&[])
 }
 
 // Writes sector j of the record of a strip of c sectors: its c log sectors, then the tail. A refusal changes nothing.
-pub(crate) fn record_sector(tail: Tail, strip: &[u8], c: usize, j: usize, out: &mut [u8]) -> Outcome
+#[tactic(auto, unfolding(crate::specs::Kept::logged_answer, crate::specs::Kept::record_sector))]
+pub(crate) fn record_sector(
+    tail: Tail,
+    strip: &[u8],
+    c: usize,
+    j: usize,
+    out: &mut [u8],
+) -> Result<(), Refusal>
     requires { j < most_sectors }
     ensures { (result ≡ logged_answer c j strip.now out.old) × (out.new ≡ after_logged result tail c j strip.now out.old) }
 {
     if j < c {
-        let stamp = tail.stamp;
-        return record::log::encode(stamp, part_of(strip, j), out);
+        return record::log::encode(tail.stamp, part_of(strip, j), out);
     }
     if c < j {
-        return Outcome::Refused(Refusal::NotNow);
+        return Err(Refusal::NotNow);
     }
     record::tail::encode(tail, strip, c, out)
 }

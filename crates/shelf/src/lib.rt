@@ -4,6 +4,6 @@
 #![tactic(auto)]
 
 mod act;
-mod fill;
+pub mod fill;
 mod kept;
 pub mod step;

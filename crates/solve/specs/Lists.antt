@@ -1,10 +1,20 @@
 -- The turns of the loops over a list of shards, and what a list that is taken means. Assumes nothing.
-use Rattle.std.specs.Prelude.{◌≡◌, refl, Bool, true, false, cond, not, ◌&&◌, List, [], ◌∷◌, ◌≢◌, ℕ, zero, suc, ◌+◌, ◌*◌, ◌≤◌, ◌<◌, eqb, leb, ltb, length, get_or, drop}
+use Rattle.std.specs.Prelude.{◌≡◌, refl, Bool, true, false, cond, not, ◌&&◌, ◌||◌, List, [], ◌∷◌, ◌≢◌, ℕ, zero, suc, ◌+◌, ◌*◌, ◌≤◌, ◌<◌, eqb, leb, ltb, length, get_or, drop}
+use Rattle.std.specs.List.{list_any}
 use Rattle.std.proofs.Common.{sym, ap, ap₂, ◌∙◌, add-one, arith, drop_of_length-le, drop-cons, eq-eqb, ne_eqb, lt-ltb, le-ltb, le-leb, ltb-true, leb-true, eqb-true}
 use Rattle.std.proofs.lemmas.Bool.{not-true}
 use Rattle.codeword.specs.Stripe.{k_least, k_most, m_least, m_most, InRange, has}
 use Rattle.codeword.specs.Named.{has_not, has_none}
 use Rattle.solve.specs.Lost.{Lost, shards_of, solvable_of}
+
+-- a test of each number
+pub has_any : (l : List ℕ) (a : ℕ) → list_any (λ x. eqb x a) l ≡ has l a
+has_any [] a = refl
+has_any (x ∷ l) a = ap (λ (b : Bool). eqb x a || b) (has_any l a) ∙ or_cond (eqb x a) (has l a)
+  where
+    or_cond : (b d : Bool) → (b || d) ≡ cond b true d
+    or_cond true d = refl
+    or_cond false d = refl
 
 module _ (l : List ℕ) (i : ℕ) where
   at_i : i < length l → drop i l ≡ get_or l i 0 ∷ drop (i + 1) l

@@ -1,3 +1,4 @@
 pub mod Limits
 pub mod State
+pub mod Told
 pub mod Stage

@@ -2,21 +2,20 @@
 ghost use Rattle.std.specs.Prelude.{◌≡◌};
 ghost use Rattle.stages.specs.State.{moved, rested};
 
-use disk::refusal::Refusal;
 use label::fields::Label;
 
 // What is under way. Nothing: no shelf is started. Labelling: one label change. Writing: the log, then the strips. Beginning: a
-// disk is readied for its rebuild. Filling: strips of it are rebuilt.
-#[derive(Clone, Copy)]
+// disk is readied for its rebuild. Filling: strips of it are rebuilt. Each has its number, by which a state is kept as bytes.
+#[derive(Clone, Copy, PartialEq, Eq)]
 pub enum Kind {
-    Nothing,
-    Idle,
-    Creating,
-    Starting,
-    Labelling,
-    Writing,
-    Beginning,
-    Filling,
+    Nothing = 0,
+    Idle = 1,
+    Creating = 2,
+    Starting = 3,
+    Labelling = 4,
+    Writing = 5,
+    Beginning = 6,
+    Filling = 7,
 }
 
 // Where a request is: its stage, and slot and sector in it.
@@ -25,6 +24,15 @@ pub struct Cursor {
     pub stage: usize,
     pub slot: usize,
     pub sector: usize,
+}
+
+impl Cursor {
+    // The first sector of the first slot of the first stage.
+    pub const START: Cursor = Cursor {
+        stage: 0,
+        slot: 0,
+        sector: 0,
+    };
 }
 
 // What the request under way goes by, each a mask of slots. present: the present ones (none for a write). Of start-up: parts take part in its
@@ -45,6 +53,20 @@ pub struct Marks {
     pub forward: bool,
 }
 
+impl Marks {
+    // No slot in any mask.
+    pub const NONE: Marks = Marks {
+        present: 0,
+        parts: 0,
+        late: 0,
+        prep: 0,
+        zeroed: 0,
+        redo: 0,
+        stripe: 0,
+        forward: false,
+    };
+}
+
 // now: the settled label (while starting: the one that was read). next: the label that the request under way settles.
 // epoch and count: the stamp of the last write.
 #[derive(Clone, Copy)]
@@ -60,41 +82,31 @@ pub struct State {
 }
 
 // What a step did. Done: the request under way has succeeded.
-#[derive(Clone, Copy)]
-pub enum Answer {
+#[derive(Clone, Copy, PartialEq, Eq)]
+pub enum Did {
     Put { slot: usize, sector: usize },
     Flush { slot: usize },
     Done,
-    Refused(Refusal),
 }
 
+// The state after a step, and what the step did.
 #[derive(Clone, Copy)]
 pub struct Stepped {
     pub state: State,
-    pub answer: Answer,
+    pub did: Did,
 }
 
 // The state with another cursor.
 pub fn at(s: State, stage: usize, slot: usize, sector: usize) -> State
     ensures { result ≡ moved s stage slot sector }
 {
-    let now = s.now;
-    let next = s.next;
-    let marks = s.marks;
-    let kind = s.kind;
     State {
-        now: now,
-        next: next,
-        absent: s.absent,
-        epoch: s.epoch,
-        count: s.count,
-        marks: marks,
-        kind: kind,
         cursor: Cursor {
-            stage: stage,
-            slot: slot,
-            sector: sector,
+            stage,
+            slot,
+            sector,
         },
+        ..s
     }
 }
 
@@ -102,20 +114,10 @@ pub fn at(s: State, stage: usize, slot: usize, sector: usize) -> State
 pub fn rest(s: State) -> State
     ensures { result ≡ rested s }
 {
-    let next = s.next;
-    let marks = s.marks;
     State {
-        now: next,
-        next: next,
-        absent: s.absent,
-        epoch: s.epoch,
-        count: s.count,
-        marks: marks,
+        now: s.next,
         kind: Kind::Idle,
-        cursor: Cursor {
-            stage: 0,
-            slot: 0,
-            sector: 0,
-        },
+        cursor: Cursor::START,
+        ..s
     }
 }

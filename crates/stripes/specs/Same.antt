@@ -1,14 +1,13 @@
 -- What rebuild, encode and scrub make of a shelf's stripe, by their contracts alone, is what the protocol's code says: the blocks that
 -- a read gives, the strips that a write puts, the finding of a scrub. Whatever the strips hold, also where they contradict each
 -- other. Assumes nothing.
-use Rattle.std.specs.Prelude.{◌≡◌, refl, Bool, cond, ◌⊎◌, leb, length, get_or}
+use Rattle.std.specs.Prelude.{◌≡◌, refl, Bool, cond, ◌⊎◌, leb, length, get_or, Ok, Err}
 use Rattle.std.proofs.Math.Path.{sym, ap}
 use Rattle.std.proofs.Common.{◌∙◌, subst, inl, inr, arith, le-leb}
 use Rattle.std.proofs.Math.Bool.{true, false}
 use mathlib.Core.List.{List}
 use Prim.Native.Nat.{ℕ, ◌+◌, ◌-◌, ◌*◌, ◌≤◌, ◌<◌}
-use Rattle.field.specs.declared.Answer.{Answer}
-use Rattle.field.specs.declared.Answer.TheVariants.{Done, Refused}
+use Rattle.field.specs.Refusal.{Answer}
 use Rattle.field.specs.declared.Refusal.TheVariants.{BadShape, TooMany, BadShard}
 use Rattle.disk.specs.Limits.{sector_bytes}
 use Rattle.disk.specs.Geometry.{slot_of}
@@ -43,16 +42,16 @@ module _ (z : Shelf) (t : ℕ) (bad : ℕ → Bool) (g : ℕ → ℕ → Sector)
   abbrev missing : List ℕ
   missing = missing_of z t bad
 
-  rebuild_taken : rebuild_answer z.k z.m (shard_bytes z) (length before) missing ≡ Done
+  rebuild_taken : rebuild_answer z.k z.m (shard_bytes z) (length before) missing ≡ Ok tt
   rebuild_taken =
-      ap (λ (b : Bool). cond b (cond (leb (length missing) z.m) (cond (shards_of (slots z) missing) Done (Refused BadShard)) (Refused TooMany)) (Refused BadShape))
+      ap (λ (b : Bool). cond b (cond (leb (length missing) z.m) (cond (shards_of (slots z) missing) (Ok tt) (Err BadShard)) (Err TooMany)) (Err BadShape))
       (slice_shape z before whole)
-      ∙ ap (λ (b : Bool). cond b (cond (shards_of (slots z) missing) Done (Refused BadShard)) (Refused TooMany)) (le-leb (length missing) z.m (missing_few z t bad few))
-      ∙ ap (λ (b : Bool). cond b Done (Refused BadShard)) (missing_shards z t bad)
+      ∙ ap (λ (b : Bool). cond b (cond (shards_of (slots z) missing) (Ok tt) (Err BadShard)) (Err TooMany)) (le-leb (length missing) z.m (missing_few z t bad few))
+      ∙ ap (λ (b : Bool). cond b (Ok tt) (Err BadShard)) (missing_shards z t bad)
 
   module _ (a : Answer) (after : List ℕ) (w : Rebuilt z.k z.m (shard_bytes z) missing a before after) where
     -- where few slots are bad, a rebuild is never refused
-    pub rebuild_done : a ≡ Done
+    pub rebuild_done : a ≡ Ok tt
     rebuild_done = w.answers ∙ rebuild_taken
 
     module _ (there : (r j : ℕ) → r < slots z → j < z.c → bad (slot_of (slots z) t r) ≡ false → sector z.c before r j ≡ (g (slot_of (slots z) t r) j).bytes) where
@@ -86,8 +85,8 @@ module _ (z : Shelf) (t : ℕ) (bad : ℕ → Bool) (g : ℕ → ℕ → Sector)
 module _ (z : Shelf) (t : ℕ) (b : Blocks Sector) (before after : List ℕ) (whole : length before ≡ slots z * shard_bytes z) where
   module _ (a : Answer) (w : Encoded z.k z.m (shard_bytes z) a before after) where
     -- an encode of a stripe is never refused
-    pub encode_done : a ≡ Done
-    encode_done = w.answers ∙ ap (λ (b : Bool). cond b Done (Refused BadShape)) (slice_shape z before whole)
+    pub encode_done : a ≡ Ok tt
+    encode_done = w.answers ∙ ap (λ (b : Bool). cond b (Ok tt) (Err BadShape)) (slice_shape z before whole)
 
     module _ (laid : (i j : ℕ) → i < z.k → j < z.c → sector z.c before i j ≡ (b i j).bytes) where
       -- a data shard at a byte

@@ -1,6 +1,6 @@
 -- What is seen and what is shown, byte by byte. A rebuild of what is seen gives what is shown; what lies in slots that are not there
 -- makes no difference. Assumes nothing.
-use Rattle.std.specs.Prelude.{◌≡◌, Bool, true, false, leb, take, drop, replicate}
+use Rattle.std.specs.Prelude.{◌≡◌, Bool, true, false, leb, take, drop, replicate, Ok, Err}
 use Rattle.std.proofs.Math.Path.{sym, ap}
 use Rattle.std.proofs.Common.{◌∙◌, length-drop, get_or-take, get_or-drop, length-take-le, le-leb, eq-eqb, leb-true}
 use Rattle.std.proofs.Math.Bool.{cond, not}
@@ -11,8 +11,7 @@ use native.Mathlib.Omega.{arith}
 use Rattle.std.proofs.Math.ListN.{length, get_or, length-replicate, get_or-replicate}
 use Rattle.std.proofs.Math.Seq.{ext_get_or}
 use Rattle.std.proofs.lemmas.Bool.{not-false}
-use Rattle.field.specs.declared.Answer.{Answer}
-use Rattle.field.specs.declared.Answer.TheVariants.{Done, Refused}
+use Rattle.field.specs.Refusal.{Answer}
 use Rattle.field.specs.declared.Refusal.TheVariants.{BadShape, TooMany, BadShard}
 use Rattle.disk.specs.Limits.{sector_bytes}
 use Rattle.disk.specs.Geometry.{strip_of, slot_of, Splits, slot_lt}
@@ -152,15 +151,15 @@ row_shaped n k w size s some short e =
 
 -- a rebuild of the lost shards is not refused
 pub rebuild_done : (n k w t there : ℕ) → Splits n k → 1 ≤ w → w ≤ len_most → few_lost n k t there ≡ true → (a : Answer) (before after : List ℕ) → length before ≡ n * w
-    → Rebuilt k (n - k) w (lost_of n t there) a before after → a ≡ Done
+    → Rebuilt k (n - k) w (lost_of n t there) a before after → a ≡ Ok tt
 rebuild_done n k w t there s some short few a before after e b =
     let lost : List ℕ = lost_of n t there in
     let q : k + (n - k) ≡ n = omega (arith, s.parity) in
     b.answers
-    ∙ ap (λ (x : Bool). cond x (cond (leb (length lost) (n - k)) (cond (shards_of (k + (n - k)) lost) Done (Refused BadShard)) (Refused TooMany)) (Refused BadShape))
+    ∙ ap (λ (x : Bool). cond x (cond (leb (length lost) (n - k)) (cond (shards_of (k + (n - k)) lost) (Ok tt) (Err BadShard)) (Err TooMany)) (Err BadShape))
     (row_shaped n k w (length before) s some short e)
-    ∙ ap (λ (x : Bool). cond x (cond (shards_of (k + (n - k)) lost) Done (Refused BadShard)) (Refused TooMany)) (le-leb (length lost) (n - k) (few_means n k t there few))
-    ∙ ap (λ (x : Bool). cond x Done (Refused BadShard)) (ap (λ (i : ℕ). shards_of i lost) q ∙ lost_shards n t there)
+    ∙ ap (λ (x : Bool). cond x (cond (shards_of (k + (n - k)) lost) (Ok tt) (Err BadShard)) (Err TooMany)) (le-leb (length lost) (n - k) (few_means n k t there few))
+    ∙ ap (λ (x : Bool). cond x (Ok tt) (Err BadShard)) (ap (λ (i : ℕ). shards_of i lost) q ∙ lost_shards n t there)
 
 -- ---- what is shown
 
@@ -187,7 +186,7 @@ module _ (g : Geometry) (k : ℕ) (img : List ℕ) (there over : ℕ) (kept : Li
   rebuilt_shown first count s some short few a before after e b r hr =
       let w : ℕ = count * sector_bytes in
       let len : length before ≡ g.n * w = ap length e ∙ row_bytes g img there over kept t first count in
-      let done : a ≡ Done = rebuild_done g.n k w t there s (omega arith) short few a before after len b in
+      let done : a ≡ (Ok tt) = rebuild_done g.n k w t there s (omega arith) short few a before after len b in
       let in_k : r < k + (g.n - k) = omega (arith, s.parity) in
       part_listed after (r * w) w (λ p. shown_byte g k img there over kept t r (first * sector_bytes + p))
       (omega (arith, b.same, suc-mul r w, mul-le-mul_right w hr))

@@ -1,10 +1,9 @@
 -- What a prepared write has: the stripe is sound, block i is the data, the other data shards are those of the restored stripe; and where
 -- something was lost, the restored stripe is the one that is shown. Assumes nothing.
-use Rattle.std.specs.Prelude.{◌≡◌, refl, Bool, true, false, cond, List, [], ◌≢◌, ◌⊎◌, ℕ, ◌+◌, ◌-◌, ◌*◌, ◌≤◌, ◌<◌, length, get_or, take, drop}
+use Rattle.std.specs.Prelude.{◌≡◌, refl, Bool, true, false, cond, List, [], ◌≢◌, ◌⊎◌, ℕ, ◌+◌, ◌-◌, ◌*◌, ◌≤◌, ◌<◌, length, get_or, take, drop, Ok, Err}
 use Rattle.std.proofs.Common.{ap, ◌∙◌, inl, inr, ⊎_elim, suc-mul, mul-le-mul_right, arith}
 use Rattle.std.proofs.Math.Seq.{paste}
 use Rattle.std.proofs.lemmas.List.Edits.{length-paste}
-use Rattle.field.specs.declared.Answer.TheVariants.{Done, Refused}
 use Rattle.field.specs.declared.Refusal.TheVariants.{BadShape}
 use Rattle.disk.specs.Geometry.{InRange, Splits}
 use Rattle.disk.specs.Image.{lt_or_ge, get_or_paste_inside, get_or_paste_other}
@@ -19,11 +18,10 @@ use Rattle.strips.specs.Laws.{row_bytes, row_shaped, rebuilt_shown}
 use Rattle.strips.specs.Turns.{row_fits}
 use Rattle.strips.specs.Whole.{stripe_seen, none_lost, Restored, PreparedBy}
 
-mends_length : (k m len : ℕ) (v : Verdict) (before after : List ℕ) → Mends k m len v before after → length after ≡ length before
+mends_length : (k m len : ℕ) (v : Verdict) (before after : List ℕ) → Mends k m len (Ok v) before after → length after ≡ length before
 mends_length k m len verdict.Sound before after h = ap length h
 mends_length k m len (verdict.Accused r) before after h = h.0
 mends_length k m len verdict.Unsound before after h = ap length h
-mends_length k m len (verdict.Refused x) before after h = ap length h
 
 pub restored_length : (n k t there len : ℕ) (all : Bool) (before after : List ℕ) → Restored n k t there len all before after → length after ≡ length before
 restored_length n k t there len all before after w = go (none_lost n t there) refl
@@ -61,10 +59,10 @@ module _ (g : Geometry) (k : ℕ) (img : List ℕ) (there t i : ℕ) (bytes : Li
   put_length = length-paste w.stripe (i * len) bytes len inside (omega arith) ∙ stripe_length
 
   -- the encode is not refused
-  pub prepared_done : w.answer ≡ Done
+  pub prepared_done : w.answer ≡ Ok tt
   prepared_done =
       w.encoded.answers
-      ∙ ap (λ (b : Bool). cond b Done (Refused BadShape))
+      ∙ ap (λ (b : Bool). cond b (Ok tt) (Err BadShape))
       (row_shaped g.n k len (length put) split (omega (arith, range.some)) (omega (arith, range.short)) put_length)
 
   pub prepared_length : length after ≡ g.n * len

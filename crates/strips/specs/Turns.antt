@@ -1,12 +1,11 @@
 -- What a turn of each loop adds. Assumes nothing.
-use Rattle.std.specs.Prelude.{◌≡◌, refl, Bool, true, false, cond, not, ◌&&◌, List, [], ◌∷◌, ◌++◌, ℕ, zero, suc, ◌+◌, ◌-◌, ◌*◌, ◌≤◌, ◌<◌, length, get_or, take, drop, set, replicate}
+use Rattle.std.specs.Prelude.{◌≡◌, refl, Bool, true, false, cond, not, ◌&&◌, List, [], ◌∷◌, ◌++◌, ℕ, zero, suc, ◌+◌, ◌-◌, ◌*◌, ◌≤◌, ◌<◌, length, get_or, take, drop, set, replicate, Ok, Err}
 use Rattle.std.proofs.Common.{sym, ap, ap₂, ◌∙◌, append_assoc, append-nil, suc-mul, mul-le-mul_right, add-one, arith, length-append, length-drop, drop_of_length-le, take_at, take_all, length-take-le, drop-drop, drop-cons}
 use Rattle.std.proofs.lemmas.List.{length-replicate, replicate-append-replicate, set_at}
 use Rattle.std.proofs.Math.Seq.{paste, take-length, drop-append-add}
 use Rattle.disk.specs.Geometry.{slot_of, found}
 use Rattle.disk.specs.Mask.{in_mask}
-use Rattle.disk.specs.declared.geometry.Found.{Found}
-use Rattle.disk.specs.declared.geometry.Found.TheVariants.{At, Refused}
+use Rattle.disk.specs.Geometry.{Found}
 use Rattle.position.specs.Row.{in_row, row_length}
 use Rattle.position.specs.Position.{ascending}
 use Rattle.strips.specs.Seen.{lost_of}
@@ -106,8 +105,8 @@ wipe_done part start i e q =
 -- ---- what the answer to a question of place tells
 
 is_at : Found → Bool
-is_at (At x) = true
-is_at (Refused why) = false
+is_at (Ok x) = true
+is_at (Err why) = false
 
 at_is : (a b : Bool) (x : ℕ) → is_at (found a b x) ≡ (a && b)
 unfolding is_at
@@ -115,11 +114,11 @@ at_is true true x = refl
 at_is true false x = refl
 at_is false b x = refl
 
-pub found_at : (f : Found) (a b : Bool) (x y : ℕ) → f ≡ found a b x → f ≡ At y → (a && b) ≡ true
+pub found_at : (f : Found) (a b : Bool) (x y : ℕ) → f ≡ found a b x → f ≡ Ok y → (a && b) ≡ true
 unfolding is_at
 found_at f a b x y h e = sym (at_is a b x) ∙ ap is_at (sym h ∙ e)
 
-pub found_none : (f : Found) (a b : Bool) (x : ℕ) {why : _} → f ≡ found a b x → f ≡ Refused why → (a && b) ≡ false
+pub found_none : (f : Found) (a b : Bool) (x : ℕ) {why : _} → f ≡ found a b x → f ≡ Err why → (a && b) ≡ false
 unfolding is_at
 found_none f a b x h e = sym (at_is a b x) ∙ ap is_at (sym h ∙ e)
 

@@ -1,32 +1,29 @@
 // Document 01, section 1: products, a quotient, powers, the order of g.
 use crate::report;
-use field::Quotient;
 use std::io;
 
 fn byte(rt: &impl Print, name: &str, computed: u8, expected: u8) -> io::Result<()> {
-    report::number(rt, name, computed as u64, expected as u64, 2)
+    report::number(rt, name, u64::from(computed), u64::from(expected), 2)
 }
 
 // The quotient, or 256 and the refusal's code.
 fn quotient(a: u8, b: u8) -> u64 {
     match field::div(a, b) {
-        Quotient::Value(q) => q as u64,
-        Quotient::Refused(x) => 256 + (field::number(x) as u64),
+        Ok(q) => u64::from(q),
+        Err(x) => 256 + u64::from(field::number(x)),
     }
 }
 
 // How many doublings lead from 1 to 1 again, 256 at the most.
 fn order_of_g() -> u64 {
     let mut x = field::double(1);
-    let mut n: u64 = 1;
-    while n < 256 {
+    for n in 1..256 {
         if x == 1 {
             return n;
         }
         x = field::double(x);
-        n += 1;
     }
-    n
+    256
 }
 
 pub fn run(rt: &impl Print) -> io::Result<()> {

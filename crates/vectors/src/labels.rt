@@ -1,6 +1,6 @@
 // Document 03, section 2: the checksum's two values, and the last four bytes of two labels.
 use crate::report;
-use disk::refusal::Outcome;
+use disk::refusal::Refusal;
 use label::fields::Label;
 use std::io;
 
@@ -20,10 +20,10 @@ fn worked(slot: usize) -> Label {
     }
 }
 
-fn outcome(o: Outcome) -> u64 {
+fn outcome(o: Result<(), Refusal>) -> u64 {
     match o {
-        Outcome::Done => 0,
-        Outcome::Refused(x) => disk::refusal::number(x) as u64,
+        Ok(()) => 0,
+        Err(x) => u64::from(disk::refusal::number(x)),
     }
 }
 
@@ -43,7 +43,7 @@ pub fn run(rt: &impl Print) -> io::Result<()> {
     report::number(
         rt,
         "CRC-32C of 123456789",
-        crc32c::crc32c(b"123456789") as u64,
+        u64::from(crc32c::crc32c(b"123456789")),
         0xe3069283,
         8,
     )?;
@@ -51,7 +51,7 @@ pub fn run(rt: &impl Print) -> io::Result<()> {
     report::number(
         rt,
         "CRC-32C of 512 zero bytes",
-        crc32c::crc32c(&zeros) as u64,
+        u64::from(crc32c::crc32c(&zeros)),
         0x30fcedc0,
         8,
     )?;

@@ -1,7 +1,6 @@
 // Document 01, sections 2 to 5: the worked stripe, its slips, lost shards, and what a scrub says.
 use crate::report;
 use code::Verdict;
-use field::Answer;
 use std::io;
 
 // "SONAR" and three blanks, "line 417", zeros, and bytes from 0xf8 on; then room for three parity shards.
@@ -23,20 +22,20 @@ const P1: [u8; 8] = [0x18, 0x06, 0x11, 0x00, 0xa1, 0xf3, 0xe1, 0xe5];
 
 const P2: [u8; 8] = [0x12, 0x5a, 0x87, 0xe4, 0x23, 0x41, 0x95, 0xcd];
 
-fn answer(a: Answer) -> u64 {
+fn answer(a: Result<(), field::Refusal>) -> u64 {
     match a {
-        Answer::Done => 0,
-        Answer::Refused(x) => field::number(x) as u64,
+        Ok(()) => 0,
+        Err(x) => u64::from(field::number(x)),
     }
 }
 
 // 256 sound; 512 + r accused; 768 not sound or more than one; or the refusal's code.
-fn said(v: Verdict) -> u64 {
+fn said(v: Result<Verdict, field::Refusal>) -> u64 {
     match v {
-        Verdict::Sound => 256,
-        Verdict::Accused(r) => 512 + (r as u64) % 256,
-        Verdict::Unsound => 768,
-        Verdict::Refused(x) => field::number(x) as u64,
+        Ok(Verdict::Sound) => 256,
+        Ok(Verdict::Accused(r)) => 512 + (r as u64) % 256,
+        Ok(Verdict::Unsound) => 768,
+        Err(x) => u64::from(field::number(x)),
     }
 }
 
@@ -78,12 +77,10 @@ fn cipher_double(a: u8) -> u8 {
 // p1 by Horner's rule in that field.
 fn cipher_p1(data: [u8; 56]) -> [u8; 8] {
     let mut p = [0u8; 8];
-    let mut i = 0;
-    while i < 8 {
+    for i in 0..8 {
         let a = cipher_double(data[24 + i]) ^ data[16 + i];
         let b = cipher_double(a) ^ data[8 + i];
         p[i] = cipher_double(b) ^ data[i];
-        i += 1;
     }
     p
 }
@@ -91,10 +88,10 @@ fn cipher_p1(data: [u8; 56]) -> [u8; 8] {
 // p1 with the weights w0, w1, w2 and w3.
 fn weighed(data: [u8; 56], w0: u8, w1: u8, w2: u8, w3: u8) -> [u8; 8] {
     let mut p = [0u8; 8];
-    field::mul_add(&mut p, &data[0..8], w0);
-    field::mul_add(&mut p, &data[8..16], w1);
-    field::mul_add(&mut p, &data[16..24], w2);
-    field::mul_add(&mut p, &data[24..32], w3);
+    let _ = field::mul_add(&mut p, &data[0..8], w0);
+    let _ = field::mul_add(&mut p, &data[8..16], w1);
+    let _ = field::mul_add(&mut p, &data[16..24], w2);
+    let _ = field::mul_add(&mut p, &data[24..32], w3);
     p
 }
 
@@ -120,12 +117,10 @@ fn slips(rt: &impl Print) -> io::Result<()> {
 // The stripe with other bytes in shards 0, 3 and 5.
 fn spoiled(whole: [u8; 56]) -> [u8; 56] {
     let mut stripe = whole;
-    let mut i = 0;
-    while i < 8 {
+    for i in 0..8 {
         stripe[i] = 0xee;
         stripe[24 + i] = 0x11;
         stripe[40 + i] = 0;
-        i += 1;
     }
     stripe
 }
@@ -133,7 +128,7 @@ fn spoiled(whole: [u8; 56]) -> [u8; 56] {
 // Three lost shards, data and parity mixed, whatever stands in their place.
 fn rebuilt(rt: &impl Print) -> io::Result<()> {
     let mut whole = worked();
-    code::encode(4, 3, 8, &mut whole);
+    let _ = code::encode(4, 3, 8, &mut whole);
     let mut stripe = spoiled(whole);
     let missing = [3, 0, 5];
     report::count(
@@ -181,7 +176,7 @@ fn liars(rt: &impl Print) -> io::Result<()> {
         said(code::scrub(4, 2, 1, &two)),
         515,
     )?;
-    code::repair(4, 2, 1, &mut two);
+    let _ = code::repair(4, 2, 1, &mut two);
     report::count(
         rt,
         "repaired, and sound",

@@ -1,6 +1,6 @@
 -- A write of one block: what is prepared for it is the stripe that the protocol writes, and all shards are to change where the protocol
 -- changes them all. Whatever the strips hold. Assumes nothing.
-use Rattle.std.specs.Prelude.{◌≡◌, Bool, true, false, cond, ◌&&◌, ◌≢◌, ◌⊎◌, length}
+use Rattle.std.specs.Prelude.{◌≡◌, Bool, true, false, cond, ◌&&◌, ◌≢◌, ◌⊎◌, length, Ok}
 use Rattle.std.proofs.Math.Path.{refl, sym, ap, subst}
 use Rattle.std.proofs.Common.{◌∙◌, inl, inr, ⊎_elim, suc-mul, mul-le-mul_right, eq-or-lt_of_le, arith, eq-eqb, ne_eqb}
 use Rattle.std.proofs.Math.Bool.{not}
@@ -11,7 +11,7 @@ use Rattle.std.proofs.Math.ListN.{get_or}
 use Rattle.std.proofs.Math.Seq.{paste}
 use Rattle.std.proofs.lemmas.List.Edits.{length-paste}
 use Rattle.std.proofs.lemmas.Bool.{not-false}
-use Rattle.field.specs.declared.Answer.{Answer}
+use Rattle.field.specs.Refusal.{Answer}
 use Rattle.disk.specs.Limits.{sector_bytes}
 use Rattle.disk.specs.Geometry.{slot_of, slot_lt, slot_one}
 use Rattle.disk.specs.Image.{sector, get_or_paste_inside, get_or_paste_other}
@@ -176,14 +176,14 @@ module _ (z : Shelf) (t : ℕ) (img : List ℕ) (there : ℕ) (g : ℕ → ℕ �
             ∙ ap (λ (u : Bool). byte (cond u (mended_in z t g (slot_of (n z t img there g lies few i hi x after small) t r)) (g (slot_of (n z t img there g lies few i hi x after small) t r)) j) p)
             (sym (ne_eqb (slot_of (n z t img there g lies few i hi x after small) t r) (slot_of (n z t img there g lies few i hi x after small) t q) (λ s. e (slot_one (n z t img there g lies few i hi x after small) t (some_slots z) r q (omega arith) hq s))))
 
-    repaired_reads : (v : Verdict) → Repaired z.k ((n z t img there g lies few i hi x after small) - z.k) (len z t img there g lies few i hi x after small) v (stripe_seen (geometry z) img there t) stripe
+    repaired_reads : (v : Verdict) → Repaired z.k ((n z t img there g lies few i hi x after small) - z.k) (len z t img there g lies few i hi x after small) (Ok v) (stripe_seen (geometry z) img there t) stripe
         → (length stripe ≡ (n z t img there g lies few i hi x after small) * (len z t img there g lies few i hi x after small)) × (Reads z t img there g lies few i hi x after small) stripe ((M z t img there g lies few i hi x after small none stripe fits) ((any_code z).scrub t g)) × (changes v ≡ unsound ((any_code z).scrub t g))
-    repaired_reads v w = go ((any_code z).scrub t g) finds (subst (λ (v : Verdict). Repaired z.k z.m (len z t img there g lies few i hi x after small) v (laid_out z t g) stripe) finds (repaired_laid z t img there g lies none v stripe w))
+    repaired_reads v w = go ((any_code z).scrub t g) finds (subst (λ (v : Verdict). Repaired z.k z.m (len z t img there g lies few i hi x after small) (Ok v) (laid_out z t g) stripe) finds (repaired_laid z t img there g lies none v stripe w))
       where
         finds : v ≡ verdict_of ((any_code z).scrub t g)
         finds = mend_finds z t img there g lies none v stripe w
 
-        go : (f : Finding) → v ≡ verdict_of f → Repaired z.k z.m (len z t img there g lies few i hi x after small) (verdict_of f) (laid_out z t g) stripe → (length stripe ≡ (n z t img there g lies few i hi x after small) * (len z t img there g lies few i hi x after small)) × (Reads z t img there g lies few i hi x after small) stripe ((M z t img there g lies few i hi x after small none stripe fits) f) × (changes v ≡ unsound f)
+        go : (f : Finding) → v ≡ verdict_of f → Repaired z.k z.m (len z t img there g lies few i hi x after small) (Ok (verdict_of f)) (laid_out z t g) stripe → (length stripe ≡ (n z t img there g lies few i hi x after small) * (len z t img there g lies few i hi x after small)) × (Reads z t img there g lies few i hi x after small) stripe ((M z t img there g lies few i hi x after small none stripe fits) f) × (changes v ≡ unsound f)
         go all_sound e y = let a = as_laid y.mends in (a.0, a.1, ap changes e)
         go (accused q) e y =
             let whole : length stripe ≡ (n z t img there g lies few i hi x after small) * (len z t img there g lies few i hi x after small) = y.mends.0 ∙ laid_length z t g in

@@ -1,7 +1,7 @@
 -- The same in the words of the protocol's program. Its label says which strips are believed: `there` has the slots of these. What is shown
 -- of a block is what the program reads (from the work area, where a write is on its way to its strips), what is filled in is what it
 -- rebuilds, what is prepared for a write is what it writes, and a scrub finds what it finds. Assumes nothing.
-use Rattle.std.specs.Prelude.{◌≡◌, ◌&&◌, eqb, ltb}
+use Rattle.std.specs.Prelude.{◌≡◌, ◌&&◌, eqb, ltb, Ok}
 use Rattle.std.proofs.Math.Path.{refl, ap, fun_ext}
 use Rattle.std.proofs.Common.{sym, ap₂, ◌∙◌, arith, lit<}
 use Rattle.std.proofs.Math.Bool.{Bool, true, false, cond, not}
@@ -90,7 +90,7 @@ module _ (z : Shelf) (Q : Label) (t there : ℕ) (img : List ℕ) (f : Image Sec
       ∙ ap (λ (b : Blocks Sector). strip_bytes (λ j. (any_code z).shard t b d (first + j)) count) (same_bad (g z Q t there img f holds lies))
 
   -- SCRUB, of a stripe that is believed throughout
-  pub scrub_found : none_lost (n z Q t there img f holds lies) t there ≡ true → (v : Verdict) → Says z.k ((n z Q t there img f holds lies) - z.k) (shard_bytes z) (row_seen (geometry z) img there 0 [] t 0 z.c) v
+  pub scrub_found : none_lost (n z Q t there img f holds lies) t there ≡ true → (v : Verdict) → Says z.k ((n z Q t there img f holds lies) - z.k) (shard_bytes z) (row_seen (geometry z) img there 0 [] t 0 z.c) (Ok v)
       → v ≡ verdict_of ((any_code z).scrub t (strips_of (size z) (no_sets (n z Q t there img f holds lies)) (records z) (any_code z) f t))
   scrub_found none v w =
       scrub_is z t img there (g z Q t there img f holds lies) lies 0 [] (g z Q t there img f holds lies) plain none v w ∙ ap (λ (y : ℕ → ℕ → Sector). verdict_of ((any_code z).scrub t y)) (none_over (g z Q t there img f holds lies) (g z Q t there img f holds lies))
@@ -146,7 +146,7 @@ module _ (z : Shelf) (o : Own) (t there : ℕ) (img : List ℕ) (f : Image Secto
 -- REPAIR of a stripe that is believed throughout: where a shard is accused, the program accuses its slot, and what is written there is the program's
 pub repair_mended : (z : Shelf) (t there : ℕ) (img : List ℕ) (f : Image Sector)
     → Lying z t img there (strips_of (size z) (no_sets (slots z)) (records z) (any_code z) f t) → none_lost (slots z) t there ≡ true → (r : ℕ) (after : List ℕ) → AllBytes after
-    → Repaired z.k (slots z - z.k) (shard_bytes z) (verdict.Accused r) (stripe_seen (geometry z) img there t) after
+    → Repaired z.k (slots z - z.k) (shard_bytes z) (Ok (verdict.Accused r)) (stripe_seen (geometry z) img there t) after
     → let d = accused_slot (size z) (no_sets (slots z)) (records z) (any_code z) t ((any_code z).scrub t (strips_of (size z) (no_sets (slots z)) (records z) (any_code z) f t)) in
     (d ≡ slot_of (slots z) t r) × ((j : ℕ) → j < z.c → sector z.c after r j ≡ ((repair_of (size z) (no_sets (slots z)) (records z) (any_code z) f t d).new d j).bytes)
 unfolding repair_of

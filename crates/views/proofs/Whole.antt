@@ -1,7 +1,7 @@
 -- A whole stripe: what a scrub of it finds is what the protocol finds, a mended shard is the protocol's mended strip, and what is
 -- prepared for a write is the stripe that the protocol writes. Whatever the strips hold. That a slice of bytes holds bytes is asked of
 -- what a repair left, since its contract says it by the type of the slice alone. Assumes nothing.
-use Rattle.std.specs.Prelude.{◌≡◌, refl, Bool, List, [], ◌∷◌, length}
+use Rattle.std.specs.Prelude.{◌≡◌, refl, Bool, List, [], ◌∷◌, length, Ok}
 use Rattle.std.proofs.Math.Path.{sym, ap, ap₂}
 use Rattle.std.proofs.Common.{◌∙◌, subst}
 use Rattle.std.proofs.Math.Bool.{true, false, not}
@@ -88,12 +88,12 @@ module _ (z : Shelf) (t there : ℕ) where
 module _ (z : Shelf) (t : ℕ) (img : List ℕ) (there : ℕ) (g : ℕ → ℕ → Sector) (lies : Lying z t img there g) where
   -- THE VERDICT on a stripe as it is seen is what the protocol's code finds in it
   pub scrub_is : (over : ℕ) (kept : List ℕ) (h : ℕ → ℕ → Sector) → Keeping z t kept over h → none_lost (slots z) t there ≡ true
-      → (v : Verdict) → Says z.k (slots z - z.k) (shard_bytes z) (row_seen (geometry z) img there over kept t 0 z.c) v
+      → (v : Verdict) → Says z.k (slots z - z.k) (shard_bytes z) (row_seen (geometry z) img there over kept t 0 z.c) (Ok v)
       → v ≡ verdict_of ((any_code z).scrub t (laid_over over h g))
   scrub_is over kept h keeps none v w =
       scrubbed z t (laid_over over h g) v
-      (subst (λ (s : List ℕ). Says z.k z.m (shard_bytes z) s v) (row_laid z t img there over kept g h lies keeps (there_all z t there (sym (none_lost_lem z t there) ∙ none)))
-      (subst (λ (m : ℕ). Says z.k m (shard_bytes z) (row_seen (geometry z) img there over kept t 0 z.c) v) (parity_many z t img there g lies) w))
+      (subst (λ (s : List ℕ). Says z.k z.m (shard_bytes z) s (Ok v)) (row_laid z t img there over kept g h lies keeps (there_all z t there (sym (none_lost_lem z t there) ∙ none)))
+      (subst (λ (m : ℕ). Says z.k m (shard_bytes z) (row_seen (geometry z) img there over kept t 0 z.c) (Ok v)) (parity_many z t img there g lies) w))
 
   -- the stripe as it lies on the disks
   pub stripe_laid : none_lost (slots z) t there ≡ true → stripe_seen (geometry z) img there t ≡ laid_out z t g
@@ -102,11 +102,11 @@ module _ (z : Shelf) (t : ℕ) (img : List ℕ) (there : ℕ) (g : ℕ → ℕ �
       ∙ ap (laid_out z t) (none_over g g)
 
   module _ (none : none_lost (slots z) t there ≡ true) (v : Verdict) (after : List ℕ)
-      (w : Repaired z.k (slots z - z.k) (shard_bytes z) v (stripe_seen (geometry z) img there t) after) where
-    pub repaired_laid : Repaired z.k z.m (shard_bytes z) v (laid_out z t g) after
+      (w : Repaired z.k (slots z - z.k) (shard_bytes z) (Ok v) (stripe_seen (geometry z) img there t) after) where
+    pub repaired_laid : Repaired z.k z.m (shard_bytes z) (Ok v) (laid_out z t g) after
     repaired_laid =
-        subst (λ (s : List ℕ). Repaired z.k z.m (shard_bytes z) v s after) (stripe_laid none)
-        (subst (λ (m : ℕ). Repaired z.k m (shard_bytes z) v (stripe_seen (geometry z) img there t) after) (parity_many z t img there g lies) w)
+        subst (λ (s : List ℕ). Repaired z.k z.m (shard_bytes z) (Ok v) s after) (stripe_laid none)
+        (subst (λ (m : ℕ). Repaired z.k m (shard_bytes z) (Ok v) (stripe_seen (geometry z) img there t) after) (parity_many z t img there g lies) w)
 
     -- what a mend answers is what the protocol finds
     pub mend_finds : v ≡ verdict_of ((any_code z).scrub t g)
@@ -114,7 +114,7 @@ module _ (z : Shelf) (t : ℕ) (img : List ℕ) (there : ℕ) (g : ℕ → ℕ �
 
   -- A MENDED SHARD, with the verdict that accuses it: the protocol accuses it too, and its sectors are those of the protocol's mended strip
   pub mended_is : none_lost (slots z) t there ≡ true → (r : ℕ) (after : List ℕ) → AllBytes after
-      → Repaired z.k (slots z - z.k) (shard_bytes z) (verdict.Accused r) (stripe_seen (geometry z) img there t) after
+      → Repaired z.k (slots z - z.k) (shard_bytes z) (Ok (verdict.Accused r)) (stripe_seen (geometry z) img there t) after
       → ((any_code z).scrub t g ≡ accused r) × (r < slots z) × ((j : ℕ) → j < z.c → sector z.c after r j ≡ ((any_code z).mended t g (slot_of (slots z) t r) j).bytes)
   mended_is none r after b w =
       let y = repaired_laid none (verdict.Accused r) after w in

@@ -1,28 +1,15 @@
-use mathlib.Core.Path.{refl, subst}
+use mathlib.Core.Path.{subst}
+use Rattle.std.specs.Prelude.{Ok}
+use Rattle.code.specs.declared.Verdict.{Verdict}
 use Rattle.code.specs.Stripes.{Says}
 use Rattle.code.specs.Lists.{shaped_means}
 use Rattle.code.proofs.repair.Goals as goal
 
-pub mend-requires : goal.mend-requires
-mend-requires c = let a = c.args in
-    let f = subst (Says a.k a.m a.len a.stripe.now) c.in-Accused.is c.scrub.ensures in
-    (shaped_means a.k a.m a.len _ f.0, f.3)
+pub invariant_of-mend : goal.invariant_of-mend
+invariant_of-mend c = let a = c.args in
+    let shape = shaped_means a.k a.m a.len _ (subst (λ (v : Verdict). Says a.k a.m a.len a.stripe.now (Ok v)) c.in-Accused.is c.in_ok-found.ensures).0 in
+    record { in_range = shape.range; len_least = shape.len_least; len_most_lem = shape.len_most_lem }
 
-pub returns-in-Accused : goal.returns-in-Accused
-returns-in-Accused c = let a = c.args in
-    record {
-      says = subst (Says a.k a.m a.len a.stripe.now) c.in-Accused.is c.scrub.ensures;
-      mends = c.mend.ensures;
-    }
-
-pub returns-in-Sound : goal.returns-in-Sound
-returns-in-Sound c = let a = c.args in
-    record { says = subst (Says a.k a.m a.len a.stripe.now) c.in-Sound.is c.scrub.ensures; mends = refl }
-
-pub returns-in-Unsound : goal.returns-in-Unsound
-returns-in-Unsound c = let a = c.args in
-    record { says = subst (Says a.k a.m a.len a.stripe.now) c.in-Unsound.is c.scrub.ensures; mends = refl }
-
-pub returns-in-Refused : goal.returns-in-Refused
-returns-in-Refused c = let a = c.args in
-    record { says = subst (Says a.k a.m a.len a.stripe.now) c.in-Refused.is c.scrub.ensures; mends = refl }
+pub mend-requires-clause-stripe_len : goal.mend-requires-clause-stripe_len
+mend-requires-clause-stripe_len c = let a = c.args in
+    (shaped_means a.k a.m a.len _ (subst (λ (v : Verdict). Says a.k a.m a.len a.stripe.now (Ok v)) c.in-Accused.is c.in_ok-found.ensures).0).whole

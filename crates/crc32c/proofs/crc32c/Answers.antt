@@ -6,9 +6,9 @@ use Rattle.crc32c.specs.Crc.{all_ones, step, steps, crc_of}
 use Rattle.crc32c.proofs.Rows.{known, doubles, added, sums, powers, right, table_right}
 use Rattle.crc32c.proofs.crc32c.Goals as goal
 
-pub register-requires : goal.register-requires
+pub invariant_of-steps : goal.invariant_of-steps
 unfolding step steps known doubles added sums powers right
-register-requires c = table_right _ tt
+invariant_of-steps c = record { filled = table_right _ tt }
 
 pub returns : goal.returns
 unfolding crc_of

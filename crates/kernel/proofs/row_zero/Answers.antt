@@ -1,26 +1,43 @@
-use mathlib.Core.Path.{◌≡◌, refl, sym, ◌∙◌, subst}
-use mathlib.Core.Bool.{Bool, true, false}
-use lib.ListN.{length}
-use Rattle.kernel.specs.Kernel.{fits_of, Tests}
+use Rattle.std.proofs.Common.{◌+◌, Bool, sym, ◌∙◌, subst, length, slice_range, arith}
+use Rattle.kernel.specs.Kernel.{Tests}
 use Rattle.kernel.specs.Fits.{fits_shards, fits_row}
+use Rattle.kernel.specs.KernelTurns.{row_get, part_length, shards_row, row_zero_row}
 use Rattle.kernel.proofs.row_zero.Goals as goal
 
-pub returns-then-not-fits : goal.returns-then-not-fits
-returns-then-not-fits c = let a = c.args in
-    let f = c.fits in
-    subst (λ (b : Bool). Tests b false a.n a.len a.stripe.now a.table.now a.at)
-    (sym (c.if-not-fits.true) ∙ f.ensures) refl
+pub overflow_add-row : goal.overflow_add-row
+overflow_add-row c = let a = c.args in
+    let e = sym c.fits.ensures ∙ c.if-not-fits.false in
+    record { fits = omega (arith, fits_row a.n a.len (length a.stripe.now) a.at (length a.table.now) e) }
 
-pub row_zero_fitting-requires : goal.row_zero_fitting-requires
-row_zero_fitting-requires c =
-    let yes : (let a = c.args in
-    fits_of a.n a.len (length a.stripe.now) a.at (length a.table.now) ≡ true) = let f = c.fits in sym f.ensures ∙ c.if-not-fits.false in
-    let e = yes in (fits_shards _ _ _ _ _ e, fits_row _ _ _ _ _ e)
+pub slice_bounds-row-end : goal.slice_bounds-row-end
+slice_bounds-row-end c = let a = c.args in
+    let e = sym c.fits.ensures ∙ c.if-not-fits.false in
+    fits_row a.n a.len (length a.stripe.now) a.at (length a.table.now) e
 
-pub returns : goal.returns
-returns c =
-    let yes : (let a = c.args in
-    fits_of a.n a.len (length a.stripe.now) a.at (length a.table.now) ≡ true) = let f = c.fits in sym f.ensures ∙ c.if-not-fits.false in
-    let a = c.args in
-    let f = c.row_zero_fitting in
-    subst (λ (b : Bool). Tests b f.result a.n a.len a.stripe.now a.table.now a.at) (sym (yes)) f.ensures
+pub invariant_of-shards : goal.invariant_of-shards
+invariant_of-shards c = let a = c.args in
+    let e = sym c.fits.ensures ∙ c.if-not-fits.false in
+    let q = part_length a.table.now a.at a.n (fits_row _ _ _ _ _ e) in
+    let s = shards_row (slice_range a.table.now a.at (a.at + a.n)) a.n a.len _ q (fits_shards _ _ _ _ _ e) in
+    record { few = s.few; short = s.short; fits = s.fits; bytes = λ i. omega (arith, c.type_inv.stripe i) }
+
+pub invariant_of-shards-else-len-lt-COLUMNS : goal.invariant_of-shards-else-len-lt-COLUMNS
+invariant_of-shards-else-len-lt-COLUMNS c = let a = c.args in
+    let e = sym c.fits.ensures ∙ c.if-not-fits.false in
+    let q = part_length a.table.now a.at a.n (fits_row _ _ _ _ _ e) in
+    let s = shards_row (slice_range a.table.now a.at (a.at + a.n)) a.n a.len _ q (fits_shards _ _ _ _ _ e) in
+    record { few = s.few; short = s.short; fits = s.fits; bytes = λ i. omega (arith, c.type_inv.stripe i) }
+
+pub returns-then-len-lt-COLUMNS : goal.returns-then-len-lt-COLUMNS
+returns-then-len-lt-COLUMNS c = let a = c.args in
+    let e = sym c.fits.ensures ∙ c.if-not-fits.false in
+    let q = part_length a.table.now a.at a.n (fits_row _ _ _ _ _ e) in
+    subst (λ (b : Bool). Tests b c.row_zero_bytes.result a.n a.len a.stripe.now a.table.now a.at) (sym e)
+    (row_zero_row a.n a.len a.table.now _ a.at q (row_get a.table.now a.at a.n) _ _ c.row_zero_bytes.ensures)
+
+pub returns-else-len-lt-COLUMNS : goal.returns-else-len-lt-COLUMNS
+returns-else-len-lt-COLUMNS c = let a = c.args in
+    let e = sym c.fits.ensures ∙ c.if-not-fits.false in
+    let q = part_length a.table.now a.at a.n (fits_row _ _ _ _ _ e) in
+    subst (λ (b : Bool). Tests b c.row_zero_blocks.result a.n a.len a.stripe.now a.table.now a.at) (sym e)
+    (row_zero_row a.n a.len a.table.now _ a.at q (row_get a.table.now a.at a.n) _ _ c.row_zero_blocks.ensures)

@@ -6,4 +6,4 @@ use Rattle.memory.proofs.read.Goals as goal
 
 pub returns : goal.returns
 unfolding state_at
-returns c = c.state_of.ensures ∙ ap state_of c.numbers_at-a.ensures
+returns c = c.state_of.ensures ∙ ap state_of c.numbers_at.ensures

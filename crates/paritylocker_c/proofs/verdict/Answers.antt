@@ -1,4 +1,4 @@
-use mathlib.Core.Path.{subst, ap, sym, ◌∙◌}
+use mathlib.Core.Path.{subst, ap, sym}
 use native.Mathlib.Omega.{arith}
 use Rattle.paritylocker_c.specs.Answers.{Small, number_of_verdict}
 use Rattle.paritylocker_c.proofs.verdict.Goals as goal
@@ -17,6 +17,3 @@ returns-in-Accused c = ap number_of_verdict (sym c.in-Accused.is)
 
 pub returns-in-Unsound : goal.returns-in-Unsound
 returns-in-Unsound c = ap number_of_verdict (sym c.in-Unsound.is)
-
-pub returns-in-Refused : goal.returns-in-Refused
-returns-in-Refused c = c.number.ensures ∙ ap number_of_verdict (sym c.in-Refused.is)

@@ -1,6 +1,5 @@
 -- By the leader's tail.
-use mathlib.Core.Bool.{true}
-use mathlib.Core.Path.{◌≡◌, sym, ap, ◌∙◌}
+use mathlib.Core.Path.{sym, ap, ◌∙◌}
 use lib.Dec.{eqb}
 use lib.ListN.{length}
 use Rattle.disk.specs.Tests.{and_left}
@@ -14,39 +13,22 @@ pub returns-then-not-fits_image : goal.returns-then-not-fits_image
 unfolding redo_of
 returns-then-not-fits_image c = rw (sym c.fits_image.ensures ∙ c.if-not-fits_image.true)
 
-pub leader-requires : goal.leader-requires
+pub invariant_of-logs : goal.invariant_of-logs
 unfolding fits_image
-leader-requires c =
-    let fits : (let a = c.args in fits_image a.g (length a.image.now) ≡ true) = sym c.fits_image.ensures ∙ c.if-not-fits_image.false in
-    let range : (in_range c.args.g ≡ true) = let a = c.args in and_left (in_range a.g) (eqb (length a.image.now) (image_bytes a.g)) (fits) in
-    range
-
-pub find_tail-found-requires : goal.find_tail-found-requires
-unfolding fits_image
-find_tail-found-requires c =
-    let fits : (let a = c.args in fits_image a.g (length a.image.now) ≡ true) = sym c.fits_image.ensures ∙ c.if-not-fits_image.false in
-    let range : (in_range c.args.g ≡ true) = let a = c.args in and_left (in_range a.g) (eqb (length a.image.now) (image_bytes a.g)) (fits) in
-    range
-
-pub settle-requires : goal.settle-requires
-unfolding fits_image
-settle-requires c =
-    let fits : (let a = c.args in fits_image a.g (length a.image.now) ≡ true) = sym c.fits_image.ensures ∙ c.if-not-fits_image.false in
-    let range : (in_range c.args.g ≡ true) = let a = c.args in and_left (in_range a.g) (eqb (length a.image.now) (image_bytes a.g)) (fits) in
-    range
-
-pub returns-in-Record : goal.returns-in-Record
-unfolding redo_of
-returns-in-Record c =
-    let fits : (let a = c.args in fits_image a.g (length a.image.now) ≡ true) = sym c.fits_image.ensures ∙ c.if-not-fits_image.false in
+invariant_of-logs c =
     let a = c.args in
-    let e = sym (c.find_tail-found.ensures ∙ ap (tail_found a.g a.image.now a.l) c.leader.ensures) ∙ c.in-Record.is in
-    rw (fits) (c.settle.ensures ∙ sym (decided_some a.g a.image.now a.l (lead_of a.g a.image.now a.l) _ e))
+    record { in_range = and_left (in_range a.g) (eqb (length a.image.now) (image_bytes a.g)) (sym c.fits_image.ensures ∙ c.if-not-fits_image.false) }
 
-pub returns-in-Nothing : goal.returns-in-Nothing
+pub returns-in_default : goal.returns-in_default
 unfolding redo_of
-returns-in-Nothing c =
-    let fits : (let a = c.args in fits_image a.g (length a.image.now) ≡ true) = sym c.fits_image.ensures ∙ c.if-not-fits_image.false in
+returns-in_default c =
     let a = c.args in
-    let e = sym (c.find_tail-found.ensures ∙ ap (tail_found a.g a.image.now a.l) c.leader.ensures) ∙ c.in-Nothing.is in
-    rw (fits) (sym (decided_none a.g a.image.now a.l (lead_of a.g a.image.now a.l) e))
+    let none = sym (c.find_tail.ensures ∙ ap (tail_found a.g a.image.now a.l) c.leader.ensures) ∙ c.in_default.is in
+    rw (sym c.fits_image.ensures ∙ c.if-not-fits_image.false) (sym (decided_none a.g a.image.now a.l (lead_of a.g a.image.now a.l) none))
+
+pub returns : goal.returns
+unfolding redo_of
+returns c =
+    let a = c.args in
+    let some = sym (c.find_tail.ensures ∙ ap (tail_found a.g a.image.now a.l) c.leader.ensures) ∙ c.in-Some.is in
+    rw (sym c.fits_image.ensures ∙ c.if-not-fits_image.false) (c.settle.ensures ∙ sym (decided_some a.g a.image.now a.l (lead_of a.g a.image.now a.l) c.in-Some.tail some))

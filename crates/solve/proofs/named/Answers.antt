@@ -1,18 +1,16 @@
-use mathlib.Core.Path.{refl, sym, ◌∙◌}
 use borrow.Author.Rules.{rules}
-use Rattle.solve.specs.Lists.{has_here, has_on, has_end}
+use borrow.Author.Tests.{tests}
+use mathlib.Core.Path.{◌∙◌}
+use lib.Dec.{eqb}
+use lib.ListN.{drop}
+use Rattle.std.proofs.lemmas.Iterator.{YieldsList-from_slice}
+use Rattle.std.proofs.lemmas.Iterator.Search.{any_from_yields_List}
+use Rattle.std.proofs.lemmas.Iterator.Adapters.{YieldsList-from_skip}
+use Rattle.solve.specs.Lists.{has_any}
 use Rattle.solve.proofs.named.Goals as goal
 
-pub loop-i-init : goal.loop-i-init
-loop-i-init c = refl
-
-pub returns-then-list-i : goal.returns-then-list-i
-returns-then-list-i c = let l = c.loop-i in
-    sym (has_here _ l.i _ (search rules) c.if-list-i.true) ∙ l.invariant
-
-pub loop-i-preserved : goal.loop-i-preserved
-loop-i-preserved c = let l = c.loop-i in
-    has_on _ l.i _ (search rules) c.if-list-i.false ∙ l.invariant
-
 pub returns : goal.returns
-returns c = let l = c.loop-i in sym (has_end _ l.i _ (search rules)) ∙ l.invariant
+returns c = let a = c.args in
+    any_from_yields_List (λ x. eqb x a.a) _ _ _ c.any.ensures.ran
+    (YieldsList-from_skip a.from (YieldsList-from_slice a.list.now cc) cc) (λ x b q k. search (rules, tests))
+    ∙ has_any (drop a.from a.list.now) a.a

@@ -1,14 +1,12 @@
-use mathlib.Core.Path.{ap, sym, ◌∙◌}
+-- A byte that is not 0 divides.
+use mathlib.Core.Path.{ap, ◌∙◌}
 use native.Mathlib.Omega.{arith}
 use Rattle.field.specs.Field.{mul_of}
-use Rattle.solve.specs.SolveTurns.{value_of, value_times}
-use Rattle.field.specs.declared.Quotient.{Quotient}
+use Rattle.field.specs.Quotient.{Quotient}
+use Rattle.std.specs.Result.{result_unwrap_or}
+use Rattle.solve.specs.SolveTurns.{quotient_value}
 use Rattle.solve.proofs.quotient.Goals as goal
 
-pub returns-in-Value : goal.returns-in-Value
-returns-in-Value c = ap (λ (q : Quotient). mul_of c.args.b (value_of q)) (sym c.in-Value.is ∙ c.div-q.ensures)
-    ∙ value_times c.args.a c.args.b c.requires (omega arith) (omega arith)
-
-pub returns-in-Refused : goal.returns-in-Refused
-returns-in-Refused c = ap (λ (q : Quotient). mul_of c.args.b (value_of q)) (sym c.in-Refused.is ∙ c.div-q.ensures)
-    ∙ value_times c.args.a c.args.b c.requires (omega arith) (omega arith)
+pub returns : goal.returns
+returns c = let a = c.args in
+    ap (mul_of a.b) (c.unwrap_or.ensures ∙ ap (λ (q : Quotient). result_unwrap_or q 0) c.div.ensures) ∙ quotient_value a.a a.b c.requires (omega arith) (omega arith)

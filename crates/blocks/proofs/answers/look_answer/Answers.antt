@@ -1,5 +1,7 @@
 -- By the shelf, then by the image.
 use mathlib.Core.Path.{sym, ap, ◌∙◌}
+use native.Mathlib.Omega.{arith}
+use Rattle.requests.proofs.Answers.{few_slots}
 use Rattle.blocks.specs.Answers.{look_answer}
 use Rattle.requests.specs.Accepted.{has_fits}
 use Rattle.disk.specs.Image.{fits_image}
@@ -10,15 +12,12 @@ pub returns-then-not-has_shelf : goal.returns-then-not-has_shelf
 unfolding look_answer
 returns-then-not-has_shelf c = simp (sym c.has_shelf.ensures ∙ c.if-not-has_shelf.true)
 
-pub geometry-g-requires : goal.geometry-g-requires
-geometry-g-requires c = let a = c.args in has_fits a.l a.kind (sym c.has_shelf.ensures ∙ c.if-not-has_shelf.false)
-
 pub returns-then-not-fits_image : goal.returns-then-not-fits_image
 unfolding look_answer
 returns-then-not-fits_image c = let a = c.args in
-    simp (sym c.has_shelf.ensures ∙ c.if-not-has_shelf.false, ap (λ (g : Geometry). fits_image g a.len) (sym c.geometry-g.ensures) ∙ sym c.fits_image.ensures ∙ c.if-not-fits_image.true)
+    simp (sym c.has_shelf.ensures ∙ c.if-not-has_shelf.false, ap (λ (g : Geometry). fits_image g a.len) (sym (c.geometry-g.ensures (omega (arith, few_slots _ (has_fits c.args.l c.args.kind (sym c.has_shelf.ensures ∙ c.if-not-has_shelf.false)))))) ∙ sym c.fits_image.ensures ∙ c.if-not-fits_image.true)
 
 pub returns : goal.returns
 unfolding look_answer
 returns c = let a = c.args in
-    simp (sym c.has_shelf.ensures ∙ c.if-not-has_shelf.false, ap (λ (g : Geometry). fits_image g a.len) (sym c.geometry-g.ensures) ∙ sym c.fits_image.ensures ∙ c.if-not-fits_image.false)
+    simp (sym c.has_shelf.ensures ∙ c.if-not-has_shelf.false, ap (λ (g : Geometry). fits_image g a.len) (sym (c.geometry-g.ensures (omega (arith, few_slots _ (has_fits c.args.l c.args.kind (sym c.has_shelf.ensures ∙ c.if-not-has_shelf.false)))))) ∙ sym c.fits_image.ensures ∙ c.if-not-fits_image.false)

@@ -25,8 +25,8 @@ overflow_mul-half-2 c = omega (arith, half_small c.args.s.now _ c.requires.0 ref
 pub returns : goal.returns
 unfolding stripe_bytes
 returns c = let a = c.args in
-    begins_goes a.s a.t a.r a.stripe.now a.work.now c.begin_mend-first.result c.copy_from_slice.new.self
-    (sym c.is_sized.ensures ∙ c.if-not-is_sized.false) c.begin_mend-first.ensures
+    begins_goes a.s a.t a.r a.stripe.now a.work.now c.begin_mend.result c.copy_from_slice.new.self
+    (sym c.is_sized.ensures ∙ c.if-not-is_sized.false) c.begin_mend.ensures
     c.copy_from_slice.ensures.after
 
 pub slice_bounds-copy_from_slice-end : goal.slice_bounds-copy_from_slice-end

@@ -1,42 +1,10 @@
--- Each refusal is the first test that fails; after all three the sector lies within the image.
-use borrow.Author.Tests.{ne_eqb, eq-eqb}
-use mathlib.Core.Path.{◌≡◌, refl, sym, ◌∙◌}
-use mathlib.Core.Bool.{true}
+-- After all three tests the sector lies within the image.
+use mathlib.Core.Path.{sym, ◌∙◌}
 use native.Mathlib.Omega.{arith}
-use lib.ListN.{length}
-use Rattle.disk.specs.Image.{fits_image, on_shelf, put_answer, Shape, fits_image_lem, on_shelf_lem}
-use Rattle.disk.proofs.Image.{place_fits}
+use Rattle.disk.proofs.Image.{sector_fits}
 use Rattle.disk.proofs.sector.put.Goals as goal
 
-pub returns-then-not-fits_image : goal.returns-then-not-fits_image
-unfolding put_answer
-returns-then-not-fits_image c = (rw (sym c.fits_image.ensures ∙ c.if-not-fits_image.true), refl)
-
-pub returns-then-not-on_shelf : goal.returns-then-not-on_shelf
-unfolding put_answer
-returns-then-not-on_shelf c =
-    let fits : (let a = c.args in fits_image a.g (length a.image.now) ≡ true) = sym c.fits_image.ensures ∙ c.if-not-fits_image.false in
-    (rw (fits, sym c.on_shelf.ensures ∙ c.if-not-on_shelf.true), refl)
-
-pub returns-then-bytes-ne-SECTOR : goal.returns-then-bytes-ne-SECTOR
-unfolding put_answer
-returns-then-bytes-ne-SECTOR c =
-    let fits : (let a = c.args in fits_image a.g (length a.image.now) ≡ true) = sym c.fits_image.ensures ∙ c.if-not-fits_image.false in
-    let there : (let a = c.args in on_shelf a.g a.d a.s ≡ true) = sym c.on_shelf.ensures ∙ c.if-not-on_shelf.false in
-    (rw (fits, there, ne_eqb _ _ c.if-bytes-ne-SECTOR.true), refl)
-
 pub put_sector-requires : goal.put_sector-requires
-unfolding Shape
 put_sector-requires c =
-    let fits : (let a = c.args in fits_image a.g (length a.image.now) ≡ true) = sym c.fits_image.ensures ∙ c.if-not-fits_image.false in
-    let there : (let a = c.args in on_shelf a.g a.d a.s ≡ true) = sym c.on_shelf.ensures ∙ c.if-not-on_shelf.false in
     let a = c.args in
-    let h = on_shelf_lem a.g a.d a.s (there) in
-    (omega (arith, (fits_image_lem a.g a.image.now (fits)).1, place_fits a.g.n a.g.sectors a.d a.s h.0 h.1), omega arith)
-
-pub returns : goal.returns
-unfolding put_answer
-returns c =
-    let fits : (let a = c.args in fits_image a.g (length a.image.now) ≡ true) = sym c.fits_image.ensures ∙ c.if-not-fits_image.false in
-    let there : (let a = c.args in on_shelf a.g a.d a.s ≡ true) = sym c.on_shelf.ensures ∙ c.if-not-on_shelf.false in
-    (rw (fits, there, eq-eqb _ _ c.if-bytes-ne-SECTOR.false), c.put_sector.ensures)
+    (sector_fits a.g a.image.now a.d a.s (sym c.fits_image.ensures ∙ c.if-not-fits_image.false) (sym c.on_shelf.ensures ∙ c.if-not-on_shelf.false), omega arith)

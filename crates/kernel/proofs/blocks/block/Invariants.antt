@@ -1,12 +1,8 @@
-use Prim.Native.Nat.{◌≤◌, ◌-◌, ◌+◌}
-use mathlib.Core.Path.{◌≡◌}
-use lib.ListN.{length}
+use Rattle.std.proofs.Common.{◌+◌, length}
 use Rattle.codeword.specs.Stripe.{byte_at}
-use Rattle.kernel.specs.Steps.{columns, Are, made_by}
+use Rattle.kernel.specs.Steps.{Are, made_by}
 use Rattle.kernel.proofs.blocks.block.Given as goal
 
-abbrev pub invariant-loop-i : goal.invariant-loop-i
-invariant-loop-i l = (l.i ≤ l.m) × (length l.y ≡ columns) × Are l.y (λ j. made_by l.n l.steps (byte_at l.len l.stripe (l.p + j)) l.i)
-
-abbrev pub decreases-loop-i : goal.decreases-loop-i
-decreases-loop-i l = l.m - l.i
+abbrev pub invariant-loop-s : goal.invariant-loop-s
+invariant-loop-s l = let s = l.shards in
+    Are l.y (λ j. made_by (length s.row.now) l.steps.list (byte_at s.len s.stripe.now (l.p + j)) l.s-index)

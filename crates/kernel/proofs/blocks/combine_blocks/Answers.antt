@@ -1,76 +1,33 @@
-use Prim.Native.Nat.{ℕ, ◌*◌}
-use mathlib.Core.Path.{sym}
-use native.Mathlib.Omega.{arith}
-use borrow.Author.Rules.{rules}
-use lib.ListN.{get_or}
+use Rattle.std.proofs.Common.{◌≡◌, List, ℕ, ◌+◌, ◌-◌, ◌*◌, ◌≤◌, ap, subst, min, length, get_or, arith}
+use borrow.Rule.Slice.PartMut.{put_mid}
 use Rattle.field.specs.Field.{mul_of}
 use Rattle.codeword.specs.Sum.{total}
 use Rattle.codeword.specs.Stripe.{byte_at}
 use Rattle.kernel.specs.Kernel.{weight}
-use Rattle.kernel.specs.KernelTurns.{shard_le}
-use Rattle.kernel.specs.StepsTurns.{filled_none, filled_turn, filled_done, block_is}
+use Rattle.kernel.specs.Steps.{columns}
+use Rattle.kernel.specs.KernelTurns.{replaced_part, part_length, shard_le}
+use Rattle.kernel.specs.StepsTurns.{Filled, filled_turn, block_is}
 use Rattle.kernel.proofs.blocks.combine_blocks.Goals as goal
 
-pub loop-p-init : goal.loop-p-init
-loop-p-init c = let a = c.args in (
-  omega arith,
-  λ i. omega (arith, c.type_inv.buf i),
-  filled_none (a.a * a.len) a.len (λ q. total a.n (λ r. mul_of (weight a.table.now a.at a.a r) (byte_at a.len a.buf.now q r))) a.buf.now,
-)
-
-pub slice_bounds-block-end : goal.slice_bounds-block-end
-slice_bounds-block-end c = sym c.plan-m.auto.steps
-
-pub block-y-requires : goal.block-y-requires
-block-y-requires c = let l = c.loop-p in (
-  record {
-    few = c.requires.0.few;
-    short = c.requires.0.short;
-    fits = omega (arith, c.requires.0.fits, l.invariant.2.same);
-  },
-  c.block_start-q.ensures.fits,
-  omega (arith, c.plan-m.auto.steps, c.plan-m.ensures.0),
-)
-
-pub overflow_mul-a : goal.overflow_mul-a
-overflow_mul-a c = let a = c.args in
-    omega (arith, c.requires.0.fits, shard_le a.a a.n a.len c.requires.1)
-
-pub overflow_add-a : goal.overflow_add-a
-overflow_add-a c = let a = c.args in
-    omega (arith, c.requires.0.fits, c.block_start-q.ensures.fits, shard_le a.a a.n a.len c.requires.1)
-
-pub put_block-requires : goal.put_block-requires
-put_block-requires c = let a = c.args in
-    omega (arith, c.requires.0.fits, c.block_start-q.ensures.fits, c.loop-p.invariant.2.same, shard_le a.a a.n a.len c.requires.1)
-
-pub overflow_add-p : goal.overflow_add-p
-overflow_add-p c = omega (arith, c.block_start-q.ensures.fits)
-
-pub loop-p-smaller : goal.loop-p-smaller
-loop-p-smaller c = omega (arith, c.block_start-q.ensures.fits, c.block_start-q.ensures.has)
-
-pub loop-p-preserved : goal.loop-p-preserved
-loop-p-preserved c = let a = c.args in
-    let l = c.loop-p in
-    let pl = c.plan-m in
-    let st = c.block_start-q in
-    let bl = c.block-y in
-    let pu = c.put_block in
-    let f : ℕ → ℕ = λ q. total a.n (λ r. mul_of (weight a.table.now a.at a.a r) (byte_at a.len a.buf.now q r)) in (
-      st.ensures.fits,
+pub loop-i-preserved : goal.loop-i-preserved
+loop-i-preserved c = let a = c.args in
+    let l = c.loop-i in
+    let n = length a.row.now in
+    let st = c.plan in
+    let q = c.block_start-p.result in
+    let y = c.block-y.result in
+    let f : ℕ → ℕ = λ q. total n (λ r. mul_of (weight a.row.now 0 a.a r) (byte_at a.len a.buf.now q r)) in
+    let at = a.a * a.len + q in
+    let hi : q + columns ≤ a.len = omega (arith, c.block_start-p.ensures, c.requires.2) in
+    let fit : at + 64 ≤ length l.buf = omega (arith, c.requires.0.fits, hi, l.auto.buf, shard_le a.a n a.len c.requires.1) in
+    let next : q + columns ≡ min ((l.i + 1) * columns) a.len = omega (arith, c.block_start-p.ensures, c.requires.2) in
+    let e : List ℕ = put_mid at (at + 64 - at) l.buf c.copy_from_slice.new.self in
+    let r = replaced_part at (at + 64 - at) 64 (λ j. get_or y j 0) l.buf c.copy_from_slice.new.self (omega arith) (omega (arith, c.copy_from_slice.ensures.len, part_length l.buf at 64 fit)) fit
+    (λ i h. ap (λ (z : List ℕ). get_or z i 0) c.copy_from_slice.ensures.after) in (
       λ i. omega (arith, c.type_inv.buf i),
-      filled_turn (a.a * a.len) a.len f a.buf.now l.p st.result (λ j. get_or bl.result j 0) l.buf pu.new.buf
-          st.ensures.low st.ensures.fits pu.ensures
-          (block_is a.n a.len a.a st.result pl.result l.p a.table.now a.at pl.new.steps bl.result f a.buf.now l.buf
-          l.invariant.1 st.ensures.fits pl.ensures.1 l.invariant.2 bl.ensures) l.invariant.2,
+      subst (λ (p : ℕ). Filled (a.a * a.len) p a.len f a.buf.now e) next
+          (filled_turn (a.a * a.len) a.len f a.buf.now (min (l.i * columns) a.len) q (λ j. get_or y j 0) l.buf e
+          (omega (arith, c.block_start-p.ensures)) hi r
+          (block_is n a.len a.a q st.new.self.len (min (l.i * columns) a.len) a.row.now 0 st.new.self.list y f a.buf.now l.buf
+          l.invariant.0 hi st.ensures l.invariant.1 c.block-y.ensures) l.invariant.1),
     )
-
-pub shape_of-buf : goal.shape_of-buf
-shape_of-buf c = c.loop-p.invariant.2.same
-
-pub returns : goal.returns
-returns c = let a = c.args in
-    let l = c.loop-p in
-    filled_done (a.a * a.len) a.len (λ q. total a.n (λ r. mul_of (weight a.table.now a.at a.a r) (byte_at a.len a.buf.now q r)))
-    a.buf.now l.p l.buf (search rules) l.invariant.2

@@ -1,53 +1,38 @@
-use Prim.Native.Nat.{ℕ}
-use mathlib.Core.Path.{◌≡◌, refl, sym, subst, ◌∙◌}
-use native.Mathlib.Omega.{arith}
+use Rattle.std.proofs.Common.{◌≡◌, List, ℕ, ◌+◌, ◌*◌, ◌≤◌, ◌∙◌, sym, ap, subst, length, get_or, arith}
+use Rattle.std.proofs.Math.ListN.{get_or-replicate}
 use Rattle.kernel.specs.Kernel.{Combined}
-use Rattle.kernel.specs.KernelTurns.{shard_le, weight_own, combined_none, combined_turn}
+use Rattle.kernel.specs.KernelTurns.{replaced_part, part_length, shard_le, shard_parts, weight_own, added_zero, combined_none, combined_turn}
+use Rattle.kernel.proofs.bytes.combine_bytes.Goals.{then-w-ne0, else-w-ne0}
 use Rattle.kernel.proofs.bytes.combine_bytes.Goals as goal
 
-pub overflow_mul-a : goal.overflow_mul-a
-overflow_mul-a c = let a = c.args in
-    omega (arith, c.requires.0.fits, shard_le a.a a.n a.len c.requires.1)
-
-pub clear-requires : goal.clear-requires
-clear-requires c = let a = c.args in
-    omega (arith, c.requires.0.fits, shard_le a.a a.n a.len c.requires.1)
-
 pub loop-r-init : goal.loop-r-init
-loop-r-init c = let a = c.args in
-    (omega arith, refl, λ b z. combined_none a.len a.a a.table.now a.at b _ z)
+loop-r-init c = let a = c.args in λ b z. combined_none a.len a.a a.row.now 0 b _ z
 
-pub add_shard-requires : goal.add_shard-requires
-add_shard-requires c = let a = c.args in
+pub mul_add_within-requires : goal.mul_add_within-requires
+mul_add_within-requires c = let a = c.args in
     let l = c.loop-r in
-    let w = c.weight_of-w in (
-      record {
-        few = c.requires.0.few;
-        short = c.requires.0.short;
-        fits = omega (arith, c.requires.0.fits, l.invariant.1, c.clear.ensures.same);
-      },
-      c.requires.1,
-      omega arith,
-      λ nz e. nz (w.ensures ∙ weight_own a.table.now a.at a.a l.r (sym e)),
-    )
+    let n = length a.row.now in
+    let s = c.requires.0 in
+    shard_parts a.a l.r n a.len _ (record { few = s.few; short = s.short; fits = omega (arith, s.fits, l.auto.buf, c.fill.ensures.len) }) c.requires.1 c.loop-r-test.true
+    (λ e. c.if-w-ne0.true (c.weight_of-w.ensures ∙ weight_own a.row.now 0 a.a l.r (sym e)))
 
 pub loop-r-preserved : goal.loop-r-preserved
 loop-r-preserved c = let a = c.args in
     let l = c.loop-r in
     let w = c.weight_of-w in
-    let m = c.add_shard in (
-      omega arith,
-      m.ensures.same ∙ l.invariant.1,
-      λ b z. combined_turn l.r a.len a.a w.result a.table.now a.at b l.buf m.new.buf w.ensures m.ensures
-          (l.invariant.2 b z),
-    )
-
-pub shape_of-buf : goal.shape_of-buf
-shape_of-buf c = c.loop-r.invariant.1 ∙ c.clear.ensures.same
+    λ b z. elim c.if-w-ne0.branch [
+      | then-w-ne0 t ↦ combined_turn l.r a.len a.a w.result a.row.now 0 b l.buf _ w.ensures (rw t.buf-is t.mul_add_within.ensures) (l.invariant b z)
+      | else-w-ne0 t ↦
+          combined_turn l.r a.len a.a w.result a.row.now 0 b l.buf _ w.ensures
+          (rw t.buf-is (added_zero w.result (a.a * a.len) (l.r * a.len) a.len l.buf t.if-w-ne0.false)) (l.invariant b z)
+    ]
 
 pub returns : goal.returns
 returns c = let a = c.args in
     let l = c.loop-r in
-    let e : l.r ≡ a.n = omega arith in
-    subst (λ (k : ℕ). Combined k a.len a.a a.table.now a.at a.buf.now l.buf) e
-    (l.invariant.2 a.buf.now c.clear.ensures)
+    let e : l.r ≡ length a.row.now = omega arith in
+    let fit : a.a * a.len + a.len ≤ length a.buf.now = omega (arith, c.requires.0.fits, shard_le a.a (length a.row.now) a.len c.requires.1) in
+    let filled = c.fill.ensures.after (λ y q. q) in
+    let cleared = replaced_part (a.a * a.len) _ a.len (λ i. 0) a.buf.now c.fill.new.self (omega arith) (omega (arith, c.fill.ensures.len)) fit
+    (λ i h. ap (λ (y : List ℕ). get_or y i 0) filled ∙ get_or-replicate _ i 0 0 (omega (arith, h, part_length a.buf.now (a.a * a.len) a.len fit))) in
+    subst (λ (k : ℕ). Combined k a.len a.a a.row.now 0 a.buf.now l.buf) e (l.invariant a.buf.now cleared)

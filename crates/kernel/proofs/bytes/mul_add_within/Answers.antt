@@ -1,23 +1,17 @@
-use native.Mathlib.Omega.{arith}
-use borrow.Author.Rules.{rules}
+use Rattle.std.proofs.Common.{arith}
 use Rattle.kernel.specs.Kernel.{added}
 use Rattle.kernel.specs.KernelTurns.{replaced_none, replaced_done, added_turn}
 use Rattle.kernel.proofs.bytes.mul_add_within.Goals as goal
 
 pub loop-i-init : goal.loop-i-init
-loop-i-init c = let a = c.args in
-    (omega arith, replaced_none a.dst (added a.c a.dst a.src a.buf.now) a.buf.now)
+loop-i-init c = let a = c.args in replaced_none a.dst (added a.c a.dst a.src a.buf.now) a.buf.now
 
 pub loop-i-preserved : goal.loop-i-preserved
 loop-i-preserved c = let l = c.loop-i in
-    let m = c.multiples_of-t in
-    let a = c.args in (
-      omega arith,
-      added_turn a.c a.dst a.src a.len l.i c.times.result m.result a.buf.now l.buf c.requires
-          (omega arith) (search rules) m.ensures (omega (arith)) c.times.ensures l.invariant.1,
-    )
+    let a = c.args in
+    added_turn a.c a.dst a.src a.len l.i c.mul.result a.buf.now l.buf c.requires c.loop-i-test.true c.mul.ensures l.invariant
 
 pub returns : goal.returns
 returns c = let l = c.loop-i in
     let a = c.args in
-    replaced_done a.dst l.i a.len (added a.c a.dst a.src a.buf.now) a.buf.now l.buf (omega arith) l.invariant.1
+    replaced_done a.dst l.i a.len (added a.c a.dst a.src a.buf.now) a.buf.now l.buf (omega arith) l.invariant

@@ -1,9 +1,5 @@
-use Prim.Native.Nat.{◌≤◌, ◌-◌}
 use Rattle.kernel.specs.Kernel.{MulAdded}
 use Rattle.kernel.proofs.bytes.mul_add_within.Given as goal
 
 abbrev pub invariant-loop-i : goal.invariant-loop-i
-invariant-loop-i l = (l.i ≤ l.len) × MulAdded l.c l.dst l.src l.i l.initial.buf l.buf
-
-abbrev pub decreases-loop-i : goal.decreases-loop-i
-decreases-loop-i l = l.len - l.i
+invariant-loop-i l = MulAdded l.c l.dst l.src l.i l.initial.buf l.buf

@@ -1,16 +1,12 @@
-use mathlib.Core.Path.{sym, ◌∙◌}
-use native.Mathlib.Omega.{arith}
-use borrow.Author.Count.{below_more}
+use Rattle.std.proofs.Common.{rules, ◌≡◌, ◌≢◌, length, refl, arith}
+use borrow.Author.Tests.{tests}
+use Rattle.std.proofs.lemmas.Iterator.{cases_from_all, YieldsList-from_range}
+use Rattle.kernel.specs.Kernel.{row_at}
+use Rattle.kernel.specs.KernelTurns.{rows_all}
 use Rattle.kernel.proofs.bytes.row_zero_bytes.Goals as goal
 
-pub returns-then-row_at-ne0 : goal.returns-then-row_at-ne0
-returns-then-row_at-ne0 c = let l = c.loop-p in
-    (l.p, omega arith, λ e. c.if-row_at-ne0.true (c.row_at.ensures ∙ e))
-
-pub loop-p-preserved : goal.loop-p-preserved
-loop-p-preserved c = let l = c.loop-p in
-    (omega arith, below_more _ _ l.invariant.1 (sym c.row_at.ensures ∙ c.if-row_at-ne0.false))
-
 pub returns : goal.returns
-returns c = let l = c.loop-p in
-    λ p h. l.invariant.1 p (omega arith)
+returns c = let s = c.args.shards.now in
+    let n = length s.row.now in
+    rows_all c.all.result n s.len s.stripe.now s.row.now 0 (cases_from_all _ _ _ (λ p. row_at n s.len s.stripe.now s.row.now 0 p ≡ 0) (λ p. row_at n s.len s.stripe.now s.row.now 0 p ≢ 0)
+    c.all.ensures.ran (YieldsList-from_range 0 s.len s.len refl (omega arith)) (λ x q k. search (rules, tests)) (λ x q k. search (rules, tests)))

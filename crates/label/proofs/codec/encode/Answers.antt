@@ -1,20 +1,13 @@
 -- `label::codec::encode` meets its contract. The checksum of the first 508 bytes goes behind them, and the whole over the sector. Assumes nothing.
-use mathlib.Core.Path.{ap, refl, sym, ◌∙◌}
+use mathlib.Core.Path.{ap, sym, ◌∙◌}
 use native.Mathlib.Omega.{arith}
-use borrow.Author.Tests.{eq-eqb, ne_eqb}
+use borrow.Author.Rules.{rules}
+use borrow.Author.Tests.{tests}
 use lib.ListN.{length}
 use lib.Seq.{length-take-le}
 use Rattle.label.proofs.Build.{length_unsealed, copied}
 use Rattle.label.specs.Bytes.{encode_answer}
 use Rattle.label.proofs.codec.encode.Goals as goal
-
-pub returns-then-sector-ne-SECTOR : goal.returns-then-sector-ne-SECTOR
-unfolding encode_answer
-returns-then-sector-ne-SECTOR c = (simp (ne_eqb _ _ c.if-sector-ne-SECTOR.true), refl)
-
-pub returns-then-not-fits : goal.returns-then-not-fits
-unfolding encode_answer
-returns-then-not-fits c = (simp (eq-eqb _ _ c.if-sector-ne-SECTOR.false, sym c.fits.ensures ∙ c.if-not-fits.true), refl)
 
 pub slice_bounds-crc32c-end : goal.slice_bounds-crc32c-end
 slice_bounds-crc32c-end c = let u = c.unsealed_of-b in
@@ -23,7 +16,7 @@ slice_bounds-crc32c-end c = let u = c.unsealed_of-b in
 pub returns : goal.returns
 unfolding encode_answer
 returns c = let a = c.args in (
-  simp (eq-eqb _ _ c.if-sector-ne-SECTOR.false, sym c.fits.ensures ∙ c.if-not-fits.false),
+  search (rules, tests),
   c.copy_from_slice.ensures.after
-      ∙ copied a.l c.unsealed_of-b.result _ c.crc32c-checksum.result c.unsealed_of-b.ensures c.crc32c-checksum.ensures c.put_u32.ensures,
+      ∙ copied a.l c.unsealed_of-b.result _ c.crc32c-checksum.result c.unsealed_of-b.ensures c.crc32c-checksum.ensures (rw c.from.ensures at c.put_u32.ensures),
 )

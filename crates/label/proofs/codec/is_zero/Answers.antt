@@ -1,21 +1,12 @@
-use mathlib.Core.Path.{refl, sym, ◌∙◌}
-use native.Mathlib.Omega.{arith}
-use Rattle.label.proofs.Zeros.{zero_here, zero_on, zero_end}
+-- Each byte is tested, in its order.
+use borrow.Author.Rules.{rules}
+use borrow.Author.Tests.{tests}
+use mathlib.Core.Path.{◌∙◌}
+use lib.Dec.{eqb}
+use Rattle.std.proofs.lemmas.Iterator.{YieldsList-from_slice}
+use Rattle.std.proofs.lemmas.Iterator.Search.{all_from_yields_List}
+use Rattle.label.proofs.Zeros.{zeros_are}
 use Rattle.label.proofs.codec.is_zero.Goals as goal
 
-pub loop-i-init : goal.loop-i-init
-loop-i-init c = (omega arith, refl)
-
-pub returns-then-bytes-i-ne0 : goal.returns-then-bytes-i-ne0
-returns-then-bytes-i-ne0 c = let l = c.loop-i in
-    let b = c.args.bytes.now in
-    sym (zero_here b l.i (omega arith) c.if-bytes-i-ne0.true) ∙ l.invariant.1
-
-pub loop-i-preserved : goal.loop-i-preserved
-loop-i-preserved c = let l = c.loop-i in
-    let b = c.args.bytes.now in
-    (omega arith, sym (zero_on b l.i (omega arith) c.if-bytes-i-ne0.false) ∙ l.invariant.1)
-
 pub returns : goal.returns
-returns c = let l = c.loop-i in
-    sym (zero_end c.args.bytes.now l.i (omega arith)) ∙ l.invariant.1
+returns c = all_from_yields_List (λ x. eqb x 0) _ _ _ c.all.ensures.ran (YieldsList-from_slice c.args.bytes.now cc) (λ x b q k. search (rules, tests)) ∙ zeros_are c.args.bytes.now

@@ -1,26 +1,20 @@
-use mathlib.Core.Path.{◌≡◌, refl, sym, ap, ap₂, ◌∙◌}
+-- The newest of the first slot on, one slot more at a time.
+use borrow.Author.Rules.{rules}
+use mathlib.Core.Path.{◌≡◌, refl, sym, ap, ◌∙◌}
+use Prim.Native.Nat.{◌+◌}
 use native.Mathlib.Omega.{arith}
-use Rattle.label.specs.Newest.{newer, present_label, newest_of, shelf_label}
-use Rattle.label.proofs.Counts.{newest_turn}
+use Rattle.std.specs.Prelude.{None}
+use Rattle.std.proofs.lemmas.Iterator.{YieldsList-from_range}
+use Rattle.std.proofs.lemmas.Iterator.Consumers.{fold_from_yields_List}
+use Rattle.label.specs.Newest.{newer, newest_of, present_label, shelf_label}
+use Rattle.label.proofs.Counts.{newest_on}
 use Rattle.label.proofs.newest.shelf_label.Goals as goal
 
-pub returns-then-not-fits_image : goal.returns-then-not-fits_image
-unfolding shelf_label
-returns-then-not-fits_image c = simp (sym c.fits_image.ensures ∙ c.if-not-fits_image.true)
-
-pub loop-d-init : goal.loop-d-init
-unfolding newest_of
-loop-d-init c = (omega arith, refl)
-
-pub loop-d-preserved : goal.loop-d-preserved
-loop-d-preserved c = let l = c.loop-d in
-    let a = c.args in
-    (omega arith, c.newer_of-newest.ensures ∙ ap₂ newer l.invariant.1 c.present_label-next.ensures ∙ newest_turn (present_label a.g a.image.now a.absent) l.d)
-
 pub returns : goal.returns
-unfolding shelf_label
-returns c = let l = c.loop-d in
+unfolding newest_of shelf_label
+returns c =
     let a = c.args in
-    let e : l.d ≡ a.g.n = omega arith in
-    l.invariant.1 ∙ ap (newest_of (present_label a.g a.image.now a.absent)) e
-    ∙ simp (sym c.fits_image.ensures ∙ c.if-not-fits_image.false)
+    let f = present_label a.g a.image.now a.absent in
+    rw (sym c.fits_image.ensures ∙ c.if-not-fits_image.false)
+    (fold_from_yields_List _ (λ x d. newer x (f d)) None _ c.fold.ensures.ran (YieldsList-from_range 0 a.g.n a.g.n refl (omega arith)) (λ x d r q k. search rules)
+    ∙ newest_on f 0 a.g.n ∙ ap (newest_of f) (let e : 0 + a.g.n ≡ a.g.n = omega arith in e))

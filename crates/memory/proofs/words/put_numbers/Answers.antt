@@ -10,19 +10,18 @@ use Rattle.memory.proofs.words.put_numbers.Goals as goal
 pub loop-i-init : goal.loop-i-init
 loop-i-init c = let a = c.args in
     let e : a.from + 0 ≡ a.from = omega arith in
-    (omega arith, refl, ap (λ (k : ℕ). with_words a.a.now a.bytes.now (8 * k)) e)
+    (refl, ap (λ (k : ℕ). with_words a.a.now a.bytes.now (8 * k)) e)
 
 pub loop-i-preserved : goal.loop-i-preserved
 loop-i-preserved c = let l = c.loop-i in
     let a = c.args in (
-      omega arith,
-      ap length c.put_u64.ensures ∙ length_with 8 l.bytes _ _ ∙ l.invariant.1,
+      ap length c.put_u64.ensures ∙ length_with 8 l.bytes _ _ ∙ l.invariant.0,
       ap (λ (u : List ℕ). with_words (drop (l.i + 1) a.a.now) u (8 * (a.from + (l.i + 1)))) c.put_u64.ensures
           ∙ write_turn a.a.now l.bytes l.i a.from (omega arith)
-          ∙ l.invariant.2,
+          ∙ l.invariant.1,
     )
 
 pub returns : goal.returns
 returns c = let l = c.loop-i in
     let a = c.args in
-    (sym (write_done a.a.now l.bytes l.i (8 * (a.from + l.i)) (omega arith)) ∙ l.invariant.2, λ i. omega (arith, c.type_inv.a i))
+    (sym (write_done a.a.now l.bytes l.i (8 * (a.from + l.i)) (omega arith)) ∙ l.invariant.1, λ i. omega (arith, c.type_inv.a i))

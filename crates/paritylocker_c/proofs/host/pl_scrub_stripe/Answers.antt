@@ -5,7 +5,7 @@ use Rattle.paritylocker_c.proofs.host.pl_scrub_stripe.Goals as goal
 
 pub returns-then-state-state_bytes : goal.returns-then-state-state_bytes
 returns-then-state-state_bytes c = let a = c.args in
-    (scrub_short a.state.now a.stripe a.image.now a.work.now (λ q. c.if-state-state_bytes.true (q ∙ sym c.state_bytes.ensures)), refl, refl, refl)
+    rw c.number.ensures (scrub_short a.state.now a.stripe a.image.now a.work.now (λ q. c.if-state-state_bytes.true (q ∙ sym c.state_bytes.ensures)), refl, refl, refl)
 
 pub scrubbed_number-requires : goal.scrubbed_number-requires
 scrubbed_number-requires c = let a = c.args in small_found _ c.read-s.result a.stripe a.image.now a.work.now c.scrub_stripe-found.result c.scrub_stripe-found.ensures

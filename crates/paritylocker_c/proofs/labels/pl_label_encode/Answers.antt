@@ -3,7 +3,7 @@ use lib.ListN.{length}
 use Rattle.paritylocker_c.specs.Labels.{number_of_outcome}
 use Rattle.label.specs.Bytes.{encode_answer, after_encode}
 use Rattle.label.specs.declared.fields.Label.{Label}
-use Rattle.disk.specs.declared.refusal.Outcome.{Outcome}
+use Rattle.disk.specs.Refusal.{Outcome}
 use Rattle.paritylocker_c.proofs.labels.pl_label_encode.Goals as goal
 
 pub returns : goal.returns

@@ -2,7 +2,7 @@
 use mathlib.Core.Path.{refl, ap, ◌∙◌}
 use lib.ListN.{length}
 use Rattle.stages.specs.declared.state.State.{State}
-use Rattle.requests.specs.declared.begun.Begun.{Begun}
+use Rattle.requests.specs.Begun.{Begun}
 use Rattle.rebuilds.specs.Begin.{begin_of}
 use Rattle.paritylocker_c.specs.Shelf.{begun_number, after_begun}
 use Rattle.paritylocker_c.proofs.rebuilding.pl_begin.Goals as goal
@@ -10,5 +10,5 @@ use Rattle.paritylocker_c.proofs.rebuilding.pl_begin.Goals as goal
 pub returns : goal.returns
 returns c = let a = c.args in
     let k = c.keep.ensures in
-    let q = c.begin-begun.ensures ∙ ap (λ (s : State). begin_of s a.slot a.image.now (length a.work.now)) c.read-s.ensures in
+    let q = c.begin.ensures ∙ ap (λ (s : State). begin_of s a.slot a.image.now (length a.work.now)) c.read-s.ensures in
     (k.0 ∙ ap (λ (b : Begun). begun_number b (length a.state.now)) q, k.1 ∙ ap (λ (b : Begun). after_begun b a.state.now) q, refl, refl)

@@ -1,14 +1,12 @@
 -- What the request begins with is kept. Assumes nothing.
 use mathlib.Core.Path.{refl, ap, ◌∙◌}
 use lib.ListN.{length}
-use Rattle.stages.specs.declared.state.State.{State}
-use Rattle.requests.specs.declared.begun.Begun.{Begun}
-use Rattle.requests.specs.Create.{create_of}
+use Rattle.requests.specs.Begun.{Begun}
 use Rattle.paritylocker_c.specs.Shelf.{begun_number, after_begun}
 use Rattle.paritylocker_c.proofs.shelves.pl_create.Goals as goal
 
 pub returns : goal.returns
 returns c = let a = c.args in
     let k = c.keep.ensures in
-    let q = c.create-begun.ensures ∙ ap (λ (s : State). create_of s a.k a.m a.c a.sectors a.shelf a.image.now (length a.work.now)) c.read-s.ensures in
+    let q = c.create-begun.ensures in
     (k.0 ∙ ap (λ (b : Begun). begun_number b (length a.state.now)) q, k.1 ∙ ap (λ (b : Begun). after_begun b a.state.now) q, refl, refl)

@@ -1,14 +1,12 @@
 -- What the request begins with is kept. Assumes nothing.
 use mathlib.Core.Path.{refl, ap, ◌∙◌}
 use lib.ListN.{length}
-use Rattle.stages.specs.declared.state.State.{State}
-use Rattle.requests.specs.declared.begun.Begun.{Begun}
-use Rattle.requests.specs.Start.{start_of}
+use Rattle.requests.specs.Begun.{Begun}
 use Rattle.paritylocker_c.specs.Shelf.{begun_number, after_begun}
 use Rattle.paritylocker_c.proofs.shelves.pl_start.Goals as goal
 
 pub returns : goal.returns
 returns c = let a = c.args in
     let k = c.keep.ensures in
-    let q = c.start-begun.ensures ∙ ap (λ (s : State). start_of s (record { n = a.n; c = a.c; sectors = a.sectors }) a.absent a.image.now (length a.work.now)) c.read-s.ensures in
+    let q = c.start.ensures in
     (k.0 ∙ ap (λ (b : Begun). begun_number b (length a.state.now)) q, k.1 ∙ ap (λ (b : Begun). after_begun b a.state.now) q, refl, refl)

@@ -11,4 +11,4 @@ use Rattle.rebuilds.proofs.survivors.has_spare.Goals as goal
 pub returns : goal.returns
 unfolding spare
 returns c = let a = c.args in
-    ap (λ (i : ℕ). ltb i (a.g.n - a.k)) (c.lost-many.ensures.0 ∙ ap length (lost_in_lem a.g a.t a.there most_n c.requires.0 c.requires.1 (omega arith)))
+    ap (λ (i : ℕ). ltb i (a.g.n - a.k)) (c.len.ensures ∙ ap length (c.of.ensures ∙ lost_in_lem a.g a.t a.there most_n c.requires.0 c.requires.1 (omega arith)))

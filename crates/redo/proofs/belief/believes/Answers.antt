@@ -1,18 +1,24 @@
--- The test, then what the geometry in range says.
-use mathlib.Core.Path.{◌≡◌, sym, ◌∙◌}
-use mathlib.Core.Bool.{true}
-use Rattle.disk.specs.Geometry.{in_range}
+-- By whether the geometry is in range.
+use Rattle.std.proofs.Common.{rules, ◌≡◌, ◌&&◌, Bool, true, false, refl, sym, ap, ◌∙◌}
+use Rattle.std.proofs.Math.Bool.{and-false}
+use Rattle.std.proofs.lemmas.Result.{MatchResult-at_ok, MatchResult-at_err}
+use Rattle.disk.specs.Geometry.{in_range, stripes_of, found, Found}
+use Rattle.redo.specs.Decide.{believed}
 use Rattle.redo.proofs.belief.believes.Goals as goal
 
-pub returns-then-not-in_range : goal.returns-then-not-in_range
-returns-then-not-in_range c = rw (sym c.in_range.ensures ∙ c.if-not-in_range.true)
+pub returns-then-looked_at : goal.returns-then-looked_at
+unfolding believed
+returns-then-looked_at c = by (in_range c.args.g) refl
+  where
+    answer : Bool → Found
+    answer b = found b true (stripes_of c.args.g)
 
-pub is_believed-requires : goal.is_believed-requires
-is_believed-requires c =
-    let ok : (in_range c.args.g ≡ true) = sym c.in_range.ensures ∙ c.if-not-in_range.false in
-    ok
+    by : (b : Bool) → in_range c.args.g ≡ b → c.is_ok_and.result ≡ (b && believed c.args.g c.args.l c.args.d c.args.t)
+    by true e =
+        let ran = MatchResult-at_ok _ _ (stripes_of c.args.g) (c.stripes.ensures ∙ ap answer e) c.is_ok_and.ensures in
+        rw (sym c.looked_at.ensures ∙ c.if-looked_at.true) (search rules)
+    by false e = MatchResult-at_err _ _ _ (c.stripes.ensures ∙ ap answer e) c.is_ok_and.ensures
 
-pub returns : goal.returns
-returns c =
-    let ok : (in_range c.args.g ≡ true) = sym c.in_range.ensures ∙ c.if-not-in_range.false in
-    rw (ok) c.is_believed.ensures
+pub returns-else-looked_at : goal.returns-else-looked_at
+unfolding believed
+returns-else-looked_at c = rw (sym c.looked_at.ensures ∙ c.if-looked_at.false) (c.if-looked_at.false ∙ sym (and-false (in_range c.args.g)))

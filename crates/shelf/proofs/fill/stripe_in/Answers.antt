@@ -1,23 +1,15 @@
-use Rattle.code.specs.Lists.{length_part}
-use mathlib.Core.Path.{sym}
-use Rattle.shelf.specs.Fill.{stripe_in}
-use Rattle.disk.specs.Limits.{most_n, most_c, sector_bytes}
-use native.Mathlib.Nat.{mul-le-mul}
-use borrow.Author.Tests.{lt-ltb, le-ltb}
-use Prim.Native.Nat.{◌≤◌, ◌*◌}
+use Rattle.disk.specs.Limits.{sector_bytes}
+use Rattle.std.proofs.Common.{◌≡◌, ℕ, ◌+◌, ◌*◌, refl, ap, ◌∙◌, Bor, cond, ltb, length, List, []}
 use native.Mathlib.Omega.{arith}
+use Rattle.shelf.specs.Fill.{stripe_in}
+use Rattle.shelf.specs.Says.{cut_as}
+use Rattle.shelf.proofs.Parts.{part_or_none}
 use Rattle.shelf.proofs.fill.stripe_in.Goals as goal
-
-pub overflow_mul-e-2 : goal.overflow_mul-e-2
-overflow_mul-e-2 c = let p = c.requires in omega (arith, mul-le-mul {n₂ = most_n} {m₂ = most_c * sector_bytes} p.0 (let h : c.args.g.c * sector_bytes ≤ most_c * sector_bytes = omega (arith, p.1) in h))
-
-pub returns-then-work-e : goal.returns-then-work-e
-unfolding stripe_in
-returns-then-work-e c = rw (lt-ltb _ _ c.if-work-e.true)
-
-pub slice_bounds-result-end-2 : goal.slice_bounds-result-end-2
-slice_bounds-result-end-2 c = sym (length_part _ _ c.if-work-e.false)
 
 pub returns : goal.returns
 unfolding stripe_in
-returns c = rw (le-ltb _ _ c.if-work-e.false)
+returns c = let a = c.args in
+    let e : ℕ = a.g.n * (a.g.c * sector_bytes) in
+    let z : e ≡ 0 + e = omega arith in
+    ap (λ (x : Bor (List ℕ)). x.now) c.unwrap_or.ensures ∙ part_or_none a.work.now 0 e (omega arith) c.get.result _ _ refl c.get.ensures.lookup.0
+    ∙ ap (λ (x : List ℕ). cond (ltb (length a.work.now) e) [] x) (cut_as 0 e e a.work.now z)

@@ -1,22 +1,11 @@
-use mathlib.Core.Path.{refl, sym, ◌∙◌}
-use native.Mathlib.Omega.{arith}
-use Rattle.shelf.specs.Says.{seek_here, seek_on, seek_end}
+use Rattle.std.proofs.Common.{rules, ◌≡◌, ℕ, true, false, ap, ◌∙◌}
+use Rattle.std.specs.Option.{unwrap_or}
+use Rattle.std.proofs.lemmas.Iterator.{first_from_Range}
+use Rattle.disk.specs.Mask.{in_mask}
+use Rattle.shelf.proofs.Seek.{first_or}
 use Rattle.shelf.proofs.step.find.Goals as goal
 
-pub loop-d-init : goal.loop-d-init
-loop-d-init c = refl
-
-pub returns-then-has : goal.returns-then-has
-returns-then-has c = let l = c.loop-d in
-    let a = c.args in
-    sym (seek_here a.mask a.n l.d (omega arith) (sym c.has.ensures ∙ c.if-has.true)) ∙ l.invariant
-
-pub loop-d-preserved : goal.loop-d-preserved
-loop-d-preserved c = let l = c.loop-d in
-    let a = c.args in
-    sym (seek_on a.mask a.n l.d (omega arith) (sym c.has.ensures ∙ c.if-has.false)) ∙ l.invariant
-
 pub returns : goal.returns
-returns c = let l = c.loop-d in
-    let a = c.args in
-    sym (seek_end a.mask a.n l.d (omega arith)) ∙ l.invariant
+returns c = let a = c.args in
+    let f = first_from_Range _ _ _ c.find.result (λ d. in_mask a.mask d ≡ true) (λ d. in_mask a.mask d ≡ false) c.find.ensures.ran (λ x q k. search rules) (λ x q k. search rules) in
+    c.unwrap_or.ensures ∙ ap (λ (m : ℕ). unwrap_or c.find.result m) c.max.ensures ∙ first_or a.mask a.n a.from c.find.result f

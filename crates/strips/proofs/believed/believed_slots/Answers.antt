@@ -1,12 +1,14 @@
 -- The test, then the mask.
 use mathlib.Core.Path.{sym, ◌∙◌}
+use mathlib.Core.Bool.{◌&&◌}
+use borrow.Author.Rules.{rules}
+use native.Mathlib.Omega.{arith}
+use Rattle.disk.specs.Geometry.{in_range, in_range_lem}
+use Rattle.redo.specs.Decide.{believed}
 use Rattle.strips.proofs.believed.believed_slots.Goals as goal
 
-pub returns-then-not-in_range : goal.returns-then-not-in_range
-returns-then-not-in_range c = rw (sym c.in_range.ensures ∙ c.if-not-in_range.true)
-
-pub slots-requires : goal.slots-requires
-slots-requires c = sym c.in_range.ensures ∙ c.if-not-in_range.false
-
 pub returns : goal.returns
-returns c = rw (sym c.in_range.ensures ∙ c.if-not-in_range.false) c.slots.ensures
+returns c = let a = c.args in
+    let e = sym c.in_range.ensures ∙ c.if-not-in_range.false in
+    let m = c.slots_where.ensures.all (λ d. in_range a.g && believed a.g a.l d a.t) (λ d r h k. search rules) (omega (arith, (in_range_lem a.g e).few)) in
+    rw e (rw e at m)
