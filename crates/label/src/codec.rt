@@ -94,11 +94,11 @@ pub fn decode(sector: &[u8], slot: usize, place: u64) -> Option<Label>
     if sector.len() != SECTOR {
         return None;
     }
+    if u64_at(sector, 0) != LETTERS || u16_at(sector, 8) != VERSION || !zeros(sector) {
+        return None;
+    }
     let l = label_at(sector);
-    let valid = u64_at(sector, 0) == LETTERS
-        && u16_at(sector, 8) == VERSION
-        && zeros(sector)
-        && fits(l)
+    let valid = fits(l)
         && l.slot == slot
         && u32_at(sector, CHECKSUM) == u64::from(crc32c::crc32c(&sector[..CHECKSUM]))
         && l.generation % 2 == place;
