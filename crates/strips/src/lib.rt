@@ -4,6 +4,7 @@
 #![tactic(auto)]
 
 pub mod believed;
+pub mod list;
 pub mod lost;
 pub mod seen;
 pub mod shown;
