@@ -63,6 +63,20 @@ number_append (suc w) p q x h =
     (ap₂ (λ (l : List ℕ) (i : ℕ). number_at w l i) (sym (append_snoc p a r)) e ∙ number_append w (p ++ (a ∷ [])) q (x / 256) k)
     ∙ omega arith
 
+-- ---- byte by byte, from the highest when reading and from the lowest when writing
+
+module _ (b : List ℕ) (at w : ℕ) where
+  pub read_none : number_at (w - w) b (at + w) ≡ 0
+  unfolding number_at
+  read_none = let e : w - w ≡ 0 = omega arith in ap (λ (k : ℕ). number_at k b (at + w)) e
+
+  pub read_turn : (j : ℕ) → 0 < j → j ≤ w → number_at (w - j) b (at + j) * 256 + get_or b (at + (j - 1)) 0 ≡ number_at (w - (j - 1)) b (at + (j - 1))
+  unfolding number_at
+  read_turn j p l =
+      let e : w - (j - 1) ≡ suc (w - j) = omega arith in
+      let f : at + (j - 1) + 1 ≡ at + j = omega arith in
+      omega (arith, ap (λ (k : ℕ). number_at (w - j) b k) f, ap (λ (k : ℕ). number_at k b (at + (j - 1))) e)
+
 -- ---- the bytes of a number, one after the other
 
 -- a number depends on its own bytes only, wherever they stand
