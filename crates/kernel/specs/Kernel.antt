@@ -1,9 +1,44 @@
 -- What the loops over the bytes of a stripe do. Assumes nothing.
-use Rattle.std.specs.Prelude.{◌≡◌, Bool, true, false, cond, ◌&&◌, List, ◌≢◌, ℕ, ◌+◌, ◌-◌, ◌*◌, ◌≤◌, ◌<◌, eqb, leb, length, get_or}
+use Rattle.std.specs.Prelude.{◌≡◌, Bool, true, false, cond, ◌&&◌, List, ◌≢◌, ℕ, ◌+◌, ◌-◌, ◌*◌, ◌/◌, ◌%◌, ◌≤◌, ◌<◌, eqb, leb, length, get_or}
 use Rattle.std.specs.Int.Bits.{bit_xor}
 use Rattle.codeword.specs.Sum.{total}
 use Rattle.codeword.specs.Stripe.{len_most, byte_at}
-use Rattle.field.specs.Field.{mul_of}
+use Rattle.field.specs.Field.{mul_of, g, pick}
+
+-- eight numbers, one for each bit of a byte
+pub record Multiples : Type 0 where
+  pub c0 : ℕ
+  pub c1 : ℕ
+  pub c2 : ℕ
+  pub c3 : ℕ
+  pub c4 : ℕ
+  pub c5 : ℕ
+  pub c6 : ℕ
+  pub c7 : ℕ
+
+-- t holds c and its doubles
+pub record MultiplesOf (c : ℕ) (t : Multiples) : Type 0 where
+  pub at0 : t.c0 ≡ c
+  pub at1 : t.c1 ≡ mul_of g t.c0
+  pub at2 : t.c2 ≡ mul_of g t.c1
+  pub at3 : t.c3 ≡ mul_of g t.c2
+  pub at4 : t.c4 ≡ mul_of g t.c3
+  pub at5 : t.c5 ≡ mul_of g t.c4
+  pub at6 : t.c6 ≡ mul_of g t.c5
+  pub at7 : t.c7 ≡ mul_of g t.c6
+
+-- the sum of the multiples at the bits of x that are 1
+unfoldable pub times_of : Multiples → ℕ → ℕ
+times_of t x =
+    bit_xor (bit_xor (bit_xor (bit_xor (bit_xor (bit_xor (bit_xor
+    (pick (x % 2) t.c0)
+    (pick (x / 2 % 2) t.c1))
+    (pick (x / 4 % 2) t.c2))
+    (pick (x / 8 % 2) t.c3))
+    (pick (x / 16 % 2) t.c4))
+    (pick (x / 32 % 2) t.c5))
+    (pick (x / 64 % 2) t.c6))
+    (pick (x / 128 % 2) t.c7)
 
 -- ---- parts of a slice
 

@@ -16,10 +16,11 @@ use Rattle.bits.specs.Xor.{bit_ind}
 use Rattle.field.specs.Field.{mul_of, g, pick}
 use Rattle.field.proofs.Power.{twice}
 use Rattle.field.proofs.Bytes.{bytes}
+use Rattle.field.proofs.Turns.{double_byte}
 use Rattle.field.proofs.Solve.{solve}
 use Rattle.codeword.specs.Sum.{total, total_ext}
 use Rattle.codeword.specs.Stripe.{byte_at}
-use Rattle.kernel.specs.Kernel.{Replaced, added, MulAdded, Cleared, Parts, Shards, weight, Combined, row_at, RowZero}
+use Rattle.kernel.specs.Kernel.{Multiples, MultiplesOf, times_of, Replaced, added, MulAdded, Cleared, Parts, Shards, weight, Combined, row_at, RowZero}
 
 -- ---- a product by its bits
 
@@ -36,6 +37,35 @@ peel c d y l h e =
     ∙ bytes.mul_add c (y % 2) (mul_of g (y / 2))
     ∙ ap₂ bit_xor (pick_times (y % 2) c b l)
     (solve (c ∷ g ∷ (y / 2) ∷ []) (X ⊗ (Y ⊗ Z)) ((Y ⊗ X) ⊗ Z) tt ∙ ap (λ (u : ℕ). mul_of u (y / 2)) (sym e))
+
+-- the bits below y's are added up already
+turn : (s c d y z : ℕ) → c < 256 → y < 256 → d ≡ mul_of g c → z ≡ y / 2
+    → bit_xor s (mul_of c y) ≡ bit_xor (bit_xor s (pick (y % 2) c)) (mul_of d z)
+turn s c d y z l h e q =
+    ap (bit_xor s) (peel c d y l h e ∙ ap (λ (u : ℕ). bit_xor (pick (y % 2) c) (mul_of d u)) (sym q))
+    ∙ sym (bytes.add_assoc s (pick (y % 2) c) (mul_of d z))
+
+-- the multiples of c at the bits of x add up to c times x
+pub times_is : (c : ℕ) (t : Multiples) (x : ℕ) → c < 256 → MultiplesOf c t → x < 256 → times_of t x ≡ mul_of c x
+unfolding times_of
+times_is c t x l m h =
+    let s1 : ℕ = pick (x % 2) t.c0 in
+    let s2 : ℕ = bit_xor s1 (pick (x / 2 % 2) t.c1) in
+    let s3 : ℕ = bit_xor s2 (pick (x / 4 % 2) t.c2) in
+    let s4 : ℕ = bit_xor s3 (pick (x / 8 % 2) t.c3) in
+    let s5 : ℕ = bit_xor s4 (pick (x / 16 % 2) t.c4) in
+    let s6 : ℕ = bit_xor s5 (pick (x / 32 % 2) t.c5) in
+    let s7 : ℕ = bit_xor s6 (pick (x / 64 % 2) t.c6) in
+    let last : x / 128 % 2 ≡ x / 128 = omega arith in
+    sym (ap (λ (u : ℕ). mul_of u x) (sym m.at0)
+    ∙ turn 0 t.c0 t.c1 x (x / 2) (omega (arith, m.at0)) h m.at1 refl
+    ∙ turn s1 t.c1 t.c2 (x / 2) (x / 4) (double_byte _ _ m.at1) (omega arith) m.at2 (omega arith)
+    ∙ turn s2 t.c2 t.c3 (x / 4) (x / 8) (double_byte _ _ m.at2) (omega arith) m.at3 (omega arith)
+    ∙ turn s3 t.c3 t.c4 (x / 8) (x / 16) (double_byte _ _ m.at3) (omega arith) m.at4 (omega arith)
+    ∙ turn s4 t.c4 t.c5 (x / 16) (x / 32) (double_byte _ _ m.at4) (omega arith) m.at5 (omega arith)
+    ∙ turn s5 t.c5 t.c6 (x / 32) (x / 64) (double_byte _ _ m.at5) (omega arith) m.at6 (omega arith)
+    ∙ turn s6 t.c6 t.c7 (x / 64) (x / 128) (double_byte _ _ m.at6) (omega arith) m.at7 (omega arith)
+    ∙ ap (bit_xor s7) (pick_times (x / 128) t.c7 (omega arith) (double_byte _ _ m.at7) ∙ ap (λ (u : ℕ). pick u t.c7) (sym last)))
 
 -- ---- small facts
 
@@ -99,14 +129,20 @@ untouched at len k f b e m h =
     (cases_lt k at)
 
 -- one place more has the sum
-pub added_turn : (c dst src len i x : ℕ) (b e : List ℕ) → Parts dst src len (length b) → i < len
+pub product_turn : (c dst src len i x : ℕ) (b e : List ℕ) → Parts dst src len (length b) → i < len
     → x ≡ mul_of c (get_or e (src + i) 0) → MulAdded c dst src i b e
     → MulAdded c dst src (i + 1) b (set e (dst + i) (bit_xor (get_or e (dst + i) 0) x))
-added_turn c dst src len i x b e p h q r =
+product_turn c dst src len i x b e p h q r =
     replaced_turn dst i (bit_xor (get_or e (dst + i) 0) x) (added c dst src b) b e (omega (arith, p.dst_fits))
     (ap₂ bit_xor (r.after (dst + i) (omega arith))
     (q ∙ ap (mul_of c) (untouched dst i (src + i) (added c dst src b) b e r (λ j k. p.apart j i (omega arith) h))))
     r
+
+-- and so by the multiples of c
+pub added_turn : (c dst src len i x : ℕ) (t : Multiples) (b e : List ℕ) → Parts dst src len (length b) → i < len → c < 256
+    → MultiplesOf c t → get_or e (src + i) 0 < 256 → x ≡ times_of t (get_or e (src + i) 0) → MulAdded c dst src i b e
+    → MulAdded c dst src (i + 1) b (set e (dst + i) (bit_xor (get_or e (dst + i) 0) x))
+added_turn c dst src len i x t b e p h l m y q r = product_turn c dst src len i x b e p h (q ∙ times_is c t (get_or e (src + i) 0) l m y) r
 
 -- ---- shards
 

@@ -1,6 +1,6 @@
 use Rattle.std.proofs.Common.{arith}
 use Rattle.kernel.specs.Kernel.{added}
-use Rattle.kernel.specs.KernelTurns.{replaced_none, replaced_done, added_turn}
+use Rattle.kernel.specs.KernelTurns.{replaced_none, replaced_done, product_turn}
 use Rattle.kernel.proofs.bytes.mul_add_within.Goals as goal
 
 pub loop-i-init : goal.loop-i-init
@@ -9,7 +9,7 @@ loop-i-init c = let a = c.args in replaced_none a.dst (added a.c a.dst a.src a.b
 pub loop-i-preserved : goal.loop-i-preserved
 loop-i-preserved c = let l = c.loop-i in
     let a = c.args in
-    added_turn a.c a.dst a.src a.len l.i c.mul.result a.buf.now l.buf c.requires c.loop-i-test.true c.mul.ensures l.invariant
+    product_turn a.c a.dst a.src a.len l.i c.mul.result a.buf.now l.buf c.requires c.loop-i-test.true c.mul.ensures l.invariant
 
 pub returns : goal.returns
 returns c = let l = c.loop-i in
