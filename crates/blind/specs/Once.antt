@@ -2,7 +2,7 @@
 -- out and leave in the work area. Assumes nothing.
 use Rattle.std.specs.Prelude.{◌≡◌, Bool, true, false, cond, eqb, length, get_or, take, drop, Ok, Err}
 use Rattle.std.proofs.Math.Path.{refl, subst}
-use Rattle.std.proofs.Common.{sym, ap, ap₂, ◌∙◌, ⊎_elim, mul-le-mul_right, arith, lit<, take-append-drop, get_or-take, get_or-drop, eqb-true}
+use Rattle.std.proofs.Common.{sym, ap, ap₂, ◌∙◌, ⊎_elim, mul-le-mul_right, arith, lit<, take-append-drop, get_or-take, get_or-drop, eqb-true, true≢false}
 use mathlib.Core.List.{List, [], ◌∷◌, ◌++◌}
 use Prim.Native.Nat.{ℕ, ◌+◌, ◌-◌, ◌*◌, ◌≤◌, ◌<◌, ◌/◌, ◌%◌}
 use Rattle.std.proofs.Math.ListN.{get_or-eq_default}
@@ -19,7 +19,7 @@ use Rattle.codeword.specs.Unique.{AllBytes}
 use Rattle.codeword.proofs.Unique.{unique}
 use Rattle.code.specs.Shape.{shaped_of}
 use Rattle.code.specs.Stripes.{Said, Says, Mends, Repaired}
-use Rattle.code.specs.Exact.{scrub_sound, scrub_accused, scrub_unsound, repaired_only}
+use Rattle.code.specs.Exact.{said_one, scrub_sound, scrub_accused, scrub_unsound, repaired_only}
 use Rattle.code.specs.declared.Verdict.{Verdict}
 use Rattle.code.specs.declared.Verdict.TheVariants as verdict
 use Rattle.position.specs.Position.{parity_ext}
@@ -44,15 +44,11 @@ use Rattle.blind.specs.Small.{small_front, small_take, small_seen, shards_same}
 
 -- ---- the verdict
 
--- the verdict of an answer, or another where there is none
-abbrev verdict_in : Verdict → Said → Verdict
-verdict_in w (Ok v) = v
-verdict_in w (Err x) = w
-
-says_once : (k m len : ℕ) (s : List ℕ) → shaped_of k m len (length s) ≡ true → AllBytes s → (v w : Verdict) → Says k m len s (Ok v) → Says k m len s (Ok w) → v ≡ w
-says_once k m len s fits b verdict.Sound w h e = ap (verdict_in w) (sym (scrub_sound k m len s fits b (Ok w) e h.1))
-says_once k m len s fits b (verdict.Accused r) w h e = ap (verdict_in w) (sym (scrub_accused k m len s fits b (Ok w) e h.2 h.1 r h.3))
-says_once k m len s fits b verdict.Unsound w h e = ap (verdict_in w) (sym (scrub_unsound k m len s fits b (Ok w) e h.1 h.2))
+says_once : (k m len : ℕ) (s : List ℕ) → shaped_of k m len (length s) ≡ true → AllBytes s → (v w : Said) → Says k m len s v → Says k m len s w → v ≡ w
+says_once k m len s fits b (Ok verdict.Sound) w h e = sym (scrub_sound k m len s fits b w e h.1)
+says_once k m len s fits b (Ok (verdict.Accused r)) w h e = sym (scrub_accused k m len s fits b w e h.2 h.1 r h.3)
+says_once k m len s fits b (Ok verdict.Unsound) w h e = sym (scrub_unsound k m len s fits b w e h.1 h.2)
+says_once k m len s fits b (Err x) w h e = absurd (true≢false (sym fits ∙ h.0))
 
 -- ---- a mended stripe, at a data shard j that is bytes
 
@@ -67,12 +63,13 @@ module _ (k m len : ℕ) (before : List ℕ) (fits : length before ≡ (k + m) *
       beyond : k + m ≤ q → byte_at len x p q < 256
       beyond l = subst (λ (v : ℕ). v < 256) (sym (get_or-eq_default x 0 {n = q * len + p} (omega (arith, e, fits, mul-le-mul_right len l)))) (lit< tt)
 
-mends_once : (n k len : ℕ) → Splits n k → (before : List ℕ) → length before ≡ n * len → AllBytes before → (v : Verdict) (x y : List ℕ)
-    → Mends k (n - k) len (Ok v) before x → Mends k (n - k) len (Ok v) before y → (j p : ℕ) → j < k → p < len → byte_at len x p j < 256 → byte_at len y p j < 256
+mends_once : (n k len : ℕ) → Splits n k → (before : List ℕ) → length before ≡ n * len → AllBytes before → (v : Said) (x y : List ℕ)
+    → Mends k (n - k) len v before x → Mends k (n - k) len v before y → (j p : ℕ) → j < k → p < len → byte_at len x p j < 256 → byte_at len y p j < 256
     → byte_at len x p j ≡ byte_at len y p j
-mends_once n k len s before fits small verdict.Sound x y h g j p hj hp bx by = ap (λ (z : List ℕ). byte_at len z p j) (h ∙ sym g)
-mends_once n k len s before fits small verdict.Unsound x y h g j p hj hp bx by = ap (λ (z : List ℕ). byte_at len z p j) (h ∙ sym g)
-mends_once n k len s before fits small (verdict.Accused r) x y h g j p hj hp bx by = at (eqb r j) refl
+mends_once n k len s before fits small (Err why) x y h g j p hj hp bx by = ap (λ (z : List ℕ). byte_at len z p j) (h ∙ sym g)
+mends_once n k len s before fits small (Ok verdict.Sound) x y h g j p hj hp bx by = ap (λ (z : List ℕ). byte_at len z p j) (h ∙ sym g)
+mends_once n k len s before fits small (Ok verdict.Unsound) x y h g j p hj hp bx by = ap (λ (z : List ℕ). byte_at len z p j) (h ∙ sym g)
+mends_once n k len s before fits small (Ok (verdict.Accused r)) x y h g j p hj hp bx by = at (eqb r j) refl
   where
     all : k + (n - k) ≡ n
     all = omega (arith, s.parity)
@@ -120,10 +117,10 @@ module _ (g : Geometry) (k : ℕ) (img : List ℕ) (there t i : ℕ) (bytes : Li
         go true e =
             let h = v.restored.repaired e in
             let u = w.restored.repaired e in
-            let q = says_once k (g.n - k) len before shaped before_small h.0 u.0 h.1.says u.1.says in (
-              h.2 ∙ ap changes q ∙ sym u.2,
-              λ j p hj o hp. mends_once g.n k len split before before_length before_small u.0 v.stripe w.stripe
-                  (subst (λ (z : Verdict). Mends k (g.n - k) len (Ok z) before v.stripe) q h.1.mends) u.1.mends j p hj hp
+            let q = says_once k (g.n - k) len before shaped before_small (Ok h.0) (Ok u.0) h.1.says u.1.says in (
+              h.2 ∙ ap changes (said_one q) ∙ sym u.2,
+              λ j p hj o hp. mends_once g.n k len split before before_length before_small (Ok u.0) v.stripe w.stripe
+                  (subst (λ (z : Said). Mends k (g.n - k) len z before v.stripe) q h.1.mends) u.1.mends j p hj hp
                   (subst (λ (z : ℕ). z < 256) (other_x j p hj o hp) (bx (j * len + p))) (subst (λ (z : ℕ). z < 256) (other_y j p hj o hp) (by (j * len + p))),
             )
         go false e = (
@@ -205,8 +202,8 @@ scrub_once s t over img work small sw (Ok v) (Ok w) h e =
     let row : List ℕ = row_seen g img (there g l s.absent t) over kept t 0 l.c in
     let fits : shaped_of l.k (l.k + l.m - l.k) len (length row) ≡ true =
     row_shaped (l.k + l.m) l.k len (length row) f.split (omega (arith, f.range.some)) (omega (arith, f.range.short)) (row_bytes g img (there g l s.absent t) over kept t 0 l.c) in
-    ap Ok (says_once l.k (l.k + l.m - l.k) len row fits
-    (small_seen g img (there g l s.absent t) over kept t 0 l.c small (small_take ((l.k + l.m) * (l.c * sector_bytes)) work sw)) v w h.1 e.1)
+    ap Ok (said_one (says_once l.k (l.k + l.m - l.k) len row fits
+    (small_seen g img (there g l s.absent t) over kept t 0 l.c small (small_take ((l.k + l.m) * (l.c * sector_bytes)) work sw)) (Ok v) (Ok w) h.1 e.1))
 scrub_once s t over img work small sw (Ok v) (Err y) h e = absurd (never y (sym e ∙ h.0))
 scrub_once s t over img work small sw (Err x) (Ok w) h e = absurd (never x (sym h ∙ e.0))
 scrub_once s t over img work small sw (Err x) (Err y) h e = refused_once x y (sym h ∙ e)
@@ -229,7 +226,7 @@ module _ (l : Label) (img : List ℕ) (t over : ℕ) (kept : List ℕ) (fits : f
       subst (λ (m : ℕ). shaped_of l.k m (l.c * sector_bytes) (length row) ≡ true) e
       (row_shaped (l.k + l.m) l.k (l.c * sector_bytes) (length row) f.split (omega (arith, f.range.some)) (omega (arith, f.range.short)) row_whole)
 
-  row_says : (v w : Verdict) → Says l.k l.m (l.c * sector_bytes) row (Ok v) → Says l.k l.m (l.c * sector_bytes) row (Ok w) → v ≡ w
+  row_says : (v w : Said) → Says l.k l.m (l.c * sector_bytes) row v → Says l.k l.m (l.c * sector_bytes) row w → v ≡ w
   row_says v w = says_once l.k l.m (l.c * sector_bytes) row row_fits row_small v w
 
 -- ---- repair
@@ -266,7 +263,7 @@ module _ (s : State) (t : ℕ) (img work : List ℕ) (small : AllBytes img) (b c
     empty_small i = lit< tt
 
     found_once : v.found ≡ w.found
-    found_once = row_says l img t 0 [] fits small empty_small v.found w.found (v.repaired done).0.says (w.repaired done).0.says
+    found_once = said_one (row_says l img t 0 [] fits small empty_small (Ok v.found) (Ok w.found) (v.repaired done).0.says (w.repaired done).0.says)
 
     outcome_x : outcome_of b ≡ mend_answer v.found l (length work)
     outcome_x =

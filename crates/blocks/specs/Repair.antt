@@ -4,7 +4,7 @@
 use Rattle.std.specs.Prelude.{◌≡◌, refl, Bool, true, false, cond, ◌&&◌, List, [], ◌++◌, ℕ, ◌+◌, ◌-◌, ◌*◌, ◌≤◌, ◌<◌, ltb, length, take, drop, Ok, Err}
 use Rattle.std.proofs.Common.{sym, ap, ap₂, subst, ◌∙◌, append-nil, arith, drop_of_length-le, length-take-le, take_at, drop_at, ltb-true}
 use Rattle.std.proofs.Math.Seq.{take-length}
-use Rattle.code.specs.Stripes.{Says, Repaired}
+use Rattle.code.specs.Stripes.{Said, Says, Repaired}
 use Rattle.code.specs.declared.Verdict.{Verdict}
 use Rattle.code.specs.declared.Verdict.TheVariants as verdict
 use Rattle.disk.specs.Limits.{most_sectors, sector_bytes}
@@ -65,9 +65,9 @@ mended s t verdict.Unsound = s
 -- ---- the work area
 
 -- what the code says of stripe t as it lies on the disks, and the stripe with an accused shard mended
-abbrev pub RepairedOf : Label → List ℕ → ℕ → Verdict → List ℕ → Type 0
+abbrev pub RepairedOf : Label → List ℕ → ℕ → Said → List ℕ → Type 0
 RepairedOf l img t v stripe =
-    Repaired l.k l.m (l.c * sector_bytes) (Ok v) (stripe_seen (geometry_of l) img (all_slots (l.k + l.m)) t) stripe
+    Repaired l.k l.m (l.c * sector_bytes) v (stripe_seen (geometry_of l) img (all_slots (l.k + l.m)) t) stripe
 
 -- a request that is accepted leaves the stripe in the first half, and the second half as it was; a refusal leaves both
 abbrev pub leaves : Outcome → Label → List ℕ → List ℕ → List ℕ
@@ -96,14 +96,14 @@ pub record Settling (s : State) (t : ℕ) (v : Verdict) (stripe : List ℕ) : Ty
 pub record Mended (s : State) (t : ℕ) (img work : List ℕ) (b : Begun) (after : List ℕ) : Type 0 where
   pub found : Verdict
   pub stripe : List ℕ
-  pub repaired : RepairedOf s.now img t found stripe × (length stripe ≡ stripe_bytes s.now)
+  pub repaired : RepairedOf s.now img t (Ok found) stripe × (length stripe ≡ stripe_bytes s.now)
   pub settles : Settles s t found stripe work b after
 
 -- THE REPAIR: the verdict on the stripe, the answer, and the work area
 pub record Repairs (s : State) (t : ℕ) (img work : List ℕ) (b : Begun) (after : List ℕ) : Type 0 where
   pub found : Verdict
   pub stripe : List ℕ
-  pub repaired : may_repair s.now s.kind s.absent s.count t img ≡ Ok tt → RepairedOf s.now img t found stripe × (length stripe ≡ stripe_bytes s.now)
+  pub repaired : may_repair s.now s.kind s.absent s.count t img ≡ Ok tt → RepairedOf s.now img t (Ok found) stripe × (length stripe ≡ stripe_bytes s.now)
   pub answers : b ≡ begun (first (may_repair s.now s.kind s.absent s.count t img) (mend_answer found s.now (length work))) (mended s t found)
   pub left : after ≡ leaves (outcome_of b) s.now stripe work
 
@@ -127,15 +127,15 @@ pub stripe_small : (l : Label) (img : List ℕ) (t : ℕ) → Lies l img t → t
 stripe_small l img t h = omega (arith, h.stripe, stripes_le (geometry_of l), (fits_says l h.fits).range.most)
 
 -- an accused shard is one of the stripe's
-pub accused_lt : (l : Label) (img : List ℕ) (t : ℕ) (v : Verdict) (stripe : List ℕ) → RepairedOf l img t v stripe → (r : ℕ) → v ≡ verdict.Accused r → r < l.k + l.m
+pub accused_lt : (l : Label) (img : List ℕ) (t : ℕ) (v : Said) (stripe : List ℕ) → RepairedOf l img t v stripe → (r : ℕ) → v ≡ Ok (verdict.Accused r) → r < l.k + l.m
 accused_lt l img t v stripe p r e =
-    let says = subst (λ (x : Verdict). Says l.k l.m (l.c * sector_bytes) (stripe_seen (geometry_of l) img (all_slots (l.k + l.m)) t) (Ok x)) e p.says in
+    let says = subst (λ (x : Said). Says l.k l.m (l.c * sector_bytes) (stripe_seen (geometry_of l) img (all_slots (l.k + l.m)) t) x) e p.says in
     says.3.0
 
 pub mend_with : (l : Label) (img : List ℕ) (t : ℕ) → Lies l img t → (g : Geometry) (d : ℕ) → g ≡ geometry_of l → d ≡ all_slots g.n → (a : ℕ) → a ≡ stripe_bytes l
     → (stripe : List ℕ) (Q : Type 0) (r : Scrubbed)
     → FoundBy (whole_answer g l.k (length img) t d a a) (λ v. Repaired l.k (g.n - l.k) (shard_bytes g) (Ok v) (stripe_seen g img d t) stripe) Q r
-    → ScrubbedBy (Ok tt) (λ v. RepairedOf l img t v stripe) r
+    → ScrubbedBy (Ok tt) (λ v. RepairedOf l img t (Ok v) stripe) r
 unfolding stripe_bytes
 mend_with l img t h g d ge de a ae stripe =
     let q : a ≡ g.n * shard_bytes g = ae ∙ sym (ap (λ (x : Geometry). x.n * shard_bytes x) ge) in
@@ -203,12 +203,12 @@ settles_begins s t v r stripe work b after e w =
 
 -- what a mend that is never refused says
 module _ (s : State) (img : List ℕ) (t : ℕ) (stripe : List ℕ) (r : Scrubbed) (m : MayMend s img t) (whole : length stripe ≡ stripe_bytes s.now)
-    (p : ScrubbedBy (Ok tt) (λ v. RepairedOf s.now img t v stripe) r) where
-  pub mend_found : (v : Verdict) → r ≡ Ok v → RepairedOf s.now img t v stripe
-  mend_found v e = (subst (λ (x : Scrubbed). ScrubbedBy (Ok tt) (λ v. RepairedOf s.now img t v stripe) x) e p).1
+    (p : ScrubbedBy (Ok tt) (λ v. RepairedOf s.now img t (Ok v) stripe) r) where
+  pub mend_found : (v : Verdict) → r ≡ Ok v → RepairedOf s.now img t (Ok v) stripe
+  mend_found v e = (subst (λ (x : Scrubbed). ScrubbedBy (Ok tt) (λ v. RepairedOf s.now img t (Ok v) stripe) x) e p).1
 
   pub mend_never : (why : Refusal) → r ≡ Err why → ⊥
-  mend_never why e = never why (sym (subst (λ (x : Scrubbed). ScrubbedBy (Ok tt) (λ v. RepairedOf s.now img t v stripe) x) e p))
+  mend_never why e = never why (sym (subst (λ (x : Scrubbed). ScrubbedBy (Ok tt) (λ v. RepairedOf s.now img t (Ok v) stripe) x) e p))
 
   pub settling : (v : Verdict) → r ≡ Ok v → Settling s t v stripe
   settling v e =
@@ -217,7 +217,7 @@ module _ (s : State) (img : List ℕ) (t : ℕ) (stripe : List ℕ) (r : Scrubbe
         small = stripe_small s.now img t m.lies;
         stamp = m.stamp;
         whole = whole;
-        below = accused_lt s.now img t v stripe (mend_found v e);
+        below = λ q f. accused_lt s.now img t (Ok v) stripe (mend_found v e) q (ap Ok f);
       }
 
   pub mended_by : (v : Verdict) → r ≡ Ok v → (work : List ℕ) (b : Begun) (after : List ℕ) → Settles s t v stripe work b after → Mended s t img work b after
@@ -249,9 +249,9 @@ module _ (s : State) (t : ℕ) (img work : List ℕ) (b : Begun) (after : List �
   left_so = w.left ∙ ap (λ (o : Outcome). leaves o s.now w.stripe work) done
 
   -- THE FIRST HALF OF THE WORK AREA IS THE MENDED STRIPE
-  pub repair_half : RepairedOf s.now img t w.found (take (stripe_bytes s.now) after)
+  pub repair_half : RepairedOf s.now img t (Ok w.found) (take (stripe_bytes s.now) after)
   repair_half =
-      subst (λ (x : List ℕ). RepairedOf s.now img t w.found x)
+      subst (λ (x : List ℕ). RepairedOf s.now img t (Ok w.found) x)
       (sym (ap (take (stripe_bytes s.now)) left_so ∙ take_at w.stripe (drop (stripe_bytes s.now) work) (stripe_bytes s.now) (w.repaired may).1))
       (w.repaired may).0
 

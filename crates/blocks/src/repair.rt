@@ -50,7 +50,7 @@ fn begin_mend(s: State, t: usize, r: usize) -> State
 // Scrubs stripe t of a shelf with this label, and mends an accused shard.
 fn mend_of(image: &[u8], l: Label, t: usize, stripe: &mut [u8]) -> Result<Verdict, Refusal>
     requires { Lies l image.now t × (length stripe.old ≡ stripe_bytes l) }
-    ensures { ScrubbedBy (Ok tt) (λ v. RepairedOf l image.now t v stripe.new) result }
+    ensures { ScrubbedBy (Ok tt) (λ v. RepairedOf l image.now t (Ok v) stripe.new) result }
 {
     let g = l.geometry();
     let from = Source {

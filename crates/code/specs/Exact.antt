@@ -15,6 +15,7 @@ use Rattle.codeword.specs.Mend.{put, put_at, put_off, put_bytes}
 use Rattle.code.specs.Shape.{shaped_of, Shaped}
 use Rattle.code.specs.Lists.{shaped_means}
 use Rattle.code.specs.Stripes.{Said, Accuses, Says, Repaired}
+use Rattle.code.specs.declared.Verdict.{Verdict}
 use Rattle.code.specs.declared.Verdict.TheVariants as verdict
 
 module _ (k m len : ℕ) (s : List ℕ) (r : ℕ) where
@@ -63,6 +64,10 @@ accused_by k m len s r hr w = (
 
 never : {A : Type 0} → ◌≡◌ {A = Bool} true false → A
 never e = absurd (let z : ◌≡◌ {A = ℕ} 0 1 = cc in omega arith)
+
+-- one answer has one verdict
+pub said_one : {v w : Verdict} → ◌≡◌ {A = Said} (Ok v) (Ok w) → v ≡ w
+said_one e = cc
 
 module _ (k m len : ℕ) (s : List ℕ) (fits : shaped_of k m len (length s) ≡ true) (b : AllBytes s) where
   shape : Shaped k m len (length s)

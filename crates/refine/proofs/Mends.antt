@@ -4,6 +4,8 @@
 use Rattle.std.specs.Prelude.{◌≡◌, refl, true, List, ℕ, ◌<◌, length, Ok, Err}
 use Rattle.std.proofs.Math.Path.{sym}
 use Rattle.std.proofs.Common.{ap, ◌∙◌}
+use Rattle.code.specs.Stripes.{Said}
+use Rattle.code.specs.Exact.{said_one}
 use Rattle.code.specs.declared.Verdict.{Verdict}
 use Rattle.code.specs.declared.Verdict.TheVariants as verdict
 use Rattle.disk.specs.declared.refusal.Refusal.{Refusal}
@@ -11,7 +13,7 @@ use Rattle.disk.specs.declared.refusal.Refusal.TheVariants.{NotNow}
 use Rattle.disk.specs.Refusal.{Outcome}
 use Rattle.protocol.specs.World.{strip}
 use Rattle.protocol.specs.Label as Label
-use Rattle.protocol.specs.Host.{Host, all_sound}
+use Rattle.protocol.specs.Host.{Host, Finding, all_sound}
 use Rattle.codecs.specs.Sector.{Sector}
 use Rattle.codecs.specs.Shelf.{Shelf, slots, size, some_slots}
 use Rattle.codecs.specs.Labels.{ours, label_of}
@@ -44,9 +46,11 @@ module _ (z : Shelf) (img : List ℕ) (disks : Disks z img) (s : State) (own : o
     unfolding sector_of g
     lies d j hd hj e = sym (cur_bytes z img disks (strip d t j) (strip_is_inside z d t j hd (stripe_inside z s own t w) hj))
 
-    module _ (found : Verdict) (stripe : List ℕ) (r : RepairedOf (l z img disks s own t v list) img t found stripe) where
-      pub finds_nothing : found ≡ verdict.Sound
-      finds_nothing = mend_finds z t img (all_slots (slots z)) (g z img disks s own t v list) lies (none_lost_lem (slots z) t (some_slots z)) found stripe (repaired_here z (l z img disks s own t v list) own img t found stripe r) ∙ ap verdict_of sound
+    module _ (found : Said) (stripe : List ℕ) (r : RepairedOf (l z img disks s own t v list) img t found stripe) where
+      pub finds_nothing : found ≡ Ok verdict.Sound
+      finds_nothing =
+          mend_finds z t img (all_slots (slots z)) (g z img disks s own t v list) lies (none_lost_lem (slots z) t (some_slots z)) found stripe (repaired_here z (l z img disks s own t v list) own img t found stripe r)
+          ∙ ap (λ (f : Finding). Ok (verdict_of f)) sound
 
   -- THE REPAIR IS REFUSED
   pub mend_refused : (work : List ℕ) (b : Begun) (after : List ℕ) → Repairs s t img work b after → (why : Refusal) × (outcome_of b ≡ Err why)
@@ -55,7 +59,7 @@ module _ (z : Shelf) (img : List ℕ) (disks : Disks z img) (s : State) (own : o
       by : (o : Outcome) → (may z img disks s own t v list) ≡ o → (why : Refusal) × (outcome_of b ≡ Err why)
       by (Err why) e = (why, asked_refused s t img work b after r why e)
       by (Ok tt) e =
-          let q : r.found ≡ verdict.Sound = finds_nothing (may_whole s img t e) r.found r.stripe (r.repaired e).0 in (
+          let q : r.found ≡ verdict.Sound = said_one (finds_nothing (may_whole s img t e) (Ok r.found) r.stripe (r.repaired e).0) in (
             NotNow,
             ap (λ (x : Begun). outcome_of x) r.answers ∙ ap (λ (o : Outcome). outcome_of (begun (first o (mend_answer r.found (l z img disks s own t v list) (length work))) (mended s t r.found))) e
                 ∙ ap (λ (x : Verdict). outcome_of (begun (mend_answer x (l z img disks s own t v list) (length work)) (mended s t x))) q,

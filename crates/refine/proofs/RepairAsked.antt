@@ -16,6 +16,7 @@ use Rattle.std.specs.Int.Count.{ones}
 use Rattle.std.proofs.Math.ListN.{length, get_or, drop, length-append, length-drop}
 use borrow.Author.Tests.{lt-ltb, le-ltb, ltb-true, ltb-false, eq-eqb, ne_eqb, eqb-true, not-true}
 use Rattle.code.specs.Stripes.{Repaired}
+use Rattle.code.specs.Exact.{said_one}
 use Rattle.code.specs.declared.Verdict.{Verdict}
 use Rattle.code.specs.declared.Verdict.TheVariants as verdict
 use Rattle.disk.specs.Limits.{sector_bytes}
@@ -140,7 +141,7 @@ module _ (z : Shelf) (img : List ℕ) (disks : Disks z img) (i : State) (own : o
   here : Repaired z.k ((n z img disks i own t work b after small w done) - z.k) (shard_bytes z) (Ok (verdict.Accused (r z img disks i own t work b after small w done))) (stripe_seen (geometry z) img (all_slots (n z img disks i own t work b after small w done)) t) (half z img disks i own t work b after small w done)
   here =
       subst (λ (v : Verdict). Repaired z.k ((n z img disks i own t work b after small w done) - z.k) (shard_bytes z) (Ok v) (stripe_seen (geometry z) img (all_slots (n z img disks i own t work b after small w done)) t) (half z img disks i own t work b after small w done)) (found_so z img disks i own t work b after small w done).1
-      (repaired_here z (l z img disks i own t work b after small w done) own img t w.found (half z img disks i own t work b after small w done) (repair_half i t img work b after w done))
+      (repaired_here z (l z img disks i own t work b after small w done) own img t (Ok w.found) (half z img disks i own t work b after small w done) (repair_half i t img work b after w done))
 
   lies : Lying z t img (all_slots (n z img disks i own t work b after small w done)) (strips_of (size z) (no_sets (n z img disks i own t work b after small w done)) (records z) (any_code z) (f z img disks i own t work b after small w done) t)
   lies = sees_all z img disks i own t (whole z img disks i own t work b after small w done)
@@ -360,8 +361,8 @@ module _ (z : Shelf) (img : List ℕ) (disks : Disks z img) (i : State) (own : o
       found_is =
           let g = strips_of (size z) (no_sets (num z img disks i own dark rest fits t work b after w)) (records z) (any_code z) (seen z img i t) t in
           blames_so ((any_code z).scrub t g)
-          ∙ ap accuses (sym (mend_finds z t img (all_slots (num z img disks i own dark rest fits t work b after w)) g (sees_all z img disks i own t (may_whole i img t e)) (none_lost_lem (num z img disks i own dark rest fits t work b after w) t (some_slots z)) w.found w.stripe
-          (repaired_here z (la z img disks i own dark rest fits t work b after w) own img t w.found w.stripe (w.repaired e).0)))
+          ∙ ap accuses (sym (said_one (mend_finds z t img (all_slots (num z img disks i own dark rest fits t work b after w)) g (sees_all z img disks i own t (may_whole i img t e)) (none_lost_lem (num z img disks i own dark rest fits t work b after w) t (some_slots z)) (Ok w.found) w.stripe
+          (repaired_here z (la z img disks i own dark rest fits t work b after w) own img t (Ok w.found) w.stripe (w.repaired e).0))))
 
       by : (v : Verdict) → w.found ≡ v → (P z img disks i own dark rest fits t work b after w) (mend_answer v (la z img disks i own dark rest fits t work b after w) (length work))
       by (verdict.Accused r) q = go (sized_of (la z img disks i own dark rest fits t work b after w) (length work))

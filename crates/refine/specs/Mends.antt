@@ -5,8 +5,7 @@ use Rattle.std.specs.Prelude.{◌≡◌, refl, Bool, true, false, ◌&&◌, ◌|
 use Rattle.std.proofs.Math.Path.{sym}
 use Rattle.std.proofs.Common.{ap, subst, ◌∙◌, inl, arith, lit<, ltb-true, eqb-true}
 use Rattle.std.proofs.lemmas.Bool.{false≢true}
-use Rattle.code.specs.Stripes.{Repaired}
-use Rattle.code.specs.declared.Verdict.{Verdict}
+use Rattle.code.specs.Stripes.{Said, Repaired}
 use Rattle.disk.specs.Tests.{and_right}
 use Rattle.disk.specs.Limits.{sector_bytes}
 use Rattle.disk.specs.Geometry.{stripes_of}
@@ -93,17 +92,17 @@ module _ (z : Shelf) (s : State) (own : ours z s.now ≡ true) (t : ℕ) (w : Wh
   all_believe d h = Label_laws.believe_is (size z) (label_of z s.now) d t h stripe_inside (inl (none_missing_lem d h).0)
 
 -- what the code says of the stripe, and the stripe mended
-pub repaired_here : (z : Shelf) (l : bytes.Label) → ours z l ≡ true → (img : List ℕ) (t : ℕ) (found : Verdict) (stripe : List ℕ) → RepairedOf l img t found stripe
-    → Repaired z.k (slots z - z.k) (shard_bytes z) (Ok found) (stripe_seen (geometry z) img (all_slots (slots z)) t) stripe
+pub repaired_here : (z : Shelf) (l : bytes.Label) → ours z l ≡ true → (img : List ℕ) (t : ℕ) (found : Said) (stripe : List ℕ) → RepairedOf l img t found stripe
+    → Repaired z.k (slots z - z.k) (shard_bytes z) found (stripe_seen (geometry z) img (all_slots (slots z)) t) stripe
 repaired_here z l own img t found stripe r =
     let same = same_says (fields_of z 0 (no_label z)) l own in
-    let P : ℕ → ℕ → ℕ → ℕ → Type 0 = λ k m c S. Repaired k m (c * sector_bytes) (Ok found) (stripe_seen (record { n = k + m; c = c; sectors = S }) img (all_slots (k + m)) t) stripe in
+    let P : ℕ → ℕ → ℕ → ℕ → Type 0 = λ k m c S. Repaired k m (c * sector_bytes) found (stripe_seen (record { n = k + m; c = c; sectors = S }) img (all_slots (k + m)) t) stripe in
     let a : P z.k l.m l.c l.sectors = subst (λ (k : ℕ). P k l.m l.c l.sectors) (sym same.same_k) r in
     let b : P z.k z.m l.c l.sectors = subst (λ (m : ℕ). P z.k m l.c l.sectors) (sym same.same_m) a in
     let c : P z.k z.m z.c l.sectors = subst (λ (c : ℕ). P z.k z.m c l.sectors) (sym same.same_c) b in
     let d : P z.k z.m z.c z.sectors = subst (P z.k z.m z.c) (sym same.same_sectors) c in
     let many : z.m ≡ slots z - z.k = omega arith in
-    subst (λ (m : ℕ). Repaired z.k m (shard_bytes z) (Ok found) (stripe_seen (geometry z) img (all_slots (slots z)) t) stripe) many d
+    subst (λ (m : ℕ). Repaired z.k m (shard_bytes z) found (stripe_seen (geometry z) img (all_slots (slots z)) t) stripe) many d
 
 -- ---- the verdict
 

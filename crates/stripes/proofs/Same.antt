@@ -1,9 +1,9 @@
 -- What rebuild, encode and scrub make of a shelf's stripe, by their contracts alone, is what the protocol's code says: the blocks that
 -- a read gives, the strips that a write puts, the finding of a scrub. Whatever the strips hold, also where they contradict each
 -- other. Assumes nothing.
-use Rattle.std.specs.Prelude.{◌≡◌, refl, Bool, cond, eqb, length, Ok}
+use Rattle.std.specs.Prelude.{◌≡◌, refl, Bool, cond, eqb, length, Ok, Err}
 use Rattle.std.proofs.Math.Path.{sym, ap}
-use Rattle.std.proofs.Common.{◌∙◌, lit<}
+use Rattle.std.proofs.Common.{◌∙◌, true≢false, lit<}
 use Rattle.std.proofs.Math.Bool.{true}
 use mathlib.Core.List.{List}
 use Prim.Native.Nat.{ℕ, ◌+◌, ◌*◌, ◌<◌}
@@ -13,7 +13,8 @@ use Rattle.disk.specs.Image.{sector}
 use Rattle.codeword.specs.Stripe.{Holds, byte_at, Sound}
 use Rattle.codeword.proofs.Laid.{holds_ext}
 use Rattle.codeword.specs.Mend.{put}
-use Rattle.code.specs.Stripes.{Encoded, Rebuilt, Accuses, Says}
+use Rattle.code.specs.Stripes.{Said, Encoded, Rebuilt, Accuses, Says}
+use Rattle.code.specs.Exact.{said_one}
 use Rattle.code.specs.declared.Verdict.{Verdict}
 use Rattle.code.specs.declared.Verdict.TheVariants as verdict
 use Rattle.protocol.specs.Host.{Blocks, Finding, all_sound, accused, several}
@@ -26,7 +27,7 @@ use Rattle.shards.specs.Strips.{position, missing_of, scrub_holds}
 use Rattle.shards.proofs.Even.{any_code}
 use Rattle.shards.specs.Exact as Exact
 use Rattle.shards.specs.Exact.{Blames, scrub_accuses, scrub_several}
-use Rattle.stripes.specs.Slice.{shard_bytes, laid_out, each_byte, within}
+use Rattle.stripes.specs.Slice.{shard_bytes, laid_out, each_byte, within, slice_shape}
 use Rattle.stripes.proofs.Slice.{laid_length, laid_position, laid_sector, laid_only}
 use Rattle.stripes.specs.Same.{rebuilt, written, verdict_of, s, slice, strips}
 
@@ -45,6 +46,10 @@ module _ (z : Shelf) (t : ℕ) (b : Blocks Sector) (before after : List ℕ) (wh
       -- so the slice is the stripe that the code says
       pub written_all : after ≡ laid_out z t ((any_code z).shard t b)
       written_all = laid_only z t ((any_code z).shard t b) after (w.same ∙ whole) (written z t b before after whole a w laid)
+
+-- how a finding is said
+abbrev said_of : Finding → Said
+said_of f = Ok (verdict_of f)
 
 -- different findings are said differently
 verdict_one : (f h : Finding) → verdict_of f ≡ verdict_of h → f ≡ h
@@ -111,13 +116,14 @@ module _ (z : Shelf) (t : ℕ) (g : ℕ → ℕ → Sector) where
           (first_lt 256 (mends q) (lit< tt), holds_true z.k z.m (put r (v q) (byte_at (shard_bytes z) (s z t g) q)) (first_is 256 (mends q) there))
 
   -- THE VERDICT is what the code finds, so a scrub of a stripe is never refused
-  pub scrubbed : (v : Verdict) → Says z.k z.m (shard_bytes z) (s z t g) (Ok v) → v ≡ verdict_of ((any_code z).scrub t g)
-  scrubbed verdict.Sound h = sym (ap verdict_of (scrub_holds z t g (sound_strips h.1)))
-  scrubbed (verdict.Accused r) h =
-      sym (ap verdict_of (scrub_accuses z t g (λ e. h.1 (sound_slice e)) h.2 r h.3.0 (blames r h.3)))
-  scrubbed verdict.Unsound h =
-      sym (ap verdict_of (scrub_several z t g (λ e. h.1 (sound_slice e)) (λ two r hr u. h.2 two r (accuses r hr u))))
+  pub scrubbed : (v : Said) → Says z.k z.m (shard_bytes z) (s z t g) v → v ≡ Ok (verdict_of ((any_code z).scrub t g))
+  scrubbed (Ok verdict.Sound) h = sym (ap said_of (scrub_holds z t g (sound_strips h.1)))
+  scrubbed (Ok (verdict.Accused r)) h =
+      sym (ap said_of (scrub_accuses z t g (λ e. h.1 (sound_slice e)) h.2 r h.3.0 (blames r h.3)))
+  scrubbed (Ok verdict.Unsound) h =
+      sym (ap said_of (scrub_several z t g (λ e. h.1 (sound_slice e)) (λ two r hr u. h.2 two r (accuses r hr u))))
+  scrubbed (Err x) h = absurd (true≢false (sym (slice_shape z (s z t g) (laid_length z t g)) ∙ h.0))
 
   -- and back: what is found is what the verdict says
-  pub found : (v : Verdict) → Says z.k z.m (shard_bytes z) (s z t g) (Ok v) → (f : Finding) → v ≡ verdict_of f → (any_code z).scrub t g ≡ f
-  found v h f e = verdict_one ((any_code z).scrub t g) f (sym (scrubbed v h) ∙ e)
+  pub found : (v : Said) → Says z.k z.m (shard_bytes z) (s z t g) v → (f : Finding) → v ≡ Ok (verdict_of f) → (any_code z).scrub t g ≡ f
+  found v h f e = verdict_one ((any_code z).scrub t g) f (said_one (sym (scrubbed v h) ∙ e))

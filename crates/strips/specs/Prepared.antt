@@ -9,8 +9,7 @@ use Rattle.disk.specs.Geometry.{InRange, Splits}
 use Rattle.disk.specs.Image.{lt_or_ge, get_or_paste_inside, get_or_paste_other}
 use Rattle.disk.specs.declared.geometry.Geometry.{Geometry}
 use Rattle.codeword.specs.Stripe.{byte_at, Sound}
-use Rattle.code.specs.Stripes.{Mends}
-use Rattle.code.specs.declared.Verdict.{Verdict}
+use Rattle.code.specs.Stripes.{Said, Mends}
 use Rattle.code.specs.declared.Verdict.TheVariants as verdict
 use Rattle.strips.specs.Seen.{shard_bytes, shard_shown}
 use Rattle.strips.specs.Answers.{few_lost}
@@ -18,16 +17,17 @@ use Rattle.strips.specs.Laws.{row_bytes, row_shaped, rebuilt_shown}
 use Rattle.strips.specs.Turns.{row_fits}
 use Rattle.strips.specs.Whole.{stripe_seen, none_lost, Restored, PreparedBy}
 
-mends_length : (k m len : ℕ) (v : Verdict) (before after : List ℕ) → Mends k m len (Ok v) before after → length after ≡ length before
-mends_length k m len verdict.Sound before after h = ap length h
-mends_length k m len (verdict.Accused r) before after h = h.0
-mends_length k m len verdict.Unsound before after h = ap length h
+mends_length : (k m len : ℕ) (v : Said) (before after : List ℕ) → Mends k m len v before after → length after ≡ length before
+mends_length k m len (Ok verdict.Sound) before after h = ap length h
+mends_length k m len (Ok (verdict.Accused r)) before after h = h.0
+mends_length k m len (Ok verdict.Unsound) before after h = ap length h
+mends_length k m len (Err x) before after h = ap length h
 
 pub restored_length : (n k t there len : ℕ) (all : Bool) (before after : List ℕ) → Restored n k t there len all before after → length after ≡ length before
 restored_length n k t there len all before after w = go (none_lost n t there) refl
   where
     go : (b : Bool) → none_lost n t there ≡ b → length after ≡ length before
-    go true e = let h = w.repaired e in mends_length k (n - k) len h.0 before after h.1.mends
+    go true e = let h = w.repaired e in mends_length k (n - k) len (Ok h.0) before after h.1.mends
     go false e = (w.rebuilt e).1.same
 
 -- shards do not overlap

@@ -19,7 +19,8 @@ use Rattle.disk.specs.Mask.{in_mask}
 use Rattle.codeword.specs.Stripe.{byte_at, Sound, AgreeOff}
 use Rattle.codeword.specs.Unique.{AllBytes}
 use Rattle.code.specs.Lists.{below_or_not}
-use Rattle.code.specs.Stripes.{Encoded, Rebuilt, Repaired}
+use Rattle.code.specs.Stripes.{Said, Encoded, Rebuilt, Repaired}
+use Rattle.code.specs.Exact.{said_one}
 use Rattle.code.specs.declared.Verdict.{Verdict}
 use Rattle.protocol.specs.Host.{Blocks, one_block, changed, set_block, Finding, all_sound, accused, several, unsound, mend}
 use Rattle.protocol.specs.Pairs.{no_sets}
@@ -176,19 +177,19 @@ module _ (z : Shelf) (t : ℕ) (img : List ℕ) (there : ℕ) (g : ℕ → ℕ �
             ∙ ap (λ (u : Bool). byte (cond u (mended_in z t g (slot_of (n z t img there g lies few i hi x after small) t r)) (g (slot_of (n z t img there g lies few i hi x after small) t r)) j) p)
             (sym (ne_eqb (slot_of (n z t img there g lies few i hi x after small) t r) (slot_of (n z t img there g lies few i hi x after small) t q) (λ s. e (slot_one (n z t img there g lies few i hi x after small) t (some_slots z) r q (omega arith) hq s))))
 
-    repaired_reads : (v : Verdict) → Repaired z.k ((n z t img there g lies few i hi x after small) - z.k) (len z t img there g lies few i hi x after small) (Ok v) (stripe_seen (geometry z) img there t) stripe
-        → (length stripe ≡ (n z t img there g lies few i hi x after small) * (len z t img there g lies few i hi x after small)) × (Reads z t img there g lies few i hi x after small) stripe ((M z t img there g lies few i hi x after small none stripe fits) ((any_code z).scrub t g)) × (changes v ≡ unsound ((any_code z).scrub t g))
-    repaired_reads v w = go ((any_code z).scrub t g) finds (subst (λ (v : Verdict). Repaired z.k z.m (len z t img there g lies few i hi x after small) (Ok v) (laid_out z t g) stripe) finds (repaired_laid z t img there g lies none v stripe w))
+    repaired_reads : (v : Said) → Repaired z.k ((n z t img there g lies few i hi x after small) - z.k) (len z t img there g lies few i hi x after small) v (stripe_seen (geometry z) img there t) stripe
+        → (length stripe ≡ (n z t img there g lies few i hi x after small) * (len z t img there g lies few i hi x after small)) × (Reads z t img there g lies few i hi x after small) stripe ((M z t img there g lies few i hi x after small none stripe fits) ((any_code z).scrub t g)) × (f : Verdict) × (v ≡ Ok f) × (changes f ≡ unsound ((any_code z).scrub t g))
+    repaired_reads v w = go ((any_code z).scrub t g) finds (subst (λ (v : Said). Repaired z.k z.m (len z t img there g lies few i hi x after small) v (laid_out z t g) stripe) finds (repaired_laid z t img there g lies none v stripe w))
       where
-        finds : v ≡ verdict_of ((any_code z).scrub t g)
+        finds : v ≡ Ok (verdict_of ((any_code z).scrub t g))
         finds = mend_finds z t img there g lies none v stripe w
 
-        go : (f : Finding) → v ≡ verdict_of f → Repaired z.k z.m (len z t img there g lies few i hi x after small) (Ok (verdict_of f)) (laid_out z t g) stripe → (length stripe ≡ (n z t img there g lies few i hi x after small) * (len z t img there g lies few i hi x after small)) × (Reads z t img there g lies few i hi x after small) stripe ((M z t img there g lies few i hi x after small none stripe fits) f) × (changes v ≡ unsound f)
-        go all_sound e y = let a = as_laid y.mends in (a.0, a.1, ap changes e)
+        go : (f : Finding) → v ≡ Ok (verdict_of f) → Repaired z.k z.m (len z t img there g lies few i hi x after small) (Ok (verdict_of f)) (laid_out z t g) stripe → (length stripe ≡ (n z t img there g lies few i hi x after small) * (len z t img there g lies few i hi x after small)) × (Reads z t img there g lies few i hi x after small) stripe ((M z t img there g lies few i hi x after small none stripe fits) f) × (r : Verdict) × (v ≡ Ok r) × (changes r ≡ unsound f)
+        go all_sound e y = let a = as_laid y.mends in (a.0, a.1, verdict_of all_sound, e, refl)
         go (accused q) e y =
             let whole : length stripe ≡ (n z t img there g lies few i hi x after small) * (len z t img there g lies few i hi x after small) = y.mends.0 ∙ laid_length z t g in
-            (whole, as_mended q y.says.3.0 whole y.mends.1 y.mends.2, ap changes e)
-        go several e y = let a = as_laid y.mends in (a.0, a.1, ap changes e)
+            (whole, as_mended q y.says.3.0 whole y.mends.1 y.mends.2, verdict_of (accused q), e, refl)
+        go several e y = let a = as_laid y.mends in (a.0, a.1, verdict_of several, e, refl)
 
   -- WHAT IS PREPARED is the stripe of the blocks as they are read, with the new one; and every shard is to change where every slot is there
   -- and the stripe is not sound
@@ -208,9 +209,9 @@ module _ (z : Shelf) (t : ℕ) (img : List ℕ) (there : ℕ) (g : ℕ → ℕ �
       go : (b : Bool) → none_lost (n z t img there g lies few i hi x after small) t there ≡ b → Says_it (all_there (n z t img there g lies few i hi x after small) there)
       go true e =
           let y = w.restored.repaired e in
-          let a = repaired_reads e w.stripe (λ whole. kept_small w.stripe w.answer whole encoded) y.0 y.1 in
+          let a = repaired_reads e w.stripe (λ whole. kept_small w.stripe w.answer whole encoded) (Ok y.0) y.1 in
           subst Says_it (sym e ∙ none_lost_lem z t there)
-          (written w.stripe (mend (size z) (no_sets (n z t img there g lies few i hi x after small)) (records z) (any_code z) t ((any_code z).scrub t g) g) w.answer a.0 a.1 encoded, y.2 ∙ a.2)
+          (written w.stripe (mend (size z) (no_sets (n z t img there g lies few i hi x after small)) (records z) (any_code z) t ((any_code z).scrub t g) g) w.answer a.0 a.1 encoded, y.2 ∙ ap changes (said_one a.3) ∙ a.4)
       go false e =
           let y = w.restored.rebuilt e in
           let a = rebuilt_reads y.0 w.stripe y.1 in

@@ -12,8 +12,7 @@ use Rattle.disk.specs.Geometry.{slot_of, shard_of}
 use Rattle.disk.specs.Image.{sector}
 use Rattle.disk.specs.Mask.{in_mask, in_past}
 use Rattle.codeword.specs.Unique.{AllBytes}
-use Rattle.code.specs.Stripes.{Says, Repaired}
-use Rattle.code.specs.declared.Verdict.{Verdict}
+use Rattle.code.specs.Stripes.{Said, Says, Repaired}
 use Rattle.code.specs.declared.Verdict.TheVariants as verdict
 use Rattle.protocol.specs.World.{Image}
 use Rattle.protocol.specs.Slots.{from, every}
@@ -90,10 +89,10 @@ module _ (z : Shelf) (Q : Label) (t there : ℕ) (img : List ℕ) (f : Image Sec
       ∙ ap (λ (b : Blocks Sector). strip_bytes (λ j. (any_code z).shard t b d (first + j)) count) (same_bad (g z Q t there img f holds lies))
 
   -- SCRUB, of a stripe that is believed throughout
-  pub scrub_found : none_lost (n z Q t there img f holds lies) t there ≡ true → (v : Verdict) → Says z.k ((n z Q t there img f holds lies) - z.k) (shard_bytes z) (row_seen (geometry z) img there 0 [] t 0 z.c) (Ok v)
-      → v ≡ verdict_of ((any_code z).scrub t (strips_of (size z) (no_sets (n z Q t there img f holds lies)) (records z) (any_code z) f t))
+  pub scrub_found : none_lost (n z Q t there img f holds lies) t there ≡ true → (v : Said) → Says z.k ((n z Q t there img f holds lies) - z.k) (shard_bytes z) (row_seen (geometry z) img there 0 [] t 0 z.c) v
+      → v ≡ Ok (verdict_of ((any_code z).scrub t (strips_of (size z) (no_sets (n z Q t there img f holds lies)) (records z) (any_code z) f t)))
   scrub_found none v w =
-      scrub_is z t img there (g z Q t there img f holds lies) lies 0 [] (g z Q t there img f holds lies) plain none v w ∙ ap (λ (y : ℕ → ℕ → Sector). verdict_of ((any_code z).scrub t y)) (none_over (g z Q t there img f holds lies) (g z Q t there img f holds lies))
+      scrub_is z t img there (g z Q t there img f holds lies) lies 0 [] (g z Q t there img f holds lies) plain none v w ∙ ap (λ (y : ℕ → ℕ → Sector). Ok (verdict_of ((any_code z).scrub t y))) (none_over (g z Q t there img f holds lies) (g z Q t there img f holds lies))
 
 -- WRITE of block i, by a program in the state o: the whole stripe as it will be, and whether all of it is to be written
 module _ (z : Shelf) (o : Own) (t there : ℕ) (img : List ℕ) (f : Image Sector) (holds : (d : ℕ) → d < slots z → in_mask there d ≡ believed (size z) o.now d t)

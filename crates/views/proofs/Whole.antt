@@ -15,8 +15,7 @@ use Rattle.disk.specs.Image.{sector}
 use Rattle.disk.specs.Mask.{in_mask}
 use Rattle.codeword.specs.Stripe.{has}
 use Rattle.codeword.specs.Unique.{AllBytes}
-use Rattle.code.specs.Stripes.{Says, Repaired}
-use Rattle.code.specs.declared.Verdict.{Verdict}
+use Rattle.code.specs.Stripes.{Said, Says, Repaired}
 use Rattle.code.specs.declared.Verdict.TheVariants as verdict
 use Rattle.protocol.specs.Count.{count}
 use Rattle.protocol.specs.Slots.{from, of_from, every_all}
@@ -88,12 +87,12 @@ module _ (z : Shelf) (t there : ℕ) where
 module _ (z : Shelf) (t : ℕ) (img : List ℕ) (there : ℕ) (g : ℕ → ℕ → Sector) (lies : Lying z t img there g) where
   -- THE VERDICT on a stripe as it is seen is what the protocol's code finds in it
   pub scrub_is : (over : ℕ) (kept : List ℕ) (h : ℕ → ℕ → Sector) → Keeping z t kept over h → none_lost (slots z) t there ≡ true
-      → (v : Verdict) → Says z.k (slots z - z.k) (shard_bytes z) (row_seen (geometry z) img there over kept t 0 z.c) (Ok v)
-      → v ≡ verdict_of ((any_code z).scrub t (laid_over over h g))
+      → (v : Said) → Says z.k (slots z - z.k) (shard_bytes z) (row_seen (geometry z) img there over kept t 0 z.c) v
+      → v ≡ Ok (verdict_of ((any_code z).scrub t (laid_over over h g)))
   scrub_is over kept h keeps none v w =
       scrubbed z t (laid_over over h g) v
-      (subst (λ (s : List ℕ). Says z.k z.m (shard_bytes z) s (Ok v)) (row_laid z t img there over kept g h lies keeps (there_all z t there (sym (none_lost_lem z t there) ∙ none)))
-      (subst (λ (m : ℕ). Says z.k m (shard_bytes z) (row_seen (geometry z) img there over kept t 0 z.c) (Ok v)) (parity_many z t img there g lies) w))
+      (subst (λ (s : List ℕ). Says z.k z.m (shard_bytes z) s v) (row_laid z t img there over kept g h lies keeps (there_all z t there (sym (none_lost_lem z t there) ∙ none)))
+      (subst (λ (m : ℕ). Says z.k m (shard_bytes z) (row_seen (geometry z) img there over kept t 0 z.c) v) (parity_many z t img there g lies) w))
 
   -- the stripe as it lies on the disks
   pub stripe_laid : none_lost (slots z) t there ≡ true → stripe_seen (geometry z) img there t ≡ laid_out z t g
@@ -101,15 +100,15 @@ module _ (z : Shelf) (t : ℕ) (img : List ℕ) (there : ℕ) (g : ℕ → ℕ �
       row_laid z t img there 0 [] g g lies (plainly z t img there g lies) (there_all z t there (sym (none_lost_lem z t there) ∙ none))
       ∙ ap (laid_out z t) (none_over g g)
 
-  module _ (none : none_lost (slots z) t there ≡ true) (v : Verdict) (after : List ℕ)
-      (w : Repaired z.k (slots z - z.k) (shard_bytes z) (Ok v) (stripe_seen (geometry z) img there t) after) where
-    pub repaired_laid : Repaired z.k z.m (shard_bytes z) (Ok v) (laid_out z t g) after
+  module _ (none : none_lost (slots z) t there ≡ true) (v : Said) (after : List ℕ)
+      (w : Repaired z.k (slots z - z.k) (shard_bytes z) v (stripe_seen (geometry z) img there t) after) where
+    pub repaired_laid : Repaired z.k z.m (shard_bytes z) v (laid_out z t g) after
     repaired_laid =
-        subst (λ (s : List ℕ). Repaired z.k z.m (shard_bytes z) (Ok v) s after) (stripe_laid none)
-        (subst (λ (m : ℕ). Repaired z.k m (shard_bytes z) (Ok v) (stripe_seen (geometry z) img there t) after) (parity_many z t img there g lies) w)
+        subst (λ (s : List ℕ). Repaired z.k z.m (shard_bytes z) v s after) (stripe_laid none)
+        (subst (λ (m : ℕ). Repaired z.k m (shard_bytes z) v (stripe_seen (geometry z) img there t) after) (parity_many z t img there g lies) w)
 
     -- what a mend answers is what the protocol finds
-    pub mend_finds : v ≡ verdict_of ((any_code z).scrub t g)
+    pub mend_finds : v ≡ Ok (verdict_of ((any_code z).scrub t g))
     mend_finds = scrubbed z t g v repaired_laid.says
 
   -- A MENDED SHARD, with the verdict that accuses it: the protocol accuses it too, and its sectors are those of the protocol's mended strip
@@ -117,9 +116,9 @@ module _ (z : Shelf) (t : ℕ) (img : List ℕ) (there : ℕ) (g : ℕ → ℕ �
       → Repaired z.k (slots z - z.k) (shard_bytes z) (Ok (verdict.Accused r)) (stripe_seen (geometry z) img there t) after
       → ((any_code z).scrub t g ≡ accused r) × (r < slots z) × ((j : ℕ) → j < z.c → sector z.c after r j ≡ ((any_code z).mended t g (slot_of (slots z) t r) j).bytes)
   mended_is none r after b w =
-      let y = repaired_laid none (verdict.Accused r) after w in
+      let y = repaired_laid none (Ok (verdict.Accused r)) after w in
       let hr : r < slots z = y.says.3.0 in (
-        found z t g (verdict.Accused r) y.says (accused r) refl,
+        found z t g (Ok (verdict.Accused r)) y.says (accused r) refl,
         hr,
         λ j hj. sector_is z after r j (y.mends.0 ∙ laid_length z t g) hr hj (mended_in z t g (slot_of (slots z) t r) j)
             (λ p hp. mended_byte z t g r hr after y.mends.1 y.mends.2 j p hj hp (b (r * shard_bytes z + (j * sector_bytes + p)))),
