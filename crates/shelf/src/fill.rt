@@ -4,7 +4,7 @@ ghost use Rattle.disk.specs.Limits.{most_n, most_c, sector_bytes};
 ghost use Rattle.shelf.specs.Act.{in_strips};
 ghost use Rattle.shelf.specs.Fill.{seen_slots, stripe_in, rebuild_answer, after_rebuild};
 
-use disk::geometry::{Geometry, shard};
+use disk::geometry::{Geometry, in_range, shard};
 use disk::limits::{MOST_N, MOST_SECTORS, SECTOR};
 use disk::mask::{has, slots_where};
 use disk::refusal::Refusal;
@@ -12,10 +12,13 @@ use label::fields::Label;
 use strips::believed::believed_slots;
 use strips::seen::Source;
 
-// The slots whose strip of stripe t is there and believed.
+// The slots whose strip of stripe t is there and believed; none where n, c and S are not those of a shelf.
 pub fn seen_slots(g: Geometry, l: Label, absent: u64, t: usize) -> u64
     ensures { result ≡ seen_slots g l absent t }
 {
+    if !in_range(g) {
+        return 0;
+    }
     let believed = believed_slots(g, l, t);
     slots_where(g.n, |d| has(believed, d) && !has(absent, d))
 }
