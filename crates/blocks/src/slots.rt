@@ -6,7 +6,7 @@ ghost use Rattle.label.specs.Fields.{fits_of};
 ghost use Rattle.blocks.specs.Slots.{missing_at, missing, too_few, none_missing, all_slots, there_at, there, changes_at, changed_shards, changed_at, changed_slots};
 
 use disk::geometry::Geometry;
-use disk::mask::{count, has, slots_where};
+use disk::mask::{count, has, with_slot};
 use label::fields::Label;
 use redo::belief::believes;
 
@@ -15,7 +15,9 @@ fn missing_slots(l: Label, absent: u64) -> u64
     requires { fits_of l ≡ true }
     ensures { result ≡ missing l absent }
 {
-    slots_where(l.k + l.m, |d| has(l.out, d) || has(absent, d))
+    (0..l.k + l.m)
+        .filter(|&d| has(l.out, d) || has(absent, d))
+        .fold(0, with_slot)
 }
 
 // Whether more than m slots are out or absent.
@@ -39,7 +41,7 @@ pub(crate) fn all_slots(n: usize) -> u64
     requires { n ≤ most_n }
     ensures { result ≡ all_slots n }
 {
-    slots_where(n, |_| true)
+    (0..n).fold(0, with_slot)
 }
 
 // Whether slot d's strip of stripe t is there and believed.
@@ -56,7 +58,9 @@ pub(crate) fn slots_there(g: Geometry, l: Label, absent: u64, t: usize) -> u64
     requires { in_range g ≡ true }
     ensures { result ≡ there g l absent t }
 {
-    slots_where(g.n, |d| is_there(g, l, absent, t, d))
+    (0..g.n)
+        .filter(|&d| is_there(g, l, absent, t, d))
+        .fold(0, with_slot)
 }
 
 // Whether a write of block i of a stripe changes shard r.
@@ -72,7 +76,9 @@ pub(crate) fn changed_shards(n: usize, k: usize, i: usize, all: bool) -> u64
     requires { n ≤ most_n }
     ensures { result ≡ changed_shards n k i all }
 {
-    slots_where(n, |r| is_changing(k, i, all, r))
+    (0..n)
+        .filter(|&r| is_changing(k, i, all, r))
+        .fold(0, with_slot)
 }
 
 // Whether slot d's strip of stripe t is there, and its shard is one of these.
@@ -89,5 +95,7 @@ pub(crate) fn changed_slots(n: usize, t: usize, there: u64, parts: u64) -> u64
     requires { n ≤ most_n }
     ensures { result ≡ changed_slots n t there parts }
 {
-    slots_where(n, |d| is_changed(n, t, there, parts, d))
+    (0..n)
+        .filter(|&d| is_changed(n, t, there, parts, d))
+        .fold(0, with_slot)
 }

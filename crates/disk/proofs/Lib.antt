@@ -1,4 +1,5 @@
 pub mod GeometryLaws
 pub mod Image
+pub mod Masks
 pub mod NumberLaws
 pub mod Search

@@ -1,8 +1,8 @@
 // Masks of slots: bit d stands for slot d. Slots from 64 on are in no mask, and none can be put into one.
-ghost use Rattle.std.specs.Prelude.{◌≡◌, Bool, cond, ℕ, ◌^◌, ◌≤◌, ◌<◌, ltb};
+ghost use Rattle.std.specs.Prelude.{◌≡◌, cond, ◌^◌, ltb};
 ghost use Rattle.std.specs.Int.Count.{ones};
 ghost use Rattle.disk.specs.Limits.{mask_bits};
-ghost use Rattle.disk.specs.Mask.{in_mask, with_slot, without_slot, mask_of};
+ghost use Rattle.disk.specs.Mask.{in_mask, with_slot, without_slot};
 
 use crate::limits::MASK_BITS;
 
@@ -35,21 +35,6 @@ pub fn without_slot(mask: u64, d: usize) -> u64
     }
     if has(mask, d) {
         return mask - (1 << d);
-    }
-    mask
-}
-
-// The slots below n of which a test holds; no test is asked of a slot that is not below n.
-pub fn slots_where<F: Fn(usize) -> bool>(n: usize, holds: F) -> u64
-    requires { (d : ℕ) → d < n → F.pre holds d }
-    ensures all { (p : ℕ → Bool) → ((d : ℕ) → (r : Bool) → d < n → F.post holds d r → r ≡ p d) → n ≤ mask_bits → result ≡ mask_of p n }
-    ensures first { (p : ℕ → Bool) → ((d : ℕ) → (r : Bool) → d < n → F.post holds d r → r ≡ p d) → mask_bits ≤ n → result ≡ mask_of p mask_bits }
-{
-    let mut mask = 0;
-    for d in 0..n {
-        if holds(d) {
-            mask = with_slot(mask, d);
-        }
     }
     mask
 }

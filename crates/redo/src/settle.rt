@@ -9,7 +9,7 @@ use crate::Redo;
 use crate::belief::{believes, looked_at};
 use crate::tails::Logs;
 use disk::geometry::shard;
-use disk::mask::{has, slots_where};
+use disk::mask::{has, with_slot};
 use record::log::{area, complete};
 use record::stamp::{same, stamp_at};
 use record::tail::Tail;
@@ -75,14 +75,18 @@ impl Write<'_> {
     fn forward_slots(&self) -> u64
         ensures { result ≡ mask_of (involved self.now.logs.g self.now.logs.l self.now.tail) self.now.logs.g.n }
     {
-        slots_where(self.logs.g.n, |d| self.is_involved(d))
+        (0..self.logs.g.n)
+            .filter(|&d| self.is_involved(d))
+            .fold(0, with_slot)
     }
 
     // The slots whose tails are wiped.
     fn kill_slots(&self) -> u64
         ensures { result ≡ mask_of (marked self.now.logs.g self.now.logs.image.now self.now.logs.l self.now.tail.stamp) self.now.logs.g.n }
     {
-        slots_where(self.logs.g.n, |d| self.is_marked(d))
+        (0..self.logs.g.n)
+            .filter(|&d| self.is_marked(d))
+            .fold(0, with_slot)
     }
 
     // What the tail decides.

@@ -5,7 +5,7 @@ ghost use Rattle.requests.specs.Begun.{work_bytes, slots_but};
 
 use disk::geometry::strip_length;
 use disk::limits::{LEAST_N, MOST_N, SECTOR};
-use disk::mask::{has, slots_where};
+use disk::mask::{has, with_slot};
 
 // The bytes of the work area that goes with a shelf of n slots and strips of c sectors: each slot's strip twice. 0 where there
 // is no such shelf.
@@ -25,7 +25,7 @@ pub(crate) fn slots_but(absent: u64, n: usize) -> u64
     requires { n ≤ most_n }
     ensures { result ≡ slots_but absent n }
 {
-    slots_where(n, |d| !has(absent, d))
+    (0..n).filter(|&d| !has(absent, d)).fold(0, with_slot)
 }
 
 // The same of any n; none where there are not so many slots.

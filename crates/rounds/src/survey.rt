@@ -9,7 +9,7 @@ ghost use Rattle.rounds.specs.Survey.{slots_that, next_of, plan_of, fits_shelf, 
 use crate::plan::Plan;
 use crate::slot::Slots;
 use disk::geometry::Geometry;
-use disk::mask::{all_below, count, has, slots_where};
+use disk::mask::{all_below, count, has, with_slot};
 use disk::refusal::Refusal;
 use disk::sector::fits_image;
 use label::fields::{Label, MOST_GENERATION, NO_SLOT};
@@ -25,11 +25,12 @@ fn fits_shelf(g: Geometry, lead: Label) -> bool
 
 impl Slots<'_> {
     // Out': the slots that are out, and those that are gone.
-    #[tactic(auto, unfolding(crate::specs::Survey::slots_that))]
-    fn out(&self) -> u64
+    fn next_out(&self) -> u64
         ensures { result ≡ slots_that self.now.g self.now.image.now self.now.absent goes_out self.now.lead }
     {
-        slots_where(self.g.n, |d| self.goes_out(d))
+        (0..self.g.n)
+            .filter(|&d| self.goes_out(d))
+            .fold(0, with_slot)
     }
 
     // The label that start-up settles.
@@ -42,7 +43,7 @@ impl Slots<'_> {
         let ended = self.is_gone(lead.rebuilding);
         Label {
             generation: lead.generation + 2,
-            out: self.out(),
+            out: self.next_out(),
             rebuilding: if ended { NO_SLOT } else { lead.rebuilding },
             mark: if ended { 0 } else { lead.mark },
             ..lead
@@ -57,10 +58,16 @@ impl Slots<'_> {
         Plan {
             lead: self.lead,
             next: self.next(),
-            parts: slots_where(self.g.n, |d| !self.is_gone(d)),
-            late: slots_where(self.g.n, |d| self.adopts(d)),
-            zeroed: slots_where(self.g.n, |d| self.gets_zeros(d)),
-            kept: slots_where(self.g.n, |d| self.gets_label(d)),
+            parts: (0..self.g.n)
+                .filter(|&d| !self.is_gone(d))
+                .fold(0, with_slot),
+            late: (0..self.g.n).filter(|&d| self.adopts(d)).fold(0, with_slot),
+            zeroed: (0..self.g.n)
+                .filter(|&d| self.gets_zeros(d))
+                .fold(0, with_slot),
+            kept: (0..self.g.n)
+                .filter(|&d| self.gets_label(d))
+                .fold(0, with_slot),
         }
     }
 
@@ -75,7 +82,7 @@ impl Slots<'_> {
     fn is_enough(&self) -> bool
         ensures { result ≡ enough self.now.g self.now.image.now self.now.absent (Some self.now.lead) }
     {
-        count(self.out()) as usize <= self.lead.m
+        count(self.next_out()) as usize <= self.lead.m
     }
 
     // The table, with the shelf's label in hand.

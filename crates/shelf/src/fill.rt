@@ -6,7 +6,7 @@ ghost use Rattle.shelf.specs.Fill.{seen_slots, stripe_in, rebuild_answer, after_
 
 use disk::geometry::{Geometry, in_range, shard};
 use disk::limits::{MOST_N, MOST_SECTORS, SECTOR};
-use disk::mask::{has, slots_where};
+use disk::mask::{has, with_slot};
 use disk::refusal::Refusal;
 use label::fields::Label;
 use strips::believed::believed_slots;
@@ -20,7 +20,9 @@ pub fn seen_slots(g: Geometry, l: Label, absent: u64, t: usize) -> u64
         return 0;
     }
     let believed = believed_slots(g, l, t);
-    slots_where(g.n, |d| has(believed, d) && !has(absent, d))
+    (0..g.n)
+        .filter(|&d| has(believed, d) && !has(absent, d))
+        .fold(0, with_slot)
 }
 
 // The part of the work area that is as long as a stripe; the empty part where it is shorter.

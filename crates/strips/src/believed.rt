@@ -5,7 +5,7 @@ ghost use Rattle.disk.specs.Mask.{mask_of};
 ghost use Rattle.redo.specs.Decide.{believed};
 
 use disk::geometry::{Geometry, in_range};
-use disk::mask::slots_where;
+use disk::mask::with_slot;
 use label::fields::Label;
 use redo::belief::believes;
 
@@ -16,5 +16,7 @@ pub fn believed_slots(g: Geometry, l: Label, t: usize) -> u64
     if !in_range(g) {
         return 0;
     }
-    slots_where(g.n, |d| believes(g, l, d, t))
+    (0..g.n)
+        .filter(|&d| believes(g, l, d, t))
+        .fold(0, with_slot)
 }

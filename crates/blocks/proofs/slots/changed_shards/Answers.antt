@@ -1,8 +1,11 @@
 use borrow.Author.Rules.{rules}
 use native.Mathlib.Omega.{arith}
+use Rattle.disk.proofs.Masks.{mask_from_filter}
 use Rattle.blocks.specs.Slots.{changed_shards}
 use Rattle.blocks.proofs.slots.changed_shards.Goals as goal
 
 pub returns : goal.returns
 unfolding changed_shards
-returns c = c.slots_where.ensures.all _ (λ d r h k. search rules) (omega (arith, c.requires))
+returns c =
+    mask_from_filter _ _ (omega (arith, c.requires)) c.fold.ensures.ran c.filter.ensures.source c.filter.ensures.closure
+    (λ d b q k. search rules) (λ m d w q k. search rules)

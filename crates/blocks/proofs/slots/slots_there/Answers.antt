@@ -1,9 +1,12 @@
 use borrow.Author.Rules.{rules}
 use native.Mathlib.Omega.{arith}
+use Rattle.disk.proofs.Masks.{mask_from_filter}
 use Rattle.disk.specs.Geometry.{in_range_lem}
 use Rattle.blocks.specs.Slots.{there}
 use Rattle.blocks.proofs.slots.slots_there.Goals as goal
 
 pub returns : goal.returns
 unfolding there
-returns c = c.slots_where.ensures.all _ (λ d r h k. search rules) (omega (arith, (in_range_lem c.args.g c.requires).few))
+returns c =
+    mask_from_filter _ _ (omega (arith, (in_range_lem c.args.g c.requires).few)) c.fold.ensures.ran c.filter.ensures.source c.filter.ensures.closure
+    (λ d b q k. search rules) (λ m d w q k. search rules)

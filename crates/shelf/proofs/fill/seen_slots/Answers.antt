@@ -4,6 +4,7 @@ use mathlib.Core.Bool.{Bool, cond, not, ◌&&◌}
 use Prim.Native.Nat.{ℕ, zero, suc}
 use borrow.Author.Rules.{rules}
 use native.Mathlib.Omega.{arith}
+use Rattle.disk.proofs.Masks.{mask_from_filter}
 use Rattle.disk.specs.Geometry.{in_range_lem}
 use Rattle.disk.specs.Mask.{in_mask, with_slot, mask_of, in_past}
 use Rattle.shelf.specs.Fill.{present, seen_slots}
@@ -24,4 +25,5 @@ pub returns : goal.returns
 unfolding seen_slots present
 returns c =
     let e = sym c.in_range.ensures ∙ c.if-not-in_range.false in
-    c.slots_where.ensures.all _ (λ d r u k. search rules) (omega (arith, (in_range_lem c.args.g e).few))
+    mask_from_filter _ _ (omega (arith, (in_range_lem c.args.g e).few)) c.fold.ensures.ran c.filter.ensures.source c.filter.ensures.closure
+    (λ d b q k. search rules) (λ m d w q k. search rules)
