@@ -1,4 +1,6 @@
-use Rattle.std.proofs.Common.{arith}
+-- Each turn adds the product of that byte, in whatever words the byte is told: what they come to is left to arithmetic.
+use Rattle.std.proofs.Common.{ap, ◌∙◌, arith}
+use Rattle.field.specs.Field.{mul_of}
 use Rattle.kernel.specs.Kernel.{added}
 use Rattle.kernel.specs.KernelTurns.{replaced_none, replaced_done, product_turn}
 use Rattle.kernel.proofs.bytes.mul_add_within.Goals as goal
@@ -9,7 +11,7 @@ loop-i-init c = let a = c.args in replaced_none a.dst (added a.c a.dst a.src a.b
 pub loop-i-preserved : goal.loop-i-preserved
 loop-i-preserved c = let l = c.loop-i in
     let a = c.args in
-    product_turn a.c a.dst a.src a.len l.i c.mul.result a.buf.now l.buf c.requires c.loop-i-test.true c.mul.ensures l.invariant
+    product_turn a.c a.dst a.src a.len l.i c.mul.result a.buf.now l.buf c.requires c.loop-i-test.true (c.mul.ensures ∙ ap (mul_of a.c) (omega arith)) l.invariant
 
 pub returns : goal.returns
 returns c = let l = c.loop-i in
