@@ -100,7 +100,7 @@ padding_done k m lost c i all p h =
     sym (append-nil all)
     ∙ ap₂ (λ (t : List ℕ) (n : ℕ). t ++ take n (unnamed lost (k + m + 1 - i))) (sym (take_all c all (omega (arith, p.size)))) (sym q) ∙ p.rest
 
--- ---- the same with the next shard's number a - 1: the others below a are to come
+-- ---- the same with the next shard's number x = a - 1: the others below a are to come
 
 module _ (k m : ℕ) (lost : List ℕ) (l : Lost k m lost) where
   pub padding_start : (all new : List ℕ) → length all ≡ m → new ≡ lost → Padding k m lost (length lost) (k + m + 1 - (k + m)) (new ++ drop (length lost) all)
@@ -112,20 +112,20 @@ module _ (k m : ℕ) (lost : List ℕ) (l : Lost k m lost) where
       (padding_first k m lost (new ++ drop (length lost) all) all l s
       (record { same = size; front = take_at new (drop (length lost) all) (length lost) (ap length e) ∙ e }))
 
-  module _ (c a : ℕ) (all : List ℕ) (h : 0 < a) (g : a ≤ k + m) (p : Padding k m lost c (k + m + 1 - a) all) where
-    this : k + m - (k + m + 1 - a) ≡ a - 1
+  module _ (c a x : ℕ) (all : List ℕ) (h : 0 < a) (g : a ≤ k + m) (e : x ≡ a - 1) (p : Padding k m lost c (k + m + 1 - a) all) where
+    this : k + m - (k + m + 1 - a) ≡ x
     this = omega arith
 
     below : k + m + 1 - a + 1 ≡ k + m + 1 - (a - 1)
     below = omega arith
 
-    pub padding_put : c < m → has lost (a - 1) ≡ false → Padding k m lost (c + 1) (k + m + 1 - (a - 1)) (set all c (a - 1))
+    pub padding_put : c < m → has lost x ≡ false → Padding k m lost (c + 1) (k + m + 1 - (a - 1)) (set all c x)
     padding_put f n =
-        subst (λ (i : ℕ). Padding k m lost (c + 1) i (set all c (a - 1))) below
-        (subst (λ (x : ℕ). Padding k m lost (c + 1) (k + m + 1 - a + 1) (set all c x)) this
+        subst (λ (i : ℕ). Padding k m lost (c + 1) i (set all c x)) below
+        (subst (λ (y : ℕ). Padding k m lost (c + 1) (k + m + 1 - a + 1) (set all c y)) this
         (padding_turn k m lost l c (k + m + 1 - a) all p f (ap (has lost) this ∙ n)))
 
-    pub padding_past : c < m → has lost (a - 1) ≡ true → Padding k m lost c (k + m + 1 - (a - 1)) all
+    pub padding_past : c < m → has lost x ≡ true → Padding k m lost c (k + m + 1 - (a - 1)) all
     padding_past f n =
         subst (λ (i : ℕ). Padding k m lost c i all) below (padding_skip k m lost l c (k + m + 1 - a) all p f (ap (has lost) this ∙ n))
 

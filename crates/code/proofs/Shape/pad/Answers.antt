@@ -12,14 +12,14 @@ loop-a-init c = let s = c.args.self in
 pub loop-a-preserved-then-not-contains : goal.loop-a-preserved-then-not-contains
 loop-a-preserved-then-not-contains c = let s = c.args.self in
     let l = c.loop-a in
-    padding_put s.k s.m c.args.lost.now c.requires.lost l.c l.a-counter l.all c.loop-a-test.true (omega arith) l.invariant (omega (arith, l.invariant.most))
-    (sym (has_any c.args.lost.now (l.a-counter - 1)) ∙ sym c.contains.ensures.value ∙ c.if-not-contains.true)
+    padding_put s.k s.m c.args.lost.now c.requires.lost l.c l.a-counter _ l.all c.loop-a-test.true (omega arith) (omega arith) l.invariant (omega (arith, l.invariant.most))
+    (sym (has_any c.args.lost.now _) ∙ sym c.contains.ensures.value ∙ c.if-not-contains.true)
 
 pub loop-a-preserved : goal.loop-a-preserved
 loop-a-preserved c = let s = c.args.self in
     let l = c.loop-a in
-    padding_past s.k s.m c.args.lost.now c.requires.lost l.c l.a-counter l.all c.loop-a-test.true (omega arith) l.invariant (omega (arith, l.invariant.most))
-    (sym (has_any c.args.lost.now (l.a-counter - 1)) ∙ sym c.contains.ensures.value ∙ c.if-not-contains.false)
+    padding_past s.k s.m c.args.lost.now c.requires.lost l.c l.a-counter _ l.all c.loop-a-test.true (omega arith) (omega arith) l.invariant (omega (arith, l.invariant.most))
+    (sym (has_any c.args.lost.now _) ∙ sym c.contains.ensures.value ∙ c.if-not-contains.false)
 
 pub returns-after-loop-a : goal.returns-after-loop-a
 returns-after-loop-a c = let s = c.args.self in
