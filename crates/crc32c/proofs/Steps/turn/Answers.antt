@@ -13,7 +13,7 @@ returns c = let a = c.args in
     (ap₂ bit_xor
     (ap₂ bit_xor
     (c.word_in.ensures ∙ ap (λ (w : ℕ). entry w 3) c.from_le_bytes.ensures)
-    (c.word_in-2.ensures ∙ ap (λ (w : ℕ). entry w 7) c.from_le_bytes-2.ensures))
+    (c.word_in-2.ensures ∙ ap (λ (w : ℕ). entry w 7) (omega (arith, c.from_le_bytes-2.ensures))))
     (c.word_in-3.ensures ∙ ap (λ (w : ℕ). entry w 11) c.from_le_bytes-3.ensures))
     (c.word_in-4.ensures ∙ ap (λ (w : ℕ). entry (bit_xor a.c w) 15) c.from_le_bytes-4.ensures)
     ∙ turn a.bytes.now c.as_chunks.result.0.now (λ k. omega (arith, c.fits-bytes k)) a.c c.told-bytes c.as_chunks.ensures.front
