@@ -14,7 +14,8 @@ use lib.ListN.{length}
 use borrow.Author.Tests.{le-ltb}
 use Rattle.std.specs.Prelude.{Ok, Some, None}
 use Rattle.disk.specs.Image.{lt_or_ge, fits_image}
-use Rattle.disk.specs.Mask.{in_mask, with_slot, mask_of}
+use Rattle.disk.specs.Mask.{in_mask}
+use Rattle.disk.proofs.Masks.{mask_same}
 use Rattle.disk.specs.declared.geometry.Geometry.{Geometry}
 use Rattle.disk.specs.declared.refusal.Refusal.TheVariants.{BadImage, NoLabel, TooFew, BadBlock, NotNow}
 use Rattle.label.specs.Fields.{no_slot}
@@ -38,11 +39,6 @@ all_same : (p q : ℕ → Bool) (n : ℕ) → ((d : ℕ) → d < n → p d ≡ q
 unfolding all_of
 all_same p q zero e = refl
 all_same p q (suc n) e = ap₂ (λ (x y : Bool). x && y) (all_same p q n (λ d l. e d (omega arith))) (e n (omega arith))
-
-mask_same : (p q : ℕ → Bool) (n : ℕ) → ((d : ℕ) → d < n → p d ≡ q d) → mask_of p n ≡ mask_of q n
-unfolding mask_of
-mask_same p q zero e = refl
-mask_same p q (suc n) e = ap₂ (λ (b : Bool) (m : ℕ). cond b (with_slot m n) m) (e n (omega arith)) (mask_same p q n (λ d l. e d (omega arith)))
 
 module _ (g : Geometry) (x y : List ℕ) (a b : ℕ) (h : Alike g x y a b) where
   -- ---- one slot
